@@ -1,31 +1,12 @@
 -- Answers to a column's times: by a lookup, and by what is kept of a stretch.
-use Rattle.zoned_ffi.proofs.Words.{All-contains, AreKeptTimes, Choice, FitsSigned, IsCounted, IsGreatest, IsInRange, IsInstantOf, IsInstantTaken, IsKeptOf}
-use Rattle.zoned_ffi.proofs.Words.{IsLeast, IsLocal, IsNoInstant, IsOffsetStretch, IsRowNumber, IsShownOnce, IsTakenAs, IsWithout, Kept, LieWithin}
-use Rattle.zoned_ffi.proofs.Words.{List, LocalType, MatchOption, None, OffsetStretch, Option, Shows, Some, Taken, TypeAt, Unit, Zone, ap, arith}
-use Rattle.zoned_ffi.proofs.Words.{first_second, floor_div, floors, get_or, ints, neg_ℤ, offsets, per_second, pos, refl, second_holding, subst}
-use Rattle.zoned_ffi.proofs.Words.{taken_instant, uncounted, w64, ℕ, ℤ, ◌*ℤ◌, ◌+ℤ◌, ◌+◌, ◌-ℤ◌, ◌<ℤ◌, ◌≡◌, ◌≤ℤ◌}
-use Rattle.zoned_ffi.proofs.Words.{AreWritten, drop, length, take, take_all, ◌∙◌, ◌≤◌}
-use Rattle.zoned_ffi.proofs.Slices.{same_behind}
-use Rattle.zoned_ffi.specs.{Steps.KeptTimes.{IsStop}, declared.column.{Question.{Question}, Stop.{Stop}}}
-use Rattle.zoned_ffi.proofs.Resolving.{none_is, taken_once}
-use Rattle.zoned_ffi.specs.{declared.column.Way.TheVariants.{ToInstants, ToLocal}, declared.resolved.Taken.TheVariants.{GapEnd, InForce, Shifted}}
+use Rattle.zoned_ffi.specs.{Columns.{IsInstantOf, IsInstantTaken, IsRowNumber, second_holding}, Steps.KeptTimes.{IsKeptOf, LieWithin, IsStop}}
+use Rattle.zoned_ffi.specs.{Units.{IsCounted, IsLocal, IsWithout, uncounted}, declared.column.{Question.{Question}, Stop.{Stop}, Way.TheVariants.{ToInstants}}}
+use Rattle.zoned_ffi.{specs.declared.{column.Way.TheVariants.{ToLocal}, resolved.Taken.TheVariants.{GapEnd, InForce, Shifted}}, proofs.Words.{All-contains}}
+use Rattle.zoned_ffi.proofs.Words.{AreKeptTimes, Choice, Fits64, IsGreatest, IsInRange, IsLeast, IsNoInstant, IsOffsetStretch, IsShownOnce, IsTakenAs, Kept}
+use Rattle.zoned_ffi.proofs.Words.{List, LocalType, MatchOption, None, OffsetStretch, Option, Shows, Some, Taken, TypeAt, Unit, Zone, ap, arith, first_second}
+use Rattle.zoned_ffi.proofs.Words.{floor_div, floors, get_or, ints, neg_ℤ, offsets, per_second, pos, refl, subst, taken_instant, ℕ, ℤ, ◌*ℤ◌, ◌+ℤ◌, ◌+◌, ◌-ℤ◌}
+use Rattle.zoned_ffi.proofs.{Words.{◌<ℤ◌, ◌≡◌, ◌≤ℤ◌, AreWritten, drop, length, take, take_all, ◌∙◌, ◌≤◌}, Slices.{same_behind}, Resolving.{none_is, taken_once}}
 use Rattle.tz_info.proofs.{ExtremeLaws.{at_least_least, at_most_greatest}, ForCallers.{type_once}}
-
--- the second that an instant lies in, if the instant comes with a second or after it
-floor_low : (unit : Unit) (x u : ℤ) → (u *ℤ pos (per_second unit)) ≤ℤ x → u ≤ℤ floor_div x (per_second unit)
-floor_low unit x u h = grind (arith, ints, floors)
-
--- of one that comes before a second
-floor_high : (unit : Unit) (x u : ℤ) → x <ℤ (u *ℤ pos (per_second unit)) → floor_div x (per_second unit) <ℤ u
-floor_high unit x u h = grind (arith, ints, floors)
-
--- what a lookup found
-pub looked_up : (z : Zone) (unit : Unit) (x counts : ℤ) (t : LocalType) (r : Option ℤ) → TypeAt z (floor_div x (per_second unit)) t
-    → counts ≡ t.offset *ℤ pos (per_second unit)
-    → MatchOption r (¬ (IsCounted (x +ℤ counts))) (λ sum. (sum ≡ x +ℤ counts) × IsCounted sum)
-    → MatchOption r (IsWithout z unit x) (λ local. IsLocal z unit x local)
-looked_up z unit x counts t None in_force are none = uncounted t in_force (rw are at none)
-looked_up z unit x counts t (Some y) in_force are (is, counted) = record { type = t; in_force = in_force; sum = cc; counted = counted }
 
 abbrev pub least : ℤ
 least = neg_ℤ (pos 9_223_372_036_854_775_807)
@@ -44,19 +25,10 @@ lie_within from until add k a b d e f g same = record {
 -- the stretch has one row more
 pub within_more : (times : List ℤ) (from row : ℕ) (k : Kept) → AreKeptTimes times from row k
     → (k.low ≤ℤ get_or times row (pos 0)) × (get_or times row (pos 0) <ℤ k.high) → AreKeptTimes times from (row + 1) k
-within_more times from row k before this i since below = grind (arith, before)
-
--- instants of a stretch, by the counts of its bounds
-pub instants_kept : (z : Zone) (unit : Unit) (s : OffsetStretch) (from until add : ℤ) (k : Kept) → IsOffsetStretch z s
-    → from ≡ s.from *ℤ pos (per_second unit) → until ≡ s.until *ℤ pos (per_second unit) → add ≡ s.offset *ℤ pos (per_second unit)
-    → LieWithin from until add k → IsKeptOf z unit ToLocal k
-instants_kept z unit s from until add k stretch a b d within = λ x low high.
-    let at = within.each x low high in
-    let found = stretch (floor_div x (per_second unit)) (grind (arith, ints, floors)) (grind (arith, ints, floors)) in
-    grind arith
+within_more times from row k before this i since below = grind arith
 
 -- a local time so far inside a stretch that by each offset of the zone its second lies in it: only the second by the stretch's offset shows it
-pub once_shown : (z : Zone) (s : OffsetStretch) (low high local : ℤ) → IsOffsetStretch z s → FitsSigned w64 s.from → FitsSigned w64 s.until
+pub once_shown : (z : Zone) (s : OffsetStretch) (low high local : ℤ) → IsOffsetStretch z s → Fits64 s.from → Fits64 s.until
     → IsLeast (offsets z.types z.rule) low → IsGreatest (offsets z.types z.rule) high → (s.from +ℤ high) ≤ℤ local → local <ℤ (s.until +ℤ low)
     → (t : LocalType) × IsShownOnce (Shows (TypeAt z) local) t × (s.offset ≡ t.offset)
 once_shown z s low high local stretch f g is_low is_high since before =
@@ -66,53 +38,83 @@ once_shown z s low high local stretch f g is_low is_high since before =
     let some = inside high order (omega (arith, ints)) in
     let least_here = at_least_least z (local -ℤ high) low some.0 is_low some.1 in
     let most_here = at_most_greatest z (local -ℤ high) high some.0 is_high some.1 in
-    let own = inside s.offset (omega (arith, ints, least_here, some.2)) (omega (arith, ints, most_here, some.2)) in let own_is = own.2 in
+    let own = inside s.offset (omega (arith, ints)) (omega (arith, ints)) in let own_is = own.2 in
     let shown : Shows (TypeAt z) local (local -ℤ s.offset) own.0 =
-    record { fits = omega (arith, ints, least_here, most_here, some.2); type = own.1; shown = omega (arith, ints) } in
+    record { fits = omega (arith, ints); type = own.1; shown = omega (arith, ints) } in
     let only : (u : ℤ) (b : LocalType) → Shows (TypeAt z) local u b → u ≡ local -ℤ s.offset = λ u b v.
     let there = inside b.offset (at_least_least z u low b is_low v.type) (at_most_greatest z u high b is_high v.type) in
-    let shows = v.shown in let is = there.2 in
     let place : local -ℤ b.offset ≡ u = omega (arith, ints) in
     let same = ap (λ (t : LocalType). t.offset) (type_once z u b there.0 v.type (subst (λ w. TypeAt z w there.0) place there.1)) in omega (arith, ints) in
     (own.0, record { second = local -ℤ s.offset; shown = shown; only = only }, own_is)
 
--- such local times, by the counts of the bounds
-pub local_times_kept : (z : Zone) (unit : Unit) (choice : Choice) (s : OffsetStretch) (low high p q r t f e from until add : ℤ) (k : Kept) → IsOffsetStretch z s
-    → FitsSigned w64 s.from → FitsSigned w64 s.until → IsLeast (offsets z.types z.rule) low → IsGreatest (offsets z.types z.rule) high
-    → p ≡ s.from *ℤ pos (per_second unit) → q ≡ high *ℤ pos (per_second unit) → r ≡ s.until *ℤ pos (per_second unit) → t ≡ low *ℤ pos (per_second unit)
-    → f ≡ first_second *ℤ pos (per_second unit) → e ≡ pos 8_210_266_876_800 *ℤ pos (per_second unit) → add ≡ neg_ℤ (s.offset *ℤ pos (per_second unit))
-    → (p +ℤ q) ≤ℤ from → f ≤ℤ from → until ≤ℤ (r +ℤ t) → until ≤ℤ e → LieWithin from until add k → IsKeptOf z unit (ToInstants choice) k
-local_times_kept z unit choice s low high p q r t f e from until add k stretch fits_from fits_until is_low is_high ep eq er et ef ee ea a b c d within =
-    λ x since before.
-    let at = within.each x since before in
-    let local = floor_div x (per_second unit) in
-    let above = floor_low unit x (s.from +ℤ high) (grind (arith, ints)) in
-    let below = floor_high unit x (s.until +ℤ low) (grind (arith, ints)) in
-    let found = once_shown z s low high local stretch fits_from fits_until is_low is_high above below in
-    let first = floor_low unit x first_second (grind (arith, ints)) in
-    let end = floor_high unit x (pos 8_210_266_876_800) (grind (arith, ints)) in
-    let counted : IsCounted (x +ℤ k.add) = rw within.same at.3 in
-    let less : (x +ℤ neg_ℤ (s.offset *ℤ pos (per_second unit))) ≡ x -ℤ (s.offset *ℤ pos (per_second unit)) = omega (arith, ints) in
-    let same = within.same in let offset = found.2 in
-    let taken = IsInstantTaken.by_offset found.0 (taken_once z local choice found.0 found.1) cc in
-    (counted, at.2, record { in_range = (first, omega (arith, ints, end)); taken = taken; counted = counted })
+-- a zone's answers to times that are counts of a unit
+module _ (z : Zone) (unit : Unit) where
+  -- the second that an instant lies in, if the instant comes with a second or after it
+  floor_low : (x u : ℤ) → (u *ℤ pos (per_second unit)) ≤ℤ x → u ≤ℤ floor_div x (per_second unit)
+  floor_low x u h = grind (arith, ints, floors)
 
--- the instant by what is taken
-taken_gives : (z : Zone) (unit : Unit) (choice : Choice) (local : ℤ) (taken : Taken) → IsTakenAs z (second_holding unit local) choice taken
-    → IsInstantTaken z unit choice local (taken_instant unit local taken)
-taken_gives z unit choice local (InForce offset) ((t, taken, is), there) = IsInstantTaken.by_offset t taken (rw is)
-taken_gives z unit choice local (Shifted offset) (t, taken, is) = IsInstantTaken.by_offset t taken (rw is)
-taken_gives z unit choice local (GapEnd at offset) (after, end, is) = IsInstantTaken.by_gap_end at after end refl
+  -- of one that comes before a second
+  floor_high : (x u : ℤ) → x <ℤ (u *ℤ pos (per_second unit)) → floor_div x (per_second unit) <ℤ u
+  floor_high x u h = grind (arith, ints, floors)
 
--- it is the local time's, if it can be counted
-pub instant_told : (z : Zone) (unit : Unit) (choice : Choice) (local : ℤ) (taken : Taken) (r : Option ℤ) → IsInRange (second_holding unit local)
-    → IsTakenAs z (second_holding unit local) choice taken
-    → MatchOption r (¬ (IsCounted (taken_instant unit local taken))) (λ i. (i ≡ taken_instant unit local taken) × IsCounted i)
-    → MatchOption r (IsNoInstant z unit choice local 23) (IsInstantOf z unit choice local)
-instant_told z unit choice local taken None in_range is none =
-    IsNoInstant.uncounted (taken_instant unit local taken) in_range (taken_gives z unit choice local taken is) none
-instant_told z unit choice local taken (Some i) in_range is found =
-    record { in_range = in_range; taken = rw found.0 (taken_gives z unit choice local taken is); counted = found.1 }
+  -- what a lookup found
+  pub looked_up : (x counts : ℤ) (t : LocalType) (r : Option ℤ) → TypeAt z (floor_div x (per_second unit)) t
+      → counts ≡ t.offset *ℤ pos (per_second unit)
+      → MatchOption r (¬ (IsCounted (x +ℤ counts))) (λ sum. (sum ≡ x +ℤ counts) × IsCounted sum)
+      → MatchOption r (IsWithout z unit x) (λ local. IsLocal z unit x local)
+  looked_up x counts t None in_force are none = uncounted t in_force (rw are at none)
+  looked_up x counts t (Some y) in_force are (is, counted) = record { type = t; in_force = in_force; sum = cc; counted = counted }
+
+  -- instants of a stretch, by the counts of its bounds
+  pub instants_kept : (s : OffsetStretch) (from until add : ℤ) (k : Kept) → IsOffsetStretch z s
+      → from ≡ s.from *ℤ pos (per_second unit) → until ≡ s.until *ℤ pos (per_second unit) → add ≡ s.offset *ℤ pos (per_second unit)
+      → LieWithin from until add k → IsKeptOf z unit ToLocal k
+  instants_kept s from until add k stretch a b d within = λ x low high.
+      let at = within.each x low high in
+      let found = stretch (floor_div x (per_second unit)) (grind (arith, ints, floors)) (grind (arith, ints, floors)) in
+      grind arith
+
+  -- and to local times, by a choice
+  module _ (choice : Choice) where
+    -- such local times, by the counts of the bounds
+    pub local_times_kept : (s : OffsetStretch) (low high p q r t f e from until add : ℤ) (k : Kept) → IsOffsetStretch z s
+        → Fits64 s.from → Fits64 s.until → IsLeast (offsets z.types z.rule) low → IsGreatest (offsets z.types z.rule) high
+        → p ≡ s.from *ℤ pos (per_second unit) → q ≡ high *ℤ pos (per_second unit) → r ≡ s.until *ℤ pos (per_second unit) → t ≡ low *ℤ pos (per_second unit)
+        → f ≡ first_second *ℤ pos (per_second unit) → e ≡ pos 8_210_266_876_800 *ℤ pos (per_second unit) → add ≡ neg_ℤ (s.offset *ℤ pos (per_second unit))
+        → (p +ℤ q) ≤ℤ from → f ≤ℤ from → until ≤ℤ (r +ℤ t) → until ≤ℤ e → LieWithin from until add k → IsKeptOf z unit (ToInstants choice) k
+    local_times_kept s low high p q r t f e from until add k stretch fits_from fits_until is_low is_high ep eq er et ef ee ea a b c d within =
+        λ x since before.
+        let at = within.each x since before in
+        let local = floor_div x (per_second unit) in
+        let above = floor_low x (s.from +ℤ high) (grind (arith, ints)) in
+        let below = floor_high x (s.until +ℤ low) (grind (arith, ints)) in
+        let found = once_shown z s low high local stretch fits_from fits_until is_low is_high above below in
+        let first = floor_low x first_second (grind (arith, ints)) in
+        let end = floor_high x (pos 8_210_266_876_800) (grind (arith, ints)) in
+        let counted : IsCounted (x +ℤ k.add) = rw within.same at.3 in
+        let less : (x +ℤ neg_ℤ (s.offset *ℤ pos (per_second unit))) ≡ x -ℤ (s.offset *ℤ pos (per_second unit)) = omega (arith, ints) in
+        let taken = IsInstantTaken.by_offset found.0 (taken_once z local choice found.0 found.1) cc in
+        (counted, at.2, record { in_range = (first, omega (arith, ints)); taken = taken; counted = counted })
+
+    -- the instant by what is taken
+    taken_gives : (local : ℤ) (taken : Taken) → IsTakenAs z (second_holding unit local) choice taken
+        → IsInstantTaken z unit choice local (taken_instant unit local taken)
+    taken_gives local (InForce offset) ((t, taken, is), there) = IsInstantTaken.by_offset t taken (rw is)
+    taken_gives local (Shifted offset) (t, taken, is) = IsInstantTaken.by_offset t taken (rw is)
+    taken_gives local (GapEnd at offset) (after, end, is) = IsInstantTaken.by_gap_end at after end refl
+
+    -- it is the local time's, if it can be counted
+    pub instant_told : (local : ℤ) (taken : Taken) (r : Option ℤ) → IsInRange (second_holding unit local)
+        → IsTakenAs z (second_holding unit local) choice taken
+        → MatchOption r (¬ (IsCounted (taken_instant unit local taken))) (λ i. (i ≡ taken_instant unit local taken) × IsCounted i)
+        → MatchOption r (IsNoInstant z unit choice local 23) (IsInstantOf z unit choice local)
+    instant_told local taken None in_range is none =
+        IsNoInstant.uncounted (taken_instant unit local taken) in_range (taken_gives local taken is) none
+    instant_told local taken (Some i) in_range is found =
+        record { in_range = in_range; taken = rw found.0 (taken_gives local taken is); counted = found.1 }
+
+    pub row_number : (local : ℤ) (n : ℕ) → IsNoInstant z unit choice local n → IsRowNumber n
+    row_number local n none = grind (arith, none_is)
 
 -- a column that is as it was after a place stops as well for one that was the same there
 pub stop_behind : (q : Question) (times old mid new : List ℤ) (s : Stop) (from : ℕ) → IsStop q times mid new s → from ≤ s.row → drop from mid ≡ drop from old
@@ -131,9 +133,6 @@ pub last_block : (q : Question) (times old mid new : List ℤ) (from to : ℕ) (
     → length times ≤ to → length new ≡ length times → drop from mid ≡ drop from old → MatchOption r (AreWritten q times new) (λ s. IsStop q times old new s)
 last_block q times old mid new from to None (written, rest) whole as_many same =
     let all : take to times ≡ times = take_all to times whole in
-    let each : take to new ≡ new = take_all to new (omega (arith, whole, as_many)) in
+    let each : take to new ≡ new = take_all to new (omega arith) in
     subst (λ ys. AreWritten q times ys) each (subst (λ xs. AreWritten q xs (take to new)) all written)
 last_block q times old mid new from to (Some s) (late, stop) whole as_many same = stop_behind q times old mid new s from stop late same
-
-pub row_number : (z : Zone) (unit : Unit) (choice : Choice) (local : ℤ) (n : ℕ) → IsNoInstant z unit choice local n → IsRowNumber n
-row_number z unit choice local n none = grind (arith, none_is)

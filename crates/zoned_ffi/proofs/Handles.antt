@@ -1,15 +1,14 @@
 -- A handle by value: what it owns taken out of it, and put into one. Assumes `Logic`.
 use Rattle.core.proofs.{alloc.Calls.{handle_tells}, cell.Inside.{Good}}
-use Rattle.std.specs.{contracts.impls.GlobalAllocator.TheImpl.{ghosts}, declared.alloc.Global.{Global}, declared.option.Option.{Option}}
-use Rattle.std.specs.declared.option.Option.TheVariants.{None, Some}
+use Rattle.std.specs.{contracts.impls.GlobalAllocator.TheImpl.{ghosts}, declared.{alloc.Global.{Global}, option.Option.{Option, TheVariants.{None, Some}}}}
 use Rattle.std_alloc.proofs.ResultValues.{and_tt}
 use Rattle.zoned_ffi.proofs.Words.{Goal, Item, Laws, List, Logic, Ptr, RattleType, RawPtr, SProp, Seq, Step, T, Testable, Ura, Val, Valss, WT, block_ptr, boxed}
-use Rattle.zoned_ffi.proofs.Words.{dealloc_token-Testable, ent, fact_use, feq_i, feq_l, fjoin, fpack, fpick, fsplit, fst∗, full_share, given, guard, guard_i}
-use Rattle.zoned_ffi.proofs.Words.{has_ty, held, in_a_block, layout, learn, lies_at, lit<, lone, move, never, nothing, null_ptr, of_list, ptr_val, refl, sem}
-use Rattle.zoned_ffi.proofs.Words.{shape, shared_row, snd∗, step, subst, to, true, use1, via, vstruct, within, ℕ, [], ‵, ◌$◌, ◌&&◌, ◌++◌, ◌∷◌, ◌≡◌}
+use Rattle.zoned_ffi.proofs.Words.{dealloc_token-Testable, ent, fact_use, feq_i, feq_l, fjoin, fpack, fpick, fsplit, fst∗, full_share, guard, guard_i, has_ty}
+use Rattle.zoned_ffi.proofs.Words.{held, in_a_block, layout, lies_at, lit<, lone, move, never, nothing, null_ptr, of_list, ptr_val, refl, sem, shape}
+use Rattle.zoned_ffi.proofs.Words.{shared_row, snd∗, step, subst, to, true, use1, via, vstruct, within, ℕ, [], ‵, ◌$◌, ◌&&◌, ◌++◌, ◌∷◌, ◌≡◌}
 use Rattle.zoned_ffi.proofs.Slots.{allocator, two}
+use types.Kit.{given, learn, drop}
 use mir.Raw.{raw as bare}
-use types.Kit.{drop}
 use Rattle.std.proofs.alloc.Global.TheLaws as heap_laws
 use Rattle.std.specs.contracts.alloc.Global as heap
 use Rattle.zoned_ffi.specs.contracts.handle.Handle as handle

@@ -1,15 +1,14 @@
 -- A handle that is only read: what it holds is had twice, and a `&` to it lends the value at its pointer. Assumes `Logic`.
-use Rattle.std.specs.{contracts.impls.GlobalAllocator.TheImpl.{ghosts}, declared.option.Option.{Option}}
-use Rattle.std.specs.declared.option.Option.TheVariants.{None, Some}
-use Rattle.zoned_ffi.proofs.Words.{Cuts, Cuts-Halves, Cuts-both, Cuts-map, Fml, Goal, Halves, Incl-refl, Item, Lft, List, Logic, Opened-one, Opens, Ptr}
-use Rattle.zoned_ffi.proofs.Words.{RattleType, RawPtr, RowLaws, Seq, Share, ShrLaws, Shut, Soaks, Step, Testable, Ura, Val, Valss, assume, await, block_ptr}
-use Rattle.zoned_ffi.proofs.Words.{bor_fracture, bor_open, by, cell_at, cell_cut, cell_join, contraction, done, ent, fbor, fdead, feq_i, feq_l, fex, fjoin}
-use Rattle.zoned_ffi.proofs.Words.{flft, fpack, fpick, fsep, fseps, fshr_bor, fsplit, fsplit3, fst∗, ftrue, fupd, fwand, hidden_shr, id⊢, in_a_block, keep}
-use Rattle.zoned_ffi.proofs.Words.{later, lent, lent_at, lent_at_shr_laws, loan, looks, meet_⊑_left, move, moves_from, never, nothing, now, null_ptr}
-use Rattle.zoned_ffi.proofs.Words.{obor_alter, of_list, part_at, part_of, pick, ptr_val, qed, refl, rewrite, sem, sep, shape, shared_of, shared_row, shuts}
-use Rattle.zoned_ffi.proofs.Words.{some, split, step, subst, suffices, to, twice_dup, unhide, upd_i, updating, use1, use2, vcons, vnil, vstruct, within, ℕ, ! }
-use Rattle.zoned_ffi.proofs.Words.{[], ‵, ◌$◌, ◌++◌, ◌∵◌, ◌∷◌, ◌≡◌, ◌⊛◌}
-use types.Kit.{drop}
+use Rattle.std.specs.{contracts.impls.GlobalAllocator.TheImpl.{ghosts}, declared.option.Option.{Option, TheVariants.{None, Some}}}
+use base.Fml.{Incl-refl, fbor, fdead, fex, fshr_bor, fupd, fwand}
+use denote.{Opens.{Cuts, Cuts-Halves, Cuts-both, Cuts-map, Opened-one, Opens, Shut, twice_dup, unhide}, Memory.{cell_cut, cell_join, hidden_shr, part_at}}
+use denote.Memory.{shared_of}
+use Rattle.zoned_ffi.proofs.Words.{Fml, Goal, Halves, Item, Lft, List, Logic, Ptr, RattleType, RawPtr, RowLaws, Seq, Share, ShrLaws, Step, Testable, Ura, Val}
+use Rattle.zoned_ffi.proofs.Words.{Valss, await, block_ptr, by, cell_at, contraction, ent, feq_i, feq_l, fjoin, flft, fpack, fpick, fsep, fseps, fsplit, fst∗}
+use Rattle.zoned_ffi.proofs.Words.{ftrue, id⊢, in_a_block, keep, later, lent, lent_at, lent_at_shr_laws, loan, looks, meet_⊑_left, move, moves_from, never}
+use Rattle.zoned_ffi.proofs.Words.{nothing, null_ptr, of_list, part_of, pick, ptr_val, qed, refl, rewrite, sem, sep, shape, shared_row, shuts, !, some, split}
+use Rattle.zoned_ffi.proofs.Words.{step, subst, suffices, to, upd_i, use1, vcons, vnil, vstruct, within, ℕ, [], ‵, ◌$◌, ◌++◌, ◌∵◌, ◌∷◌, ◌≡◌, ◌⊛◌}
+use types.{Kit.{Soaks, assume, done, fsplit3, now, updating, use2, drop}, Tokens.{bor_fracture, bor_open, obor_alter}}
 use Rattle.std.proofs.alloc.Global.TheLaws as heap_laws
 use Rattle.std.specs.contracts.alloc.Global as heap
 use Rattle.std_alloc.proofs.arc.Arc.TheLaws as arc_laws

@@ -1,9 +1,8 @@
 -- Files above the limits of a caller.
 use Rattle.std.proofs.lemmas.Option.{none-some, same_Some}
-use Rattle.zoned_ffi.proofs.Words.{FileCounts, HasCounts, IsAboveLimits, List, None, Some, arith, inl, inr, refl}
-use Rattle.tz_info.proofs.{FilePieceLaws.{pieces_law}, Words.{FilePieces, value_once}}
-use Rattle.zoned_ffi.proofs.Words.{ap, subst, sym, ℕ, ◌<◌, ◌↔◌, ◌∙◌, ◌≡◌, ◌⊎◌}
-use Rattle.zoned_ffi.specs.{Kinds.{kind_number}}
+use Rattle.tz_info.proofs.{Words.{◌↔◌, FilePieces, value_once}, FilePieceLaws.{pieces_law}}
+use Rattle.zoned_ffi.proofs.Words.{FileCounts, HasCounts, IsAboveLimits, List, None, Some, arith, inl, inr, refl, ap, sym, ℕ, ◌<◌, ◌∙◌, ◌≡◌, ◌⊎◌}
+use Rattle.zoned_ffi.specs.Kinds.{kind_number}
 use Rattle.zoned_ffi.specs.declared.kind.Kind.TheVariants as kinds
 
 module _ (kind : ℕ) (bytes : List ℕ) (m n : ℕ) where
@@ -12,7 +11,7 @@ module _ (kind : ℕ) (bytes : List ℕ) (m n : ℕ) where
       → ((m < c.transitions) ⊎ (n < c.leap_seconds)) ↔ IsAboveLimits kind bytes m n
   above_by c is has = (
     λ more. record { of_file = is; counts = c; has = (has c).0 refl; above = more },
-    λ k. subst (λ (d : FileCounts). (m < d.transitions) ⊎ (n < d.leap_seconds)) (sym (same_Some c k.counts ((has k.counts).1 k.has))) k.above,
+    λ k. rw (← same_Some c k.counts ((has k.counts).1 k.has)) at k.above,
   )
 
   -- a file without them is not
@@ -28,13 +27,10 @@ counts_once bytes c d h k = let one = value_once (pieces_law bytes) h.pieces k.p
 
 -- at the limits it is not above them, and one entry more is
 pub as_many : (bytes : List ℕ) (c : FileCounts) → HasCounts bytes c → IsAboveLimits 0 bytes c.transitions c.leap_seconds → ⊥
-as_many bytes c h k = let same = counts_once bytes c k.counts h k.has in by k.above same.0 same.1 where
-  by : {a b m n : ℕ} → (a < m) ⊎ (b < n) → a ≡ m → b ≡ n → ⊥
-  by (inl more) e f = omega (arith, more, e)
-  by (inr more) e f = omega (arith, more, f)
+as_many bytes c h k = let same = counts_once bytes c k.counts h k.has in grind arith
 
 pub more_transitions : (bytes : List ℕ) (c : FileCounts) → HasCounts bytes c → c.transitions ≡ 1 → IsAboveLimits 0 bytes 0 c.leap_seconds
-more_transitions bytes c h one = record { of_file = refl; counts = c; has = h; above = inl (omega (arith, one)) }
+more_transitions bytes c h one = record { of_file = refl; counts = c; has = h; above = inl (omega arith) }
 
 pub more_leap_seconds : (bytes : List ℕ) (c : FileCounts) → HasCounts bytes c → c.leap_seconds ≡ 1 → IsAboveLimits 0 bytes c.transitions 0
-more_leap_seconds bytes c h one = record { of_file = refl; counts = c; has = h; above = inr (omega (arith, one)) }
+more_leap_seconds bytes c h one = record { of_file = refl; counts = c; has = h; above = inr (omega arith) }

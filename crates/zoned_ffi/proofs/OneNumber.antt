@@ -1,11 +1,8 @@
 -- A call that is rejected has one number, unless memory runs out.
-use Rattle.tz_info.proofs.TextLaws.{one_fault as string_fault_once}
+use Rattle.tz_info.proofs.{TextLaws.{one_fault as string_fault_once}, ForCallers.{file_fault_once, text_fault_once}}
 use Rattle.tz_info.specs.TzFiles.IsZoneFault.{In_file as Of_file}
-use Rattle.zoned_ffi.proofs.Words.{IsErrorOfKind, IsExtendedFault, IsFault, IsFileError, IsStringError, Kind, List, ap, arith, detail_number, error_number}
-use Rattle.zoned_ffi.proofs.Words.{file_fault_once}
-use Rattle.zoned_ffi.proofs.Words.{inl, inr, refl, text_fault_once, ℕ, ◌≡◌, ◌⊎◌}
-use Rattle.zoned_ffi.specs.{Refusals.IsFileError.{In_file}}
-use Rattle.zoned_ffi.specs.{Refusals.IsStringError.{In_text, No_memory, Not_utf8}}
+use Rattle.zoned_ffi.proofs.Words.{IsErrorOfKind, IsExtendedFault, IsFault, IsFileError, IsStringError, Kind, List, ap, arith, detail_number, error_number, inl}
+use Rattle.zoned_ffi.{proofs.Words.{inr, refl, ℕ, ◌≡◌, ◌⊎◌}, specs.Refusals.{IsFileError.{In_file}, IsStringError.{In_text, No_memory, Not_utf8}}}
 
 abbrev Alike : ℕ → ℕ → Type 0
 Alike m n = (m ≡ n) ⊎ (m ≡ 17) ⊎ (n ≡ 17)

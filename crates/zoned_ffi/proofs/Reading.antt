@@ -1,12 +1,10 @@
 -- What comes of parsing, as a call reports it.
-use Rattle.zoned_ffi.proofs.Words.{Error, IfErr, IsErrorOfKind, IsExtendedFault, IsFault, IsFileError, IsOutOfMemory, IsPosixFault, detail_number}
-use Rattle.zoned_ffi.proofs.Words.{IsPosixZone, IsReaderNumber, IsStringError, IsUtf8, IsZoneFault, IsZoneOf, Kind, List, Refusal, Result}
-use Rattle.zoned_ffi.proofs.Words.{SpellsZone, Zone, arith, error_number, inl, inr, refusal_number, true, ℕ, ◌≡◌, ◌⊎◌}
-use Rattle.zoned_ffi.specs.{Kinds.{kind_number}, Refusals.IsErrorOfKind.{Unknown_kind}, Refusals.IsFileError.{In_file}}
-use Rattle.zoned_ffi.specs.Refusals.IsStringError.{Not_utf8}
+use Rattle.zoned_ffi.proofs.Words.{Error, IfErr, IsErrorOfKind, IsExtendedFault, IsFault, IsFileError, IsOutOfMemory, IsPosixFault, detail_number, IsPosixZone}
+use Rattle.zoned_ffi.proofs.Words.{IsStringError, IsUtf8, IsZoneFault, Kind, List, Refusal, Result, Zone, arith, error_number, inl, inr, true, ℕ, ◌≡◌, ◌⊎◌}
+use Rattle.zoned_ffi.specs.{Kinds.{IsZoneOf, SpellsZone, kind_number}, Refusals.{IsReaderNumber, refusal_number, IsErrorOfKind.{Unknown_kind}}}
+use Rattle.zoned_ffi.specs.Refusals.{IsFileError.{In_file}, IsStringError.{Not_utf8}}
 use Rattle.tz_info.specs.{PosixZones.{IsExtendedZone}, TzGrammar.{IsTextFault}}
 use Rattle.tz_base.specs.declared.error.Error.TheVariants as errors
-use Rattle.tz_base.specs.declared.error.Expected.TheVariants as expected
 use Rattle.zoned_ffi.specs.declared.kind.Kind.TheVariants as kinds
 
 -- the number of a text's error is that of its fault
@@ -25,10 +23,7 @@ pub reader_number : (e : Error) → IsReaderNumber (error_number e)
 reader_number e = grind arith
 
 pub detail_in_range : (e : Error) → IsReaderNumber (detail_number e)
-detail_in_range (errors.TimeZone expected.TypeIndexesWithinTypes) = grind arith
-detail_in_range (errors.TimeZone expected.TransitionTimesThatRise) = grind arith
-detail_in_range (errors.TimeZone expected.LeapSecondsInOrder) = grind arith
-detail_in_range (errors.TimeZone expected.RuleThatAgreesWithLastTransition) = grind arith
+detail_in_range (errors.TimeZone what) = grind arith
 detail_in_range e = grind arith
 
 -- if there is no memory for a zone that is spelled, that is the fault

@@ -1,8 +1,7 @@
 -- The string of a rule, by what was found of it.
-use Rattle.zoned_ffi.proofs.Words.{List, None, Option, Some, TransitionRule, sym, ℕ, [], ◌≡◌}
+use Rattle.zoned_ffi.{proofs.Words.{List, None, Option, Some, TransitionRule, sym, ℕ, [], ◌≡◌}, specs.RuleStrings.{IsRuleString}}
 use Rattle.std.specs.Prelude.{Bool}
 use Rattle.tz_write.specs.WrittenTexts.{IsUnspelled, IsWrittenText}
-use Rattle.zoned_ffi.specs.RuleStrings.{IsRuleString}
 
 pub none_by : (found : Option TransitionRule) (text : List ℕ) → None ≡ found → text ≡ [] → IsRuleString found text
 none_by found text is empty = rw (sym is, empty) IsRuleString.no_rule

@@ -1,21 +1,15 @@
 -- Clocks that are an hour ahead of UTC before second 0, and not from then on, for pins: they show 1800 at -1800 and at 1800.
-use Rattle.zoned_ffi.proofs.Words.{LocalType, Shows, arith, inl, inr, ints, neg_ℤ, pos, refl, subst, sym, ℤ, ◌+ℤ◌, ◌-ℤ◌, ◌<ℤ◌, ◌≡◌}
-use Rattle.zoned_ffi.proofs.Words.{◌≤ℤ◌, ◌⊎◌}
+use Rattle.zoned_ffi.proofs.Words.{LocalType, Shows, arith, inl, inr, ints, neg_ℤ, pos, refl, ℤ, ◌+ℤ◌, ◌<ℤ◌, ◌≡◌, ◌≤ℤ◌}
 use Rattle.naive_base.proofs.Words.{by_lt_z}
 use Rattle.offset_core.specs.WallAnswer.{IsShownBetween}
 use Rattle.tz_info.specs.Folds.{HasFold}
 use Rattle.zoned_ffi.specs.Steps.SetBack.{set_back, summer, winter}
 
--- the offset in force
-offset_at : (u : ℤ) (t : LocalType) → set_back u t → ((u <ℤ pos 0) × (t.offset ≡ pos 3_600)) ⊎ ((pos 0 ≤ℤ u) × (t.offset ≡ pos 0))
-offset_at u t (inl (before, is)) = inl (before, subst (λ (x : LocalType). x.offset ≡ pos 3_600) (sym is) refl)
-offset_at u t (inr (since, is)) = inr (since, subst (λ (x : LocalType). x.offset ≡ pos 0) (sym is) refl)
-
 from_first : (u : ℤ) (t : LocalType) → Shows set_back (pos 1_800) u t → neg_ℤ (pos 1_800) ≤ℤ u
-from_first u t shows = let at = offset_at u t shows.type in let shown = shows.shown in grind (arith, ints)
+from_first u t shows = grind (arith, ints)
 
 to_last : (u : ℤ) (t : LocalType) → Shows set_back (pos 1_800) u t → u ≤ℤ pos 1_800
-to_last u t shows = let at = offset_at u t shows.type in let shown = shows.shown in grind (arith, ints)
+to_last u t shows = grind (arith, ints)
 
 pub several : IsShownBetween (Shows set_back (pos 1_800)) summer winter
 several = record {
@@ -29,7 +23,7 @@ several = record {
 }
 
 less_later : (u : ℤ) (t : LocalType) → pos 0 ≤ℤ u → u <ℤ pos 1_800 → set_back u t → (u +ℤ t.offset) <ℤ pos 1_800
-less_later u t since before here = let at = offset_at u t here in grind (arith, ints)
+less_later u t since before here = grind (arith, ints)
 
 pub fold : HasFold set_back (pos 1_800) summer winter (pos 0)
 unfolding several
@@ -48,20 +42,13 @@ fold = record {
 is_last : (before after : LocalType) (at : ℤ) → (h : HasFold set_back (pos 1_800) before after at) → h.several.last ≡ pos 1_800
 is_last before after at h =
     let most = to_last h.several.last h.last_type h.several.at_last in
-    let least = h.several.not_after (pos 1_800) winter (record {
-      fits = omega (arith, ints);
-      type = inr (omega (arith, ints), refl);
-      shown = omega
-          (arith, ints);
-    }) in
+    let least = h.several.not_after (pos 1_800) winter
+    (record { fits = omega (arith, ints); type = inr (omega (arith, ints), refl); shown = omega (arith, ints) }) in
     omega (arith, ints)
 
 pub only_fold : (before after : LocalType) (at : ℤ) → HasFold set_back (pos 1_800) before after at → at ≡ pos 0
 only_fold before after at h =
-    let last = is_last before after at h in let reached = h.reached in let not_later = h.not_later in
-    let earlier = offset_at (at -ℤ pos 1) before h.earlier in
+    let last = is_last before after at h in let earlier = h.earlier in
     by_lt_z at (pos 0)
-    (λ l.
-    let less = h.less (neg_ℤ (pos 1)) summer (omega (arith, ints)) (omega (arith, ints)) (inl (omega (arith, ints), refl)) in absurd
-    (omega (arith, ints, less)))
-    (λ m. by_lt_z (pos 0) at (λ l. absurd (grind (arith, ints))) (λ n. omega (arith, ints)))
+    (λ l. absurd (omega (arith, ints, h.less (neg_ℤ (pos 1)) summer (omega (arith, ints)) (omega (arith, ints)) (inl (omega (arith, ints), refl)))))
+    (λ m. grind (arith, ints))

@@ -1,6 +1,6 @@
 -- Slices that are written one place after the other.
 use Rattle.zoned_ffi.proofs.Words.{AllZip, List, arith, get_or, length, length-set, pos, slice_set, suc, take, to_z-of_z, zero, ℕ, ℤ, ◌+◌, ◌<◌, ◌∷◌, ◌≡◌}
-use Rattle.zoned_ffi.proofs.Words.{ap, drop, drop-drop, drop-set-lt, subst, sym, ◌-◌, ◌∙◌, ◌≤◌}
+use Rattle.zoned_ffi.proofs.Words.{drop, drop-drop, drop-set-lt, ◌-◌, ◌≤◌}
 
 zip_step : {A B : Type 0} (R : A → B → Type 0) (xs : List A) (ys : List B) (i : ℕ) (d : A) (y : B) → length ys ≡ length xs → i < length xs
     → AllZip R (take i xs) (take i ys) → R (get_or xs i d) y → AllZip R (take (suc i) xs) (take (suc i) (slice_set ys i y))
@@ -15,12 +15,10 @@ zip_more R xs ys i y as_many within before this = grind (arith, zip_step R xs ys
 
 -- what two columns share after a place they share after a later one too
 pub same_behind : {B : Type 0} (xs ys : List B) (i j : ℕ) → i ≤ j → drop i xs ≡ drop i ys → drop j xs ≡ drop j ys
-same_behind xs ys i j less same =
-    let at : i + (j - i) ≡ j = omega (arith, less) in
-    subst (λ k. drop k xs ≡ drop k ys) at (sym (drop-drop (j - i) i xs) ∙ ap (λ zs. drop (j - i) zs) same ∙ drop-drop (j - i) i ys)
+same_behind xs ys i j less same = grind (arith, drop-drop (j - i) i xs, drop-drop (j - i) i ys)
 
 -- and after the place that is written next
 pub written_behind : {B : Type 0} (xs ys : List B) (i : ℕ) (y : B) → drop i xs ≡ drop i ys → drop (i + 1) (slice_set xs i y) ≡ drop (i + 1) ys
-written_behind xs ys i y same = drop-set-lt (i + 1) xs i y (omega arith) ∙ same_behind xs ys i (i + 1) (omega arith) same
+written_behind xs ys i y same = grind (arith, drop-set-lt, same_behind xs ys i (i + 1))
 
 pub ruleset written_rows = (to_z-of_z, length-set, zip_more)

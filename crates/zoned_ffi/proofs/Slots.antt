@@ -4,7 +4,7 @@ use Rattle.std_alloc.proofs.ResultValues.{and_tt}
 use Rattle.zoned_ffi.proofs.Words.{Fml, Ghosts, Goal, Item, Laws, List, Logic, Ptr, RattleType, RawPtr, Seq, Step, T, Ura, Val, Valss, WT, block_ptr, box_owns}
 use Rattle.zoned_ffi.proofs.Words.{dnil, feq_i, feq_l, fjoin, fpack, fpick, fsplit, fst∗, has_ty, impl, in_a_block, layout, lone, move, never, nothing}
 use Rattle.zoned_ffi.proofs.Words.{null_ptr, of_list, ptr_val, refl, sem, shape, step, subst, tnil, true, vcons, vnil, vptr, vstruct, within, ℕ, [], ‵, ◌$◌}
-use Rattle.zoned_ffi.proofs.Words.{◌&&◌, ◌++◌, ◌∷◌, ◌≡◌}
+use Rattle.zoned_ffi.proofs.Words.{SProp, ent, id⊢, sym, ◌&&◌, ◌++◌, ◌∷◌, ◌≡◌}
 use mir.Raw.{raw as bare}
 use types.Kit.{drop}
 use Rattle.zoned_ffi.specs.contracts.slot.Slot as slot
@@ -12,6 +12,10 @@ use Rattle.zoned_ffi.specs.contracts.slot.Slot as slot
 -- the value of a struct of two fields
 abbrev pub two : Val → Val → Val
 two v w = vstruct (vcons v (vcons w vnil))
+
+-- what holds of a run from some values holds of a run from equal ones
+pub same_run : {M : Type 1} (𝓤 : Ura M) (run : List Val → SProp 𝓤) {us ws : List Val} → us ≡ ws → ent 𝓤 (run ws) (run us)
+same_run 𝓤 run {us} {ws} e = subst (λ (vs : List Val). ent 𝓤 (run ws) (run vs)) (sym e) (id⊢ 𝓤 (run ws))
 
 module _ (R Z : RattleType) (L : Laws Z) (g : Ghosts Z.Denot) where
   abbrev pub Slot : RattleType

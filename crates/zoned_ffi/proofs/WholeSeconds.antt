@@ -8,4 +8,4 @@ row_number z unit sought x n without = grind arith
 
 -- without a leap second only the range is left of a stamp
 pub no_stamp : (s : ℤ) (f : ℕ) → f < 1_000_000_000 → ¬ (IsStamp (of_secs s f)) → ¬ (IsInRange s)
-no_stamp s f small none = λ inside. none (inside, (omega (arith, small), λ leap. absurd (omega (arith, small, leap))))
+no_stamp s f small none = λ inside. none (inside, (omega arith, λ leap. absurd (omega arith)))

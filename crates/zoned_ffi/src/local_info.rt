@@ -1,5 +1,5 @@
 //! Local times, each with the spans of the seconds that show it, or of those around its gap.
-#![tactic(auto, using(crate::proofs::Casts::passed_on))]
+#![tactic(auto, using(crate::proofs::Words::casts))]
 
 ghost use Rattle.std.specs.Prelude.{◌≡◌, ◌<ℤ◌, ◌+ℤ◌, ◌-ℤ◌, pos};
 ghost use Rattle.naive_base.specs.{NaiveDateTime.{reading}, Range.{IsInRange}};

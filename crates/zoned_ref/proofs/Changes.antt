@@ -1,8 +1,8 @@
 -- The changes of a zone's types as instants, and that clocks keep their type between them.
-use Rattle.tz_info.specs.Steps.Changes.{IsAheadUpTo as IsBetween}
-use Rattle.zoned_ref.proofs.Words.{AreAround, AreOffsetsOf, Bool, Change, HasNoChange, IfSome, IsAfter, IsAhead, IsAt, IsInRange, IsNearest, IsNearestChange}
-use Rattle.zoned_ref.proofs.Words.{IsUpTo, Law, LocalType, MatchOption, Meaning, Option, Precedes, StandAlike, StandWithin, TypeAt, Zone, Zoned, ap, arith}
-use Rattle.zoned_ref.proofs.Words.{change_of_instants, false, ints, of_secs, option_map, pos, stays, subst, sym, true, type_once, ℤ, ◌-ℤ◌, ◌∙◌, ◌≡◌, ◌≤ℤ◌}
+use Rattle.tz_info.{specs.Steps.Changes.{IsAheadUpTo as IsBetween}, proofs.Words.{HasNoChange, IfSome, IsAhead, IsNearest, IsNearestChange, Precedes}}
+use Rattle.zoned_ref.{specs.ZoneChange.{AreAround, IsUpTo, StandAlike, StandWithin, change_of_instants}, proofs.Words.{AreOffsetsOf, Bool, Change, IsAfter}}
+use Rattle.zoned_ref.proofs.Words.{IsAt, IsInRange, Law, LocalType, MatchOption, Meaning, Option, TypeAt, Zone, Zoned, arith, false, ints, of_secs, option_map}
+use Rattle.zoned_ref.proofs.Words.{pos, stays, subst, true, type_once, ℤ, ◌-ℤ◌, ◌≡◌, ◌≤ℤ◌}
 
 -- ---- the nearest change that instants show
 -- in that direction from the second s on, as far as both its seconds are in range
@@ -10,67 +10,67 @@ abbrev pub IsTold : Bool → ℤ → ℤ → Type 0
 IsTold true s u = IsAfter s u
 IsTold false s u = IsUpTo s u
 
-told : (w : Bool) (s u : ℤ) → IsInRange s → IsTold w s u → IsAhead w s u × IsInRange (u -ℤ pos 1) × IsInRange u
-told w s u here h = grind (arith, ints)
-
-is_told : (w : Bool) (s u : ℤ) → IsAhead w s u → IsInRange (u -ℤ pos 1) → IsInRange u → IsTold w s u
-is_told w s u a before at = grind (arith, ints)
-
--- what comes before a change in range is in range
-sooner : (w : Bool) (s c d : ℤ) → IsInRange s → IsAhead w s c → Precedes w c d → IsInRange (d -ℤ pos 1) → IsInRange d → IsInRange (c -ℤ pos 1) × IsInRange c
-sooner w s c d here a p before at = grind (arith, ints)
-
-pub none_told : (w : Bool) (in_force : ℤ → LocalType → Type 0) (s : ℤ) → IsInRange s → HasNoChange in_force (IsAhead w s) → HasNoChange in_force (IsTold w s)
-none_told w in_force s here none = λ d is k. none d is (told w s d.at here k).0
-
 -- what shows a change if and only if both its seconds are in range
 abbrev pub TellsInRange : {T : Type 0} → (T → Change) → (T → Type 0) → Change → Option T → Type 0
 TellsInRange change also c found = MatchOption found (IsInRange (c.at -ℤ pos 1) → IsInRange c.at → ⊥)
     (λ d. (change d ≡ c) × also d × IsInRange (c.at -ℤ pos 1) × IsInRange c.at)
 
-pub nearest_told : {T : Type 0} (w : Bool) (change : T → Change) (also : T → Type 0) (in_force : ℤ → LocalType → Type 0) (s : ℤ) (c : Change) (found : Option T)
-    → IsInRange s → IsNearestChange w in_force (IsAhead w s) c → TellsInRange change also c found → IsNearest w in_force (IsTold w s) (option_map change found)
-nearest_told w change also in_force s c found here h tells = grind (arith, ints, told, sooner, is_told)
+-- in one direction from a second in range on
+module _ (w : Bool) (s : ℤ) (here : IsInRange s) where
+  told : (u : ℤ) → IsTold w s u → IsAhead w s u × IsInRange (u -ℤ pos 1) × IsInRange u
+  told u h = grind (arith, ints)
+
+  is_told : (u : ℤ) → IsAhead w s u → IsInRange (u -ℤ pos 1) → IsInRange u → IsTold w s u
+  is_told u a before at = grind (arith, ints)
+
+  -- what comes before a change in range is in range
+  sooner : (c d : ℤ) → IsAhead w s c → Precedes w c d → IsInRange (d -ℤ pos 1) → IsInRange d → IsInRange (c -ℤ pos 1) × IsInRange c
+  sooner c d a p before at = grind (arith, ints)
+
+  pub none_told : (in_force : ℤ → LocalType → Type 0) → HasNoChange in_force (IsAhead w s) → HasNoChange in_force (IsTold w s)
+  none_told in_force none = λ d is k. none d is (told d.at k).0
+
+  pub nearest_told : {T : Type 0} (change : T → Change) (also : T → Type 0) (in_force : ℤ → LocalType → Type 0) (c : Change) (found : Option T)
+      → IsNearestChange w in_force (IsAhead w s) c → TellsInRange change also c found → IsNearest w in_force (IsTold w s) (option_map change found)
+  nearest_told change also in_force c found h tells = grind (arith, ints, told, sooner, is_told)
+
+  between : (u v : ℤ) → IsInRange u → IsBetween w s u v → IsTold w s v
+  between u v there h = grind (arith, ints)
+
+  not_beyond : (u c d : ℤ) → IsAhead w u c → Precedes w c d → IsBetween w s u d → ⊥
+  not_beyond u c d a p h = grind (arith, ints)
+
+  none_between : {T : Type 0} (change : T → Change) (in_force : ℤ → LocalType → Type 0) (u : ℤ) (found : Option T) → IsInRange u
+      → IsNearest w in_force (IsTold w s) (option_map change found) → IfSome found (λ c. IsAhead w u (change c).at) → HasNoChange in_force (IsBetween w s u)
+  none_between change in_force u found there h short = grind (arith, ints, between, not_beyond)
 
 -- ---- if no change comes, the type in force stays
-stands_on : (z : Zone) (off : ℤ → ℤ) → AreOffsetsOf z off → (s u : ℤ) (t : LocalType) → IsInRange s → IsInRange u → s ≤ℤ u
-    → HasNoChange (TypeAt z) (IsBetween true s u) → TypeAt z s t → TypeAt z u t
-stands_on z off has s u t here there on none h =
-    stays (TypeAt z) s u t (omega (arith, ints, here)) (omega (arith, ints, there)) on none
-    (λ v low high. let at = has v (omega (arith, ints, here, low), omega (arith, ints, there, high)) in (at.type, at.in_force)) h
+-- from s on or before it, in the range; `off` shows the zone's offsets
+module _ (z : Zone) (off : ℤ → ℤ) (has : AreOffsetsOf z off) where
+  stands_on : (s u : ℤ) (t : LocalType) → IsInRange s → IsInRange u → s ≤ℤ u → HasNoChange (TypeAt z) (IsBetween true s u) → TypeAt z s t → TypeAt z u t
+  stands_on s u t here there on none h =
+      stays (TypeAt z) s u t (omega (arith, ints)) (omega (arith, ints)) on none
+      (λ v low high. let at = has v (omega (arith, ints), omega (arith, ints)) in (at.type, at.in_force)) h
 
-stands : (w : Bool) (z : Zone) (off : ℤ → ℤ) → AreOffsetsOf z off → (s u : ℤ) (t : LocalType) → IsInRange s → IsInRange u → Precedes w s u
-    → HasNoChange (TypeAt z) (IsBetween w s u) → TypeAt z s t → TypeAt z u t
-stands true z off has s u t here there on none h = stands_on z off has s u t here there on none h
-stands false z off has s u t here there on none h =
-    let at = has u (omega (arith, ints, there), omega (arith, ints, there)) in
-    subst (λ v. TypeAt z u v) (type_once z s at.type t (stands_on z off has u s at.type there here on none at.in_force) h) at.in_force
+  stands : (w : Bool) (s u : ℤ) (t : LocalType) → IsInRange s → IsInRange u → Precedes w s u
+      → HasNoChange (TypeAt z) (IsBetween w s u) → TypeAt z s t → TypeAt z u t
+  stands true s u t here there on none h = stands_on s u t here there on none h
+  stands false s u t here there on none h =
+      let at = has u (omega (arith, ints), omega (arith, ints)) in
+      subst (TypeAt z u) (type_once z s at.type t (stands_on u s at.type there here on none at.in_force) h) at.in_force
 
--- so the clocks do
-alike : (z : Zone) (off : ℤ → ℤ) → AreOffsetsOf z off → (s u : ℤ) → IsInRange s → IsInRange u
-    → ((t : LocalType) → TypeAt z s t → TypeAt z u t) → StandAlike z off s u
-alike z off has s u here there stand =
-    let at_s = has s (omega (arith, ints, here), omega (arith, ints, here)) in
-    let at_u = has u (omega (arith, ints, there), omega (arith, ints, there)) in
-    record {
-      offset = at_u.offset ∙ ap (λ t. t.offset) (type_once z u at_u.type at_s.type at_u.in_force (stand at_s.type at_s.in_force)) ∙ sym at_s.offset;
-      in_force = stand;
-    }
+  -- so the clocks do
+  alike : (s u : ℤ) → IsInRange s → IsInRange u → ((t : LocalType) → TypeAt z s t → TypeAt z u t) → StandAlike z off s u
+  alike s u here there stand =
+      let at_s = has s (omega (arith, ints), omega (arith, ints)) in let at_u = has u (omega (arith, ints), omega (arith, ints)) in
+      let same = type_once z u at_u.type at_s.type at_u.in_force (stand at_s.type at_s.in_force) in
+      record { offset = grind arith; in_force = stand }
 
-between : (w : Bool) (s u v : ℤ) → IsInRange s → IsInRange u → IsBetween w s u v → IsTold w s v
-between w s u v here there h = grind (arith, ints)
-
-not_beyond : (w : Bool) (s u c d : ℤ) → IsAhead w u c → Precedes w c d → IsBetween w s u d → ⊥
-not_beyond w s u c d a p h = grind (arith, ints)
-
-none_between : {T : Type 0} (w : Bool) (change : T → Change) (in_force : ℤ → LocalType → Type 0) (s u : ℤ) (found : Option T) → IsInRange s → IsInRange u
-    → IsNearest w in_force (IsTold w s) (option_map change found) → IfSome found (λ c. IsAhead w u (change c).at) → HasNoChange in_force (IsBetween w s u)
-none_between w change in_force s u found here there h short = grind (arith, ints, between, not_beyond)
-
-pub stand_within : {T : Type 0} (w : Bool) (change : T → Change) (z : Zone) (off : ℤ → ℤ) → AreOffsetsOf z off → (s : ℤ) → IsInRange s → (found : Option T)
-    → IsNearest w (TypeAt z) (IsTold w s) (option_map change found) → StandWithin z off s (λ u. Precedes w s u × IfSome found (λ c. IsAhead w u (change c).at))
-stand_within w change z off has s here found h = λ u there within.
-    alike z off has s u here there (λ t. stands w z off has s u t here there within.0 (none_between w change (TypeAt z) s u found here there h within.1))
+  pub stand_within : {T : Type 0} (w : Bool) (change : T → Change) (s : ℤ) → IsInRange s → (found : Option T)
+      → IsNearest w (TypeAt z) (IsTold w s) (option_map change found)
+      → StandWithin z off s (λ u. Precedes w s u × IfSome found (λ c. IsAhead w u (change c).at))
+  stand_within w change s here found h = λ u there within.
+      alike s u here there (λ t. stands w s u t here there within.0 (none_between w s here change (TypeAt z) u found there h within.1))
 
 -- ---- two instants of the zone show the change of its types at their seconds
 pub around_by : {O : Type 0} {m : Meaning O} (law : Law m) (u : ℤ) (d e : Zoned O) → IsAt law (of_secs (u -ℤ pos 1) 0) d

@@ -1,7 +1,7 @@
 -- The instants that a zone gives are those of the types in force.
 use Rattle.offset_core.specs.declared.local_result.LocalResult.TheVariants.{Ambiguous, Single}
-use Rattle.zoned_ref.proofs.Words.{AreInstantsAt, AreTypesFor, HasInstant, LocalResult, LocalType, Option, Reading, SomeIff, Zone, Zoned, all_or_none, arith}
-use Rattle.zoned_ref.proofs.Words.{instant_of, one_wall_answer, refl, type_once, ℤ}
+use Rattle.zoned_ref.{specs.Instants.{AreInstantsAt, AreTypesFor}, proofs.Words.{HasInstant, LocalResult, LocalType, Option, Reading, SomeIff, Zone, Zoned}}
+use Rattle.zoned_ref.proofs.Words.{all_or_none, arith, instant_of, one_wall_answer, refl, type_once, ℤ}
 
 -- the instants of the types in force, if there is only one answer
 pub instants_for : (z : Zone) (l : Reading) (types : LocalResult LocalType) (instants : LocalResult (Zoned ℤ))

@@ -1,11 +1,11 @@
 -- A valid zone has one offset at each second that zones answer in.
 use Rattle.std.proofs.Math.Logic.{∥∥₁_elim}
-use Rattle.tz_info.specs.declared.rule.transition_rule.TransitionRule.TheVariants.{Alternate, Fixed}
-use Rattle.zoned_ref.proofs.Words.{All, Alternate as AlternateRule, AreOffsetsOf, Bool, Coded-set, HasOffset, HasOffsets, HasOneOffset, IsNarrow, IsRefusedBy}
-use Rattle.zoned_ref.proofs.Words.{IsRuleOrNone, IsTypeOf, IsTypeRefused, IsValid, IsWithinDay, IsZoneSecond, List, LocalType, None, Option, Some}
-use Rattle.zoned_ref.proofs.Words.{TransitionRule, TypeAt, Zone, arith, by_leap_time, by_rule, coded_ℤ, floor_div, inl, inr, ints, leap_times_answer, lies_in}
-use Rattle.zoned_ref.proofs.Words.{offset_at, offset_with, one_offset, refl, rule_types, rule_year, slice_get, subst, suc, type_decided, type_listed, type_when}
-use Rattle.zoned_ref.proofs.Words.{zero, ℕ, ℤ, [], ◌∙◌, ◌∷◌, ◌≡◌}
+use Rattle.tz_info.{specs.declared.rule.transition_rule.TransitionRule.TheVariants.{Alternate, Fixed}, proofs.Words.{Alternate as AlternateRule, IsRefusedBy}}
+use Rattle.tz_info.proofs.{Words.{IsTypeOf, IsTypeRefused, by_leap_time, by_rule, slice_get, type_when}, ForCallers.{leap_times_answer, rule_year, type_listed}}
+use Rattle.zoned_ref.{specs.Offsets.{HasOffset, HasOffsets, HasOneOffset}, proofs.Words.{All, AreOffsetsOf, Bool, Coded-set}}
+use Rattle.zoned_ref.proofs.Words.{IsNarrow, IsRuleOrNone, IsValid, IsWithinDay, IsZoneSecond, List, LocalType, None, Option, Some, TransitionRule, TypeAt}
+use Rattle.zoned_ref.proofs.Words.{Zone, arith, coded_ℤ, floor_div, inl, inr, ints, lies_in, offset_at, offset_with, one_offset, refl, rule_types, subst, suc}
+use Rattle.zoned_ref.proofs.Words.{type_decided, zero, ℕ, ℤ, [], ◌∙◌, ◌∷◌, ◌≡◌}
 
 -- a rule answers in the years of the range
 rule_not_refused : (rule : Option TransitionRule) (u : ℤ) → IsZoneSecond u → IsRefusedBy rule u → ⊥
@@ -16,7 +16,7 @@ rule_not_refused None u inside h = h
 
 pub not_refused : (z : Zone) (u : ℤ) → IsValid z → IsZoneSecond u → IsTypeRefused z u → ⊥
 not_refused z u valid inside (by_leap_time some refused) =
-    leap_times_answer z.leaps u valid.leaps (omega (arith, ints, inside)) (omega (arith, ints, inside)) refused
+    leap_times_answer z.leaps u valid.leaps (omega (arith, ints)) (omega (arith, ints)) refused
 not_refused z u valid inside (by_rule x of_second last refused) = rule_not_refused z.rule u inside refused
 
 pub zone_has_offsets : (z : Zone) → IsValid z → IsRuleOrNone z.rule → HasOffsets z
@@ -39,29 +39,30 @@ all_listed P [] i x h all = cc
 all_listed P (y ∷ xs) zero x h all = let same : y ≡ x = cc in subst P same (all 0 y (omega arith))
 all_listed P (y ∷ xs) (suc i) x h all = all_listed P xs i x h (λ k d l. all (suc k) d (omega arith))
 
-turn_has : (P : LocalType → Type 0) (a : AlternateRule) (dst : Bool) → All P (a.std ∷ a.dst ∷ []) → P (type_when a dst)
-turn_has P a dst all = grind arith
+module _ (P : LocalType → Type 0) where
+  turn_has : (a : AlternateRule) (dst : Bool) → All P (a.std ∷ a.dst ∷ []) → P (type_when a dst)
+  turn_has a dst all = grind arith
 
-rule_has : (P : LocalType → Type 0) (rule : Option TransitionRule) (u : ℤ) (t : LocalType) → All P (rule_types rule) → IsTypeOf rule u t → P t
-rule_has P rule u t all h = grind (arith, turn_has)
+  rule_has : (rule : Option TransitionRule) (u : ℤ) (t : LocalType) → All P (rule_types rule) → IsTypeOf rule u t → P t
+  rule_has rule u t all h = grind (arith, turn_has)
 
-type_has : (P : LocalType → Type 0) (z : Zone) (u : ℤ) (t : LocalType) → All P z.types → All P (rule_types z.rule) → TypeAt z u t → P t
-type_has P z u t types rule h = elim (type_listed z u t h) [
-  | inl k ↦ all_listed P z.types k.0 t k.2 types
-  | inr of_rule ↦ rule_has P z.rule u t rule of_rule
-]
+  type_has : (z : Zone) (u : ℤ) (t : LocalType) → All P z.types → All P (rule_types z.rule) → TypeAt z u t → P t
+  type_has z u t types rule h = elim (type_listed z u t h) [
+    | inl k ↦ all_listed P z.types k.0 t k.2 types
+    | inr of_rule ↦ rule_has z.rule u t rule of_rule
+  ]
 
--- in a narrow zone its offset is within a day
-pub type_within : (z : Zone) (u : ℤ) (t : LocalType) → IsNarrow z → TypeAt z u t → IsWithinDay t.offset
-type_within z u t narrow h = type_has (λ s. IsWithinDay s.offset) z u t narrow.types narrow.rule h
-
--- and if all have one offset, it is that
+-- if all have one offset, that is the zone's
 pub offset_alone : (z : Zone) (off : ℤ → ℤ) (k : ℤ) → AreOffsetsOf z off → HasOneOffset z k → (u : ℤ) → IsZoneSecond u → off u ≡ k
 offset_alone z off k of_zone one u inside =
     let there = of_zone u inside in there.offset ∙ type_has (λ s. s.offset ≡ k) z u there.type one.types one.rule there.in_force
+
+-- in a narrow zone each is within a day
+pub type_within : (z : Zone) (u : ℤ) (t : LocalType) → IsNarrow z → TypeAt z u t → IsWithinDay t.offset
+type_within z u t narrow h = type_has (λ s. IsWithinDay s.offset) z u t narrow.types narrow.rule h
 
 pub offset_within : (z : Zone) (u k : ℤ) → IsNarrow z → HasOffset z u k → IsWithinDay k
 offset_within z u k narrow h = rw h.offset (type_within z u h.type narrow h.in_force)
 
 pub offsets_within : (z : Zone) (some : ∥ HasOffsets z ∥₁) → HasOffsets z → IsNarrow z → (u : ℤ) → IsZoneSecond u → IsWithinDay (offset_at z some u)
-offsets_within z some has narrow u inside = offset_within z u (offset_at z some u) narrow (are_offsets z some has u inside)
+offsets_within z some has narrow u inside = grind (arith, are_offsets, offset_within)

@@ -1,55 +1,39 @@
 -- The wall clock's answer over all seconds of 64 bits is the one over the range that zones answer in: whoever shows a
 -- local date-time is less than a day away from it.
-use Rattle.offset_core.specs.declared.local_result.LocalResult.TheVariants.{Ambiguous, None, Single}
 use Rattle.zoned_ref.proofs.Words.{AreOffsetsOf, IsNarrow, IsWallAnswer, IsWallAnswer-map_of, IsWide, IsWithinDay, LocalResult, LocalType, SameLaw, TimeZoneRef}
-use Rattle.zoned_ref.proofs.Words.{TypeAt, Zone, ZoneOffset, arith, home_law, ints, law_of, map_of, meaning_of, off_of, same_itself, subst, sym, type_of}
-use Rattle.zoned_ref.proofs.Words.{zone_of, ℤ, ◌-ℤ◌, ◌≡◌}
-use Rattle.zoned_ref.proofs.{Days.{same_offset}, Offsets.{type_within}}
+use Rattle.zoned_ref.proofs.Words.{TypeAt, Zone, ZoneOffset, arith, home_law, ints, law_of, map_of, meaning_of, off_of, same_itself, type_of, zone_of, ℤ, ◌-ℤ◌}
+use Rattle.zoned_ref.proofs.{Words.{◌≡◌}, Days.{same_offset}, Offsets.{type_within}}
 use Rattle.tz_info.specs.WallClocks as types
 use Rattle.zoned_time.specs.Zone as offsets
 
-pub shown_by_type : (z : Zone) (off : ℤ → ℤ) (l : ℤ) → IsNarrow z → AreOffsetsOf z off → IsWide l → (u : ℤ) (t : LocalType) → types.Shows (TypeAt z) l u t
-    → offsets.ShowsByOffset off l u t.offset
-shown_by_type z off l narrow of_zone wide u t s = let day = type_within z u t narrow s.type in grind (arith, ints, same_offset z off u t of_zone)
-
-pub shown_by_offset : (z : Zone) (off : ℤ → ℤ) (l : ℤ) → AreOffsetsOf z off → (u k : ℤ) → offsets.ShowsByOffset off l u k
-    → (t : LocalType) × types.Shows (TypeAt z) l u t
-shown_by_offset z off l of_zone u k s = grind (arith, ints)
-
-pub zone_wall : (z : Zone) (off : ℤ → ℤ) (l : ℤ) → IsNarrow z → AreOffsetsOf z off → IsWide l → (answer : LocalResult LocalType)
-    → IsWallAnswer (types.Shows (TypeAt z) l) answer → IsWallAnswer (offsets.ShowsByOffset off l) (map_of (λ t. t.offset) answer)
-zone_wall z off l narrow of_zone wide =
-    IsWallAnswer-map_of (types.Shows (TypeAt z) l) (offsets.ShowsByOffset off l) (λ t. t.offset) (shown_by_type z off l narrow of_zone wide)
-    (shown_by_offset z off l of_zone)
-
--- each type of the answer is within a day
+-- in a narrow zone each type of the answer is within a day
 pub each_within : (z : Zone) (l : ℤ) → IsNarrow z → (answer : LocalResult LocalType) → IsWallAnswer (types.Shows (TypeAt z) l) answer
     → offsets.Each (λ t. IsWithinDay t.offset) answer
 each_within z l narrow answer wall = grind (arith, type_within)
 
--- which is in force at the second that shows l by it
+-- `off` shows the offsets of a narrow zone
+module _ (z : Zone) (off : ℤ → ℤ) (l : ℤ) (narrow : IsNarrow z) (of_zone : AreOffsetsOf z off) where
+  pub shown_by_offset : (u k : ℤ) → offsets.ShowsByOffset off l u k → (t : LocalType) × types.Shows (TypeAt z) l u t
+  shown_by_offset u k s = grind (arith, ints)
+
+  pub shown_by_type : IsWide l → (u : ℤ) (t : LocalType) → types.Shows (TypeAt z) l u t → offsets.ShowsByOffset off l u t.offset
+  shown_by_type wide u t s = let day = type_within z u t narrow s.type in grind (arith, ints, same_offset z off of_zone u t)
+
+  pub zone_wall : IsWide l → (answer : LocalResult LocalType)
+      → IsWallAnswer (types.Shows (TypeAt z) l) answer → IsWallAnswer (offsets.ShowsByOffset off l) (map_of (λ t. t.offset) answer)
+  zone_wall wide = IsWallAnswer-map_of (types.Shows (TypeAt z) l) (offsets.ShowsByOffset off l) (λ t. t.offset) (shown_by_type wide) shown_by_offset
+
+-- the type is in force at the second that shows l by it
 shown_in_force : (z : Zone) (l u : ℤ) (t : LocalType) → types.Shows (TypeAt z) l u t → TypeAt z (l -ℤ t.offset) t
 shown_in_force z l u t s = grind (arith, ints)
 
 -- an offset knows the zone that it came from
 pub same_law : (r : TimeZoneRef) (o : ZoneOffset) → o.zone ≡ r → SameLaw (home_law meaning_of o) (law_of r)
-same_law r o is = subst (λ s. SameLaw (law_of s) (law_of r)) (sym is) (same_itself (law_of r))
-
-pub of_zone : (r : TimeZoneRef) (z : Zone) → z ≡ zone_of r → AreOffsetsOf z (off_of r) → AreOffsetsOf (zone_of r) (off_of r)
-of_zone r z is h = subst (λ y. AreOffsetsOf y (off_of r)) is h
+same_law r o is = rw is (same_itself (law_of r))
 
 -- and their offsets are what the zone gives
 pub offsets_given : (r : TimeZoneRef) (l : ℤ) (given : LocalResult ZoneOffset) → AreOffsetsOf (zone_of r) (off_of r) → IsWide l
     → offsets.Each (λ o. o.zone ≡ r) given
     → IsWallAnswer (types.Shows (TypeAt (zone_of r)) l) (map_of type_of given) → offsets.AreOffsetsFor (law_of r) l given
-offsets_given r l None of_zone wide home wall = grind (arith, zone_wall)
-offsets_given r l (Single o) of_zone wide home wall = record {
-  wall = zone_wall (zone_of r) (off_of r) l r.narrow of_zone wide (Single (type_of o)) wall;
-  in_force = shown_in_force (zone_of r) l wall.second (type_of o) wall.shown;
-  same_home = same_law r o home;
-}
-offsets_given r l (Ambiguous o p) of_zone wide home wall = record {
-  wall = zone_wall (zone_of r) (off_of r) l r.narrow of_zone wide (Ambiguous (type_of o) (type_of p)) wall;
-  in_force = (shown_in_force (zone_of r) l wall.first (type_of o) wall.at_first, shown_in_force (zone_of r) l wall.last (type_of p) wall.at_last);
-  same_home = (same_law r o home.0, same_law r p home.1);
-}
+offsets_given r l given of_zone wide home wall =
+    let offsets = zone_wall (zone_of r) (off_of r) l r.narrow of_zone wide (map_of type_of given) wall in grind (arith, shown_in_force, same_law)

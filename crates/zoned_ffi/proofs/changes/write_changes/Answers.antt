@@ -1,6 +1,4 @@
-use Rattle.zoned_ffi.proofs.Words.{FitsSigned, append_assoc, arith, inl, inr, length-append}
-use Rattle.zoned_ffi.proofs.Words.{to_z-of_z, w64}
-use Rattle.zoned_ffi.proofs.ChangesWritten.{first_written, more_written, place_fits}
+use Rattle.zoned_ffi.proofs.{Words.{append_assoc, arith, inl, inr, length-append, to_z-of_z}, ChangesWritten.{first_written, more_written, place_fits}}
 use Rattle.zoned_ffi.proofs.changes.write_changes.Goals as goal
 
 pub overflow_add-count : goal.overflow_add-count
@@ -11,12 +9,12 @@ loop-change-preserved c = grind (arith, to_z-of_z, more_written, length-append, 
 
 pub returns-then-count-most : goal.returns-then-count-most
 returns-then-count-most c =
-    let from : FitsSigned w64 c.args.from = c.ranges.from in let until : FitsSigned w64 c.args.until = c.ranges.until in
+    let from = c.ranges.from in let until = c.ranges.until in
     let before = simp to_z-of_z at c.loop-change.invariant in
     first_written _ _ _ _ _ _ _ _ _ before.5 before.2 before.3 (inl c.if-count-most.true) before.4
 
 pub returns : goal.returns
 returns c =
-    let from : FitsSigned w64 c.args.from = c.ranges.from in let until : FitsSigned w64 c.args.until = c.ranges.until in
+    let from = c.ranges.from in let until = c.ranges.until in
     let before = simp to_z-of_z at c.loop-change.invariant in
     first_written _ _ _ _ _ _ _ _ _ before.5 before.2 before.3 (inr c.in-None.ensures.steps.0) before.4

@@ -1,7 +1,7 @@
-use Rattle.zoned_ffi.proofs.Words.{FitsSigned, inr, refl, to_z-of_z, w64}
+use Rattle.zoned_ffi.proofs.Words.{inr, refl, to_z-of_z}
 use Rattle.zoned_ffi.proofs.instants.next_offset.Goals as goal
 
 pub returns-in-Err-clause-written : goal.returns-in-Err-clause-written
 returns-in-Err-clause-written c =
-    let fits : FitsSigned w64 c.args.instant = c.ranges.instant in
+    let fits = c.ranges.instant in
     inr ((simp to_z-of_z at c.in-Err.ensures.found.0), refl)

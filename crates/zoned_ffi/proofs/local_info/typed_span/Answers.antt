@@ -6,4 +6,4 @@ pub unreachable-requires : goal.unreachable-requires
 unreachable-requires c =
     let fits = c.ranges.second in
     let refused = simp to_z-of_z at c.in-Err.ensures in
-    type_not_refused c.args.zone.now c.args.second c.args.local_type.now c.requires refused.0
+    type_not_refused _ c.args.second _ c.requires refused.0

@@ -1,5 +1,4 @@
-use Rattle.std.proofs.lemmas.Bool.{false≢true}
-use Rattle.std.proofs.lemmas.Bool.Decides.{nat_tests}
+use Rattle.std.proofs.lemmas.Bool.{false≢true, Decides.{nat_tests}}
 use Rattle.zoned_ffi.proofs.{LimitLaws.{above_by, none_above}, Words.{arith, inr, ◌<◌, ◌≡◌, ◌⊎◌}}
 use Rattle.zoned_ffi.proofs.opening.is_above_limits.Goals as goal
 

@@ -1,5 +1,4 @@
-use Rattle.zoned_ffi.proofs.{Words.{refl}, FaultLaws.{only_valid, only_zone}}
-use Rattle.zoned_ffi.specs.FaultPlaces.IsFaultPosition.{File_zone, String_zone}
+use Rattle.zoned_ffi.{proofs.{Words.{refl}, FaultLaws.{only_valid, only_zone}}, specs.FaultPlaces.IsFaultPosition.{File_zone, String_zone}}
 use Rattle.zoned_ffi.proofs.pins.fault_positions.Goals as goal
 
 pub returns : goal.returns

@@ -3,7 +3,7 @@ use Rattle.zoned_ffi.proofs.pins.limits.Goals as goal
 
 pub returns : goal.returns
 returns c = record {
-  text = λ bytes h. let is = h.of_file in absurd (omega (arith, is));
+  text = λ bytes h. absurd (omega arith);
   as_many = as_many;
   transition = more_transitions;
   leap_second = more_leap_seconds;

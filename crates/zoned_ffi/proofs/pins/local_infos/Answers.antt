@@ -1,12 +1,11 @@
-use Rattle.zoned_ffi.proofs.Words.{refl}
-use Rattle.zoned_ffi.specs.LocalInfos.{IsLocalInfo}
+use Rattle.zoned_ffi.{proofs.Words.{refl}, specs.LocalInfos.{IsLocalInfo}}
 use Rattle.zoned_ffi.proofs.pins.local_infos.Goals as goal
 
 pub returns-clause-never : goal.returns-clause-never
-returns-clause-never c = λ z local change a b skips before at. IsLocalInfo.never change skips refl before at
+returns-clause-never c z local change a b skips before at = IsLocalInfo.never change skips refl before at
 
 pub returns-clause-several : goal.returns-clause-several
-returns-clause-several c = λ z local s t a b shown first last. IsLocalInfo.several s t shown refl first last
+returns-clause-several c z local s t a b shown first last = IsLocalInfo.several s t shown refl first last
 
 pub returns-clause-once : goal.returns-clause-once
-returns-clause-once c = λ z local t a shown at. IsLocalInfo.once t shown refl at refl
+returns-clause-once c z local t a shown at = IsLocalInfo.once t shown refl at refl

@@ -1,5 +1,4 @@
-use Rattle.zoned_ffi.specs.Texts.{Not_open}
-use Rattle.zoned_ffi.proofs.Words.{inl}
+use Rattle.zoned_ffi.{specs.Texts.{Not_open}, proofs.Words.{inl}}
 use Rattle.zoned_ffi.proofs.pins.number_texts.Goals as goal
 
 pub returns-clause-closed : goal.returns-clause-closed

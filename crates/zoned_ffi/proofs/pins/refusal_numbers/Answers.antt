@@ -6,7 +6,7 @@ pub returns-clause-none_taken : goal.returns-clause-none_taken
 returns-clause-none_taken c = none_is
 
 pub returns-clause-gap : goal.returns-clause-gap
-returns-clause-gap c = λ z local n none. none.2 ∙ ap resolve_error_number (gap_is none.1.around none.0 none.1.taken)
+returns-clause-gap c z local n none = none.2 ∙ ap resolve_error_number (gap_is none.1.around none.0 none.1.taken)
 
 pub returns-clause-fold : goal.returns-clause-fold
-returns-clause-fold c = λ z local n none. none.2 ∙ ap resolve_error_number (fold_is none.1.around none.0 none.1.taken)
+returns-clause-fold c z local n none = none.2 ∙ ap resolve_error_number (fold_is none.1.around none.0 none.1.taken)

@@ -9,5 +9,5 @@ returns-clause-backward c z local change takes = IsTakenType.shifted_backward ch
 
 pub returns-clause-instant : goal.returns-clause-instant
 returns-clause-instant c z choice t taken is there =
-    let at : pos 1_615_689_000 -ℤ t.offset ≡ pos 1_615_703_400 = omega (arith, ints, is) in
+    let at : pos 1_615_689_000 -ℤ t.offset ≡ pos 1_615_703_400 = omega (arith, ints) in
     IsResolvedAt.found t (neg_ℤ (pos 18_000)) (omega arith, omega arith) taken (rw at (omega arith, omega arith)) (rw at there) (rw at refl)

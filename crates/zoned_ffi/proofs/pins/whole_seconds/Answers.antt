@@ -1,7 +1,6 @@
-use Rattle.zoned_ffi.proofs.Words.{arith, ints}
-use Rattle.zoned_ffi.specs.{Columns.{IsNoWholeSecondOf}, WholeSeconds.{IsNotFound}}
+use Rattle.zoned_ffi.{proofs.Words.{arith, ints}, specs.{Columns.{IsNoWholeSecondOf}, WholeSeconds.{IsNotFound}}}
 use Rattle.zoned_ffi.proofs.pins.whole_seconds.Goals as goal
 
 pub returns-clause-outside : goal.returns-clause-outside
 returns-clause-outside c z sought =
-    IsNoWholeSecondOf.not_found 23 (IsNotFound.out_of_range (λ inside. let high = inside.1 in omega (arith, ints, high)))
+    IsNoWholeSecondOf.not_found 23 (IsNotFound.out_of_range (λ inside. omega (arith, ints)))

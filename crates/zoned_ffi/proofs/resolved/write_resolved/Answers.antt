@@ -1,13 +1,13 @@
-use Rattle.zoned_ffi.proofs.{Words.{FitsSigned, IsResolvedAt, arith, get_or, length-set, pos, rules, to_z-of_z, w64, ◌∙◌}, Slices.{zip_more}}
+use Rattle.zoned_ffi.proofs.{Words.{Fits64, IsResolvedAt, arith, get_or, length-set, pos, rules, to_z-of_z, ◌∙◌}, Slices.{zip_more}}
 use Rattle.zoned_ffi.proofs.resolved.write_resolved.Goals as goal
 
 pub loop-i-preserved : goal.loop-i-preserved
 loop-i-preserved c =
     let at = c.loop-i in
-    let asked : FitsSigned w64 (get_or c.args.locals.now at.i (pos 0)) = search rules in
+    let asked : Fits64 (get_or c.args.locals.now at.i (pos 0)) = search rules in
     let same = at.invariant.0 in
     let told = rw same at (simp to_z-of_z at c.next.ensures.written) in (
       c.next.ensures.zone ∙ same,
       length-set at.resolved at.i c.next.result ∙ at.invariant.1,
-      zip_more (IsResolvedAt c.args.zone.now c.args.choice) c.args.locals.now at.resolved at.i c.next.result at.invariant.1 (omega arith) at.invariant.2 told,
+      zip_more (IsResolvedAt c.args.zone.now c.args.choice) _ _ at.i _ at.invariant.1 (omega arith) at.invariant.2 told,
     )

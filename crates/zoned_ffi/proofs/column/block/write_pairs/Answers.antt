@@ -1,36 +1,27 @@
-use Rattle.zoned_ffi.proofs.Words.{AreWritten, FitsSigned, IsWritten, and_parts, arith, drop, get_or, inr, length-set, pos, rules, slice_set, subst, take}
-use Rattle.zoned_ffi.proofs.Words.{to_z-of_z, w64, ◌+ℤ◌, ◌+◌, ◌∙◌, ◌≡◌}
+use Rattle.zoned_ffi.proofs.Words.{Fits64, IsWritten, and_parts, arith, get_or, inr, length-set, pos, rules, slice_set, to_z-of_z, ◌+ℤ◌, ◌+◌, ◌∙◌, ◌≡◌}
 use Rattle.zoned_ffi.proofs.Slices.{written_behind, zip_more}
 use Rattle.zoned_ffi.proofs.column.block.write_pairs.Goals as goal
 
 pub overflow_add-answers : goal.overflow_add-answers
 overflow_add-answers c =
-    let x : FitsSigned w64 (get_or c.args.times.now c.loop-row.row (pos 0)) = search rules in
-    let low : FitsSigned w64 c.kept_for-one.result.low = search rules in let high : FitsSigned w64 c.kept_for-one.result.high = search rules in
-    let add : FitsSigned w64 c.kept_for-one.result.add = search rules in
     let parts = and_parts c.has.result c.has-in-loop-row.result c.if-not-both.false in
     grind (arith, to_z-of_z, c.kept_for-one.ensures)
 
 pub overflow_add-answers-in-loop-row-2 : goal.overflow_add-answers-in-loop-row-2
 overflow_add-answers-in-loop-row-2 c =
-    let y : FitsSigned w64 (get_or c.args.times.now (c.loop-row.row + 1) (pos 0)) = search rules in
-    let low : FitsSigned w64 c.kept_for-other.result.low = search rules in let high : FitsSigned w64 c.kept_for-other.result.high = search rules in
-    let add : FitsSigned w64 c.kept_for-other.result.add = search rules in
     let parts = and_parts c.has.result c.has-in-loop-row.result c.if-not-both.false in
-    let there = (simp to_z-of_z at c.has-in-loop-row.ensures).0 parts.1 in
-    let fits = (c.kept_for-other.ensures (get_or c.args.times.now (c.loop-row.row + 1) (pos 0)) there.0 there.1).0.0 in
-    simp to_z-of_z fits
+    grind (arith, to_z-of_z, c.kept_for-other.ensures)
 
 pub loop-row-preserved : goal.loop-row-preserved
 loop-row-preserved c =
     let at = c.loop-row in let q = c.args.question in
-    let x : FitsSigned w64 (get_or c.args.times.now at.row (pos 0)) = search rules in
-    let y : FitsSigned w64 (get_or c.args.times.now (at.row + 1) (pos 0)) = search rules in
-    let low_one : FitsSigned w64 c.kept_for-one.result.low = search rules in
-    let high_one : FitsSigned w64 c.kept_for-one.result.high = search rules in let one : FitsSigned w64 c.kept_for-one.result.add = search rules in
-    let low_other : FitsSigned w64 c.kept_for-other.result.low = search rules in
-    let high_other : FitsSigned w64 c.kept_for-other.result.high = search rules in
-    let other : FitsSigned w64 c.kept_for-other.result.add = search rules in
+    let x : Fits64 (get_or c.args.times.now at.row (pos 0)) = search rules in
+    let y : Fits64 (get_or c.args.times.now (at.row + 1) (pos 0)) = search rules in
+    let low_one : Fits64 c.kept_for-one.result.low = search rules in
+    let high_one : Fits64 c.kept_for-one.result.high = search rules in let one : Fits64 c.kept_for-one.result.add = search rules in
+    let low_other : Fits64 c.kept_for-other.result.low = search rules in
+    let high_other : Fits64 c.kept_for-other.result.high = search rules in
+    let other : Fits64 c.kept_for-other.result.add = search rules in
     let parts = and_parts c.has.result c.has-in-loop-row.result c.if-not-both.false in
     let here = (simp to_z-of_z at c.has.ensures).0 parts.0 in
     let there = (simp to_z-of_z at c.has-in-loop-row.ensures).0 parts.1 in
@@ -47,8 +38,7 @@ loop-row-preserved c =
     simp to_z-of_z (
       length-set (slice_set at.answers at.row first) (at.row + 1) second ∙ long,
       omega arith,
-      subst (λ n. AreWritten q (take n c.args.times.now) (take n (slice_set (slice_set at.answers at.row first) (at.row + 1) second))) last both,
-      subst (λ n. drop n (slice_set (slice_set at.answers at.row first) (at.row + 1) second) ≡ drop n c.args.answers.now) last
-          (written_behind more c.args.answers.now (at.row + 1) second (written_behind at.answers c.args.answers.now at.row first at.invariant.3)),
-      omega (arith, at.invariant.4),
+      rw last at both,
+      rw last at (written_behind more c.args.answers.now (at.row + 1) second (written_behind at.answers c.args.answers.now at.row first at.invariant.3)),
+      omega arith,
     )

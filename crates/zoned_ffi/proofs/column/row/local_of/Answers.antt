@@ -1,18 +1,17 @@
-use Rattle.zoned_ffi.proofs.Words.{FitsSigned, IsTypeRefused, TypeAt, ap, no_type, per_second, pos, rules, subst, to_z-of_z, w32, w64, ℤ, ◌*ℤ◌, ◌∙◌}
-use Rattle.zoned_ffi.proofs.Columns.{looked_up}
+use Rattle.zoned_ffi.proofs.{Words.{Fits64, FitsSigned, ap, no_type, per_second, pos, rules, to_z-of_z, w32, ℤ, ◌*ℤ◌, ◌∙◌}, Columns.{looked_up}}
 use Rattle.zoned_ffi.proofs.column.row.local_of.Goals as goal
 
 pub returns-in-Ok : goal.returns-in-Ok
 returns-in-Ok c =
-    let x : FitsSigned w64 c.args.instant = c.ranges.instant in let u : FitsSigned w64 c.second_of.result = search rules in
-    let o : FitsSigned w32 c.offset.result = search rules in let n : FitsSigned w64 c.counts_of.result = search rules in
+    let x = c.ranges.instant in let u : Fits64 c.second_of.result = search rules in
+    let o : FitsSigned w32 c.offset.result = search rules in let n : Fits64 c.counts_of.result = search rules in
     let second = simp to_z-of_z at c.second_of.ensures in let found = simp to_z-of_z at c.in-Ok.ensures in
-    let in_force = subst (λ (v : ℤ). TypeAt c.args.zone.now v c.in-Ok.found.now) second found in
+    let in_force = rw second at found in
     let counts = (simp to_z-of_z at c.counts_of.ensures.value) ∙ ap (λ (k : ℤ). k *ℤ pos (per_second c.args.unit)) c.offset.ensures.value in
-    looked_up c.args.zone.now c.args.unit c.args.instant c.counts_of.result c.in-Ok.found.now c.added.result in_force counts (simp to_z-of_z at c.added.ensures)
+    looked_up _ _ _ _ c.in-Ok.found.now c.added.result in_force counts (simp to_z-of_z at c.added.ensures)
 
 pub returns-in-Err : goal.returns-in-Err
 returns-in-Err c =
-    let x : FitsSigned w64 c.args.instant = c.ranges.instant in let u : FitsSigned w64 c.second_of.result = search rules in
+    let x = c.ranges.instant in let u : Fits64 c.second_of.result = search rules in
     let second = simp to_z-of_z at c.second_of.ensures in let refused = simp to_z-of_z at c.in-Err.ensures.0 in
-    no_type (subst (λ (v : ℤ). IsTypeRefused c.args.zone.now v) second refused)
+    no_type (rw second at refused)

@@ -1,5 +1,4 @@
-use Rattle.std.specs.{declared.alloc.Global.{Global}, declared.option.Option.{Option}}
-use Rattle.std.specs.declared.option.Option.TheVariants.{None, Some}
+use Rattle.std.specs.declared.{alloc.Global.{Global}, option.Option.{Option, TheVariants.{None, Some}}}
 use Rattle.std_alloc.proofs.SendSync.{lies, quiet}
 use Rattle.zoned_ffi.proofs.Words.{IsSend, Keyless, Ptr, RawPtr, exits_of, fields, held, lone, owning_send, sendable, shape, shared_row, struct_send, to}
 use Rattle.zoned_ffi.specs.contracts.handle.Handle.{the_row, the_type}

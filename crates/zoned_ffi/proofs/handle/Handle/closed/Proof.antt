@@ -1,10 +1,10 @@
 -- `closed` makes a handle at null, which owns nothing.
 use Rattle.std.specs.{contracts.impls.GlobalAllocator.TheImpl.{ghosts}, declared.option.Option.TheVariants.{None}}
-use Rattle.zoned_ffi.proofs.Words.{Goes-dropped, List, SProp, Stays, Val, WpFn, agg, alloc_all, and_then, by, emp, ent, enter, fact, fact_i, fjoin, fpack}
-use Rattle.zoned_ffi.proofs.Words.{free_all, fsep, fsplit, ftrue, get, handle_tells, id⊢, keep, leaves, lit, look_at, move, no_more, nothing, null_ptr}
-use Rattle.zoned_ffi.proofs.Words.{pass_all, plain, proved_at, ptr_val, qed, raw, refl, returns, sets, split, stay_dropped, subst, suffices, sym, tables, use0}
+use Rattle.zoned_ffi.proofs.Words.{Goes-dropped, List, SProp, Stays, Val, WpFn, agg, alloc_all, and_then, by, emp, enter, fact, fact_i, fjoin, fpack}
+use Rattle.zoned_ffi.proofs.Words.{free_all, fsep, fsplit, ftrue, get, handle_tells, keep, leaves, lit, look_at, move, no_more, nothing, null_ptr}
+use Rattle.zoned_ffi.proofs.Words.{pass_all, plain, proved_at, ptr_val, qed, raw, refl, returns, sets, split, stay_dropped, suffices, tables, use0}
 use Rattle.zoned_ffi.proofs.Words.{walk_of, yes, !, [], ‵, ◌$◌, ◌++◌, ◌∵◌, ◌∷◌, ◌≡◌, ◌⊛◌}
-use Rattle.zoned_ffi.proofs.{Handles.{LZ, R, Z, handle_in, null_fits}, Slots.{allocator, two}, handle.Handle.closed.Statement.{statement}}
+use Rattle.zoned_ffi.proofs.{Handles.{LZ, R, Z, handle_in, null_fits}, Slots.{allocator, same_run, two}, handle.Handle.closed.Statement.{statement}}
 use Rattle.zoned_ffi.specs.contracts.handle.Handle.closed as f
 use Rattle.zoned_ffi.proofs.handle.Handle.closed.Code as code
 
@@ -16,7 +16,7 @@ closed_spec 𝓤 𝓛 𝓜 𝓡 wired =
     let a = z.0.3.0 in let Post : Val → SProp 𝓤 = (walk_of 𝓛 f.ended stays c).post z in let Run : List Val → SProp 𝓤 = λ ws. WpFn 𝓤 H 𝓣.C 𝓣.Λ fn ws Post in
     qed 𝓛 ((‵ ftrue ⊛ ‵ (fsep (Z.own_val a z.0.4.0) ftrue)) ∷ ‵ ftrue ∷ []) ∵ split ! $ move ! (1 ∷ []) $ fsplit ! $
     handle_tells (allocator R Z LZ ghosts) ! a z.0.4.0 (λ h ws fits. let w : Val = two (ptr_val null_ptr) h in let typed = null_fits h fits in
-    suffices ! (Run (h ∷ [])) (subst (λ (us : List Val). ent 𝓤 (Run (h ∷ [])) (Run us)) (sym (λ i. ws i ++ [])) (id⊢ 𝓤 (Run (h ∷ [])))) $
+    suffices ! (Run (h ∷ [])) (same_run 𝓤 Run (λ i. ws i ++ [])) $
     enter ! 𝓣.C 𝓣.Λ fn (h ∷ []) Post $ alloc_all ! (λ l. pass_all ! refl (fits, tt) $
     sets ! (agg ! (and_then ! (lit ! tt) (and_then ! (get ! refl) (no_more !)))) refl typed $
     nothing ! $ fpack ! (null_ptr ≡ null_ptr) (λ _. ftrue) refl $ handle_in ! null_ptr h a None $

@@ -1,10 +1,10 @@
 -- `from_slot` keeps the pointer of the slot, and forgets its type.
 use Rattle.std.specs.{contracts.impls.GlobalAllocator.TheImpl.{ghosts}, declared.option.Option.TheVariants.{Some}}
-use Rattle.zoned_ffi.proofs.Words.{Goes-dropped, List, RattleType, SProp, Stays, Val, WpFn, agg, alloc_all, and_then, block_ptr, by, emp, ent, enter, fact}
-use Rattle.zoned_ffi.proofs.Words.{fact_i, fjoin, fld, free_all, fsep, fsplit, ftrue, get, get_in, id⊢, keep, leaves, look_at, move, no_more, nothing, of_opd}
-use Rattle.zoned_ffi.proofs.Words.{pass_all, plain, proved_at, qed, raw, refl, returns, sets, split, stay_dropped, stop, sub, subst, suffices, sym, tables}
+use Rattle.zoned_ffi.proofs.Words.{Goes-dropped, List, RattleType, SProp, Stays, Val, WpFn, agg, alloc_all, and_then, block_ptr, by, emp, enter, fact}
+use Rattle.zoned_ffi.proofs.Words.{fact_i, fjoin, fld, free_all, fsep, fsplit, ftrue, get, get_in, keep, leaves, look_at, move, no_more, nothing, of_opd}
+use Rattle.zoned_ffi.proofs.Words.{pass_all, plain, proved_at, qed, raw, refl, returns, sets, split, stay_dropped, stop, sub, suffices, tables}
 use Rattle.zoned_ffi.proofs.Words.{use0, vptr, walk_of, whole, yes, !, [], ‵, ◌$◌, ◌++◌, ◌∵◌, ◌∷◌, ◌≡◌, ◌⊛◌}
-use Rattle.zoned_ffi.proofs.{Handles.{LZ, R, Z, handle_in}, Slots.{Slot, slot_fits, slot_out, two}, handle.Handle.from_slot.Statement.{statement}}
+use Rattle.zoned_ffi.proofs.{Handles.{LZ, R, Z, handle_in}, Slots.{Slot, same_run, slot_fits, slot_out, two}, handle.Handle.from_slot.Statement.{statement}}
 use Rattle.zoned_ffi.specs.contracts.handle.Handle.from_slot as f
 use Rattle.zoned_ffi.proofs.handle.Handle.from_slot.Code as code
 
@@ -17,7 +17,7 @@ from_slot_spec 𝓤 𝓛 𝓜 𝓡 wired =
     let Run : List Val → SProp 𝓤 = λ ws. WpFn 𝓤 H 𝓣.C 𝓣.Λ fn ws Post in
     qed 𝓛 ((‵ ftrue ⊛ ‵ (fsep (Sl.own_val v z.0.4.0) ftrue)) ∷ ‵ ftrue ∷ []) ∵ split ! $ move ! (1 ∷ []) $ fsplit ! $
     slot_out R Z LZ ghosts ! v z.0.4.0 (λ b o h e ws fits. let w : Val = two (vptr b o) h in let typed = slot_fits R Z LZ ghosts b o h fits in
-    suffices ! (Run (w ∷ [])) (subst (λ (us : List Val). ent 𝓤 (Run (w ∷ [])) (Run us)) (sym (λ i. ws i ++ [])) (id⊢ 𝓤 (Run (w ∷ [])))) $
+    suffices ! (Run (w ∷ [])) (same_run 𝓤 Run (λ i. ws i ++ [])) $
     enter ! 𝓣.C 𝓣.Λ fn (w ∷ []) Post $ alloc_all ! (λ l. pass_all ! refl (typed, tt) $
     sets ! (of_opd ! (get_in ! (fld ! refl (stop !)) (sub ! 0 refl (whole !)))) refl (tt, tt) $
     sets ! (of_opd ! (get_in ! (fld ! refl (stop !)) (sub ! 1 refl (whole !)))) refl fits $

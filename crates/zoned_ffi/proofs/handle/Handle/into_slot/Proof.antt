@@ -1,12 +1,11 @@
 -- `into_slot` tests the pointer, and gives the slot back if there is one.
 use Rattle.std.specs.{contracts.impls.GlobalAllocator.TheImpl.{ghosts}, declared.option.Option.TheVariants.{None, Some}}
 use Rattle.zoned_ffi.proofs.Words.{Goes-dropped, Good, List, Ptr, RattleType, SProp, Some-of, Stays, Val, WpFn, after, agg, alloc_all, and_then, and_tt, ap}
-use Rattle.zoned_ffi.proofs.Words.{at_ret, bin, block_ptr, branches, by, emp, ent, enter, env, exec, fact, fact_i, first, fjoin, fld, free_all, fsep, fsplit}
-use Rattle.zoned_ffi.proofs.Words.{ftrue, get, get_in, id⊢, keep, layout, leaves, lit, lit<, live, look_at, move, no_more, none_of, nothing, null_ptr, of_opd}
-use Rattle.zoned_ffi.proofs.Words.{pass_all, plain, proved_at, ptr_val, qed, raw, refl, returns, sets, sets_last, split, stay_dropped, stop, sub, subst}
-use Rattle.zoned_ffi.proofs.Words.{suffices, sym, tables, tests_null, type_at, use0, use1, vcons, vnil, vptr, walk_of, whole, yes, !, [], ‵, ◌$◌, ◌++◌, ◌∙◌}
-use Rattle.zoned_ffi.proofs.Words.{◌∵◌, ◌∷◌, ◌≡◌, ◌⊛◌}
-use Rattle.zoned_ffi.proofs.{Handles.{Hd, LZ, R, Z, handle_out, null_fits, null_fits_word, null_or_block}, Slots.{Slot, slot_fits, slot_in, two}}
+use Rattle.zoned_ffi.proofs.Words.{at_ret, bin, block_ptr, branches, by, emp, enter, env, exec, fact, fact_i, first, fjoin, fld, free_all, fsep, fsplit, ftrue}
+use Rattle.zoned_ffi.proofs.Words.{get, get_in, keep, layout, leaves, lit, lit<, live, look_at, move, no_more, none_of, nothing, null_ptr, of_opd, pass_all}
+use Rattle.zoned_ffi.proofs.Words.{plain, proved_at, ptr_val, qed, raw, refl, returns, sets, sets_last, split, stay_dropped, stop, sub, suffices, tables}
+use Rattle.zoned_ffi.proofs.Words.{tests_null, type_at, use0, use1, vcons, vnil, vptr, walk_of, whole, yes, !, [], ‵, ◌$◌, ◌++◌, ◌∙◌, ◌∵◌, ◌∷◌, ◌≡◌, ◌⊛◌}
+use Rattle.zoned_ffi.proofs.{Handles.{Hd, LZ, R, Z, handle_out, null_fits, null_fits_word, null_or_block}, Slots.{Slot, same_run, slot_fits, slot_in, two}}
 use Rattle.zoned_ffi.proofs.handle.Handle.into_slot.Statement.{statement}
 use Rattle.zoned_ffi.specs.contracts.handle.Handle.into_slot as f
 use Rattle.zoned_ffi.proofs.handle.Handle.into_slot.Code as code
@@ -22,7 +21,7 @@ into_slot_spec 𝓤 𝓛 𝓜 𝓡 wired =
     handle_out ! v z.0.4.0 (λ h ws fits. null_or_block ! a v.at v.shared
     (λ e none. let w : Val = two (ptr_val null_ptr) h in let typed = null_fits h fits in
     let is : z.0.4.0 ≡ w ∷ [] = ws ∙ ap (λ (p : Ptr). two (ptr_val p) h ∷ []) e in
-    suffices ! (Run (w ∷ [])) (subst (λ (us : List Val). ent 𝓤 (Run (w ∷ [])) (Run us)) (sym (λ i. is i ++ [])) (id⊢ 𝓤 (Run (w ∷ [])))) $
+    suffices ! (Run (w ∷ [])) (same_run 𝓤 Run (λ i. is i ++ [])) $
     enter ! 𝓣.C 𝓣.Λ fn (w ∷ []) Post $ alloc_all ! (λ l. pass_all ! refl (typed, tt) $ let Ev = env fn.locals l in
     sets ! (of_opd ! (get_in ! (fld ! refl (stop !)) (sub ! 0 refl (whole !)))) refl (tt, null_fits_word) $
     sets ! (of_opd ! (get_in ! (fld ! refl (stop !)) (sub ! 1 refl (whole !)))) refl fits $
@@ -39,7 +38,7 @@ into_slot_spec 𝓤 𝓛 𝓜 𝓡 wired =
     let u : Val = live 1 (vcons w vnil) in let d : Sl.Denot = record { at = block_ptr b o; alloc = a; value = x } in
     let good : Good (layout Out) u = (and_tt _ typed.0, (record { fits = lit< tt }, (typed.1, tt))) in
     move ! (0 ∷ 1 ∷ []) $ slot_in R Z LZ ghosts ! b o h a x $ use1 𝓛 (‵ (Out.own_val (Some d) (u ∷ []))) (Some-of 𝓛 Sl d w) $
-    suffices ! (Run (w ∷ [])) (subst (λ (us : List Val). ent 𝓤 (Run (w ∷ [])) (Run us)) (sym (λ i. is i ++ [])) (id⊢ 𝓤 (Run (w ∷ [])))) $
+    suffices ! (Run (w ∷ [])) (same_run 𝓤 Run (λ i. is i ++ [])) $
     enter ! 𝓣.C 𝓣.Λ fn (w ∷ []) Post $ alloc_all ! (λ l. pass_all ! refl (typed, tt) $ let Ev = env fn.locals l in
     sets ! (of_opd ! (get_in ! (fld ! refl (stop !)) (sub ! 0 refl (whole !)))) refl (tt, tt) $
     sets ! (of_opd ! (get_in ! (fld ! refl (stop !)) (sub ! 1 refl (whole !)))) refl fits $

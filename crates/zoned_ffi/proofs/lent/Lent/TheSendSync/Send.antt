@@ -1,5 +1,4 @@
-use Rattle.std.specs.declared.option.Option.{Option}
-use Rattle.std.specs.declared.option.Option.TheVariants.{None, Some}
+use Rattle.std.specs.declared.option.Option.{Option, TheVariants.{None, Some}}
 use Rattle.std_alloc.proofs.SendSync.{quiet, seen}
 use Rattle.zoned_ffi.proofs.Words.{IsSend, Keyless, Ptr, RawPtr, exits_of, fields, lent, owning_send, sendable, shape, shared_row, struct_send, to, ℕ, [], ◌∷◌}
 use Rattle.zoned_ffi.specs.contracts.lent.Lent.{the_row, the_type}

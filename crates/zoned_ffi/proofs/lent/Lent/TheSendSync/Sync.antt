@@ -1,5 +1,4 @@
-use Rattle.zoned_ffi.proofs.{Words.{IsSync, part_keyless}, lent.Lent.TheSendSync.Send.{send}}
-use Rattle.zoned_ffi.specs.contracts.lent.Lent.{the_row}
+use Rattle.zoned_ffi.{proofs.{Words.{IsSync, part_keyless}, lent.Lent.TheSendSync.Send.{send}}, specs.contracts.lent.Lent.{the_row}}
 
 -- a `&` to it is a part of all that it has, and that may cross
 pub sync : IsSync the_row

@@ -1,13 +1,13 @@
 -- `share` reads the pointer, tests it, and lends the value there for as long as the handle is lent. Assumes `Logic`.
 use Rattle.std.specs.declared.option.Option.TheVariants.{None, Some}
-use Rattle.zoned_ffi.proofs.Words.{Bor, Goes-dropped, Lft, List, Ptr, RattleType, RefOf, SProp, Share, ShrRef, Some-of, Stays, Val, addr, after, agg, alloc_all}
-use Rattle.zoned_ffi.proofs.Words.{and_then, at_ret, bin, block_ptr, blocks, branches, by, cell_at, emp, enter, env, exec, fact, fact_i, feq_i, first, fjoin}
-use Rattle.zoned_ffi.proofs.Words.{fld, flft, free_all, fsplit, ftrue, get, hide, join, keep, leaves, lit, lit<, live, load, look_at, look_in, move, named}
-use Rattle.zoned_ffi.proofs.Words.{no_more, none_of, nothing, of_opd, owns, pass_all, plain, proved, qed, raw, refl, returns, returns_within, rewrite, sets}
-use Rattle.zoned_ffi.proofs.Words.{sets_last, shr_Tells, shr_vals, skips, split, stay_dropped, stop, sub, sym, tables, tests_null, through, types_at, use0}
-use Rattle.zoned_ffi.proofs.Words.{use1, vcons, vnil, vptr, walk_of, whole, yes, ℕ, !, [], ‵, ◌$◌, ◌∵◌, ◌∷◌, ◌≡◌, ◌⊛◌}
-use Rattle.zoned_ffi.proofs.{Lending.{Le, R, null_or_lent, read, reads, word}, lent.Lent.share.Statement.{statement}}
-use types.Kit.{drop}
+use denote.Ref.{ShrRef, shr_Tells, shr_vals}
+use types.{Run.{addr, load, returns_within, skips}, Kit.{drop}}
+use Rattle.zoned_ffi.proofs.Words.{Bor, Goes-dropped, Lft, List, Ptr, RattleType, RefOf, SProp, Share, Some-of, Stays, Val, after, agg, alloc_all, and_then}
+use Rattle.zoned_ffi.proofs.Words.{at_ret, bin, block_ptr, blocks, branches, by, cell_at, emp, enter, env, exec, fact, fact_i, feq_i, first, fjoin, fld, flft}
+use Rattle.zoned_ffi.proofs.Words.{free_all, fsplit, ftrue, get, hide, join, keep, leaves, lit, lit<, live, look_at, look_in, move, named, no_more, none_of}
+use Rattle.zoned_ffi.proofs.Words.{nothing, of_opd, owns, pass_all, plain, proved, qed, raw, refl, returns, rewrite, sets, sets_last, split, stay_dropped, stop}
+use Rattle.zoned_ffi.proofs.Words.{sub, sym, tables, tests_null, through, types_at, use0, use1, vcons, vnil, vptr, walk_of, whole, yes, ℕ, !, [], ‵, ◌$◌, ◌∵◌}
+use Rattle.zoned_ffi.proofs.{Words.{◌∷◌, ◌≡◌, ◌⊛◌}, Lending.{Le, R, null_or_lent, read, reads, word}, lent.Lent.share.Statement.{statement}}
 use Rattle.std.specs.contracts.option.Option as OP
 use Rattle.zoned_ffi.specs.contracts.lent.Lent.share as f
 use Rattle.zoned_ffi.proofs.lent.Lent.share.Code as code

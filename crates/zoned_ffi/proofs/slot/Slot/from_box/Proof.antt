@@ -2,13 +2,12 @@
 use Rattle.core.proofs.alloc.Calls.{Goes-blank, handle_tells}
 use Rattle.std_alloc.proofs.{BoxSteps.Steps.{box_in, box_out}, boxed.Box.into_raw_with_allocator.Met.{met}}
 use Rattle.zoned_ffi.proofs.Words.{List, Ptr, RattleType, RawPtr, SProp, Stays, Tuple, Val, WpFn, a_type, agg, alloc_all, and_then, ap, await, block_ptr}
-use Rattle.zoned_ffi.proofs.Words.{bounded, by, calls_at, dcons, dnil, emp, ent, enter, fact, fact_i, feq_l, fjoin, fld, flft, fpick, framed, free_all, fsep}
-use Rattle.zoned_ffi.proofs.Words.{fsplit, fst∗, ftrue, get, get_in, heard, id⊢, in_a_block, inst_fn, join, keep, lands_as, later, layout, leaves, look_at}
-use Rattle.zoned_ffi.proofs.Words.{move, never, no, no_more, nothing, null_ptr, of_list, of_opd, only, owns, param, param_laws, pass_all, pick, plain}
-use Rattle.zoned_ffi.proofs.Words.{proved_at, ptr_val, qed, raw, refl, returns, rewrite, sem, sets, some, split, split3, stay_dropped, stop, sub, subst}
-use Rattle.zoned_ffi.proofs.Words.{suffices, sym, tables, triple_of, types_at, use0, use1, vptr, vstruct, walk_of, whole, !, [], ‵, ◌$◌, ◌++◌, ◌∙◌, ◌∵◌, ◌∷◌}
-use Rattle.zoned_ffi.proofs.Words.{◌≡◌, ◌⊛◌}
-use Rattle.zoned_ffi.proofs.{Slots.{block, slot_fits, slot_in, two}, slot.Slot.from_box.Statement.{statement}}
+use Rattle.zoned_ffi.proofs.Words.{bounded, by, calls_at, dcons, dnil, emp, enter, fact, fact_i, feq_l, fjoin, fld, flft, fpick, framed, free_all, fsep, fsplit}
+use Rattle.zoned_ffi.proofs.Words.{fst∗, ftrue, get, get_in, heard, id⊢, in_a_block, inst_fn, join, keep, lands_as, later, layout, leaves, look_at, move, never}
+use Rattle.zoned_ffi.proofs.Words.{no, no_more, nothing, null_ptr, of_list, of_opd, only, owns, param, param_laws, pass_all, pick, plain, proved_at, ptr_val}
+use Rattle.zoned_ffi.proofs.Words.{qed, raw, refl, returns, rewrite, sem, sets, some, split, split3, stay_dropped, stop, sub, suffices, tables, triple_of}
+use Rattle.zoned_ffi.proofs.{Words.{types_at, use0, use1, vptr, vstruct, walk_of, whole, !, [], ‵, ◌$◌, ◌++◌, ◌∙◌, ◌∵◌, ◌∷◌, ◌≡◌, ◌⊛◌}, Slots.{block, same_run}}
+use Rattle.zoned_ffi.proofs.{Slots.{slot_fits, slot_in, two}, slot.Slot.from_box.Statement.{statement}}
 use mir.Raw.{raw as bare}
 use types.Kit.{drop}
 use Rattle.std_alloc.proofs.BoxSteps.Form as box
@@ -35,7 +34,7 @@ from_box_spec 𝓤 𝓛 𝓜 𝓡 wired T A L LA g d dx dd allocator glue glued 
     let k = triple_of 𝓛 (taken.signature T A g d dd dx) (taken.spec T A g d dd dx 𝓛 𝓜.mem 𝓡.returns) in
     let y : k.Ghost = ((κs, qs, tt, (boxed, tt), (w ∷ [], tt)), tt) in
     fjoin ! $ move ! (1 ∷ 0 ∷ []) $ join ! $ join ! $ use1 𝓛 (raw (k.pre y)) (id⊢ 𝓤 _) $
-    suffices ! (Run (w ∷ [])) (subst (λ (us : List Val). ent 𝓤 (Run (w ∷ [])) (Run us)) (sym (λ i. ws i ++ [])) (id⊢ 𝓤 (Run (w ∷ [])))) $
+    suffices ! (Run (w ∷ [])) (same_run 𝓤 Run (λ i. ws i ++ [])) $
     enter ! 𝓣.C 𝓣.Λ fn (w ∷ []) Post $ alloc_all ! (λ l. pass_all ! refl (typed, tt) $ sets ! (of_opd ! (get ! refl)) refl typed $
     calls_at ! (framed 𝓤 H 𝓜 𝓣) k (met 𝓤 𝓛 𝓜 𝓡 (code.calls-std_alloc::boxed::Box::into_raw_with_allocator 𝓡.env wired) T A L LA g d dd dx allocator glued glue)
     y (and_then ! (get ! refl) (no_more !)) (λ u.

@@ -1,13 +1,12 @@
 -- `into_box` takes the slot apart, and makes the box of its parts.
-use Rattle.core.proofs.{alloc.Calls.{Goes-blank}, alloc.Shapes.{after}, cell.Inside.{Good}}
+use Rattle.core.proofs.{alloc.{Calls.{Goes-blank}, Shapes.{after}}, cell.Inside.{Good}}
 use Rattle.std_alloc.proofs.{BoxSteps.Steps.{box_in, box_out}, boxed.Box.from_raw.Met.{met}}
 use Rattle.zoned_ffi.proofs.Words.{Lasts, List, RattleType, SProp, Stays, Val, WpFn, a_type, alloc_all, and_then, ap, at_ret, await, block_ptr, blocks, bounded}
-use Rattle.zoned_ffi.proofs.Words.{by, calls_at_last, dcons, dnil, ent, enter, env, exec, fact, feq_i, first, fjoin, fld, flft, framed, free_all, fsplit, ftrue}
-use Rattle.zoned_ffi.proofs.Words.{get, get_in, id⊢, inst_fn, join, keep, lands_last, lasts, later, layout, leaves, look_at, move, no, no_more, nothing, of_opd}
+use Rattle.zoned_ffi.proofs.Words.{by, calls_at_last, dcons, dnil, enter, env, exec, fact, feq_i, first, fjoin, fld, flft, framed, free_all, fsplit, ftrue, get}
+use Rattle.zoned_ffi.proofs.Words.{get_in, id⊢, inst_fn, join, keep, lands_last, lasts, later, layout, leaves, look_at, move, no, no_more, nothing, of_opd}
 use Rattle.zoned_ffi.proofs.Words.{only, owns, param, param_laws, pass_all, pick, plain, proved_at, qed, raw, refl, returns, rewrite, sets, some, split, split3}
 use Rattle.zoned_ffi.proofs.Words.{stay_dropped, stop, sub, subst, suffices, sym, tables, triple_of, types_at, use1, vptr, walk_of, whole, !, [], ‵, ◌$◌, ◌++◌}
-use Rattle.zoned_ffi.proofs.Words.{◌∵◌, ◌∷◌, ◌≡◌, ◌⊑◌, ◌⊛◌}
-use Rattle.zoned_ffi.proofs.{Slots.{Slot, slot_fits, slot_out, two}, slot.Slot.into_box.Statement.{statement}}
+use Rattle.zoned_ffi.proofs.{Words.{◌∵◌, ◌∷◌, ◌≡◌, ◌⊑◌, ◌⊛◌}, Slots.{Slot, same_run, slot_fits, slot_out, two}, slot.Slot.into_box.Statement.{statement}}
 use types.Kit.{drop}
 use Rattle.std_alloc.proofs.BoxSteps.Form as box
 use Rattle.std_alloc.specs.contracts.boxed.Box.from_raw as made
@@ -37,7 +36,7 @@ into_box_spec 𝓤 𝓛 𝓜 𝓡 wired T A L LA g d dx dd allocator glue glued 
     ! (1 ∷ 2 ∷ []) $ join ! $ move ! (1 ∷ 0 ∷ []) $ join ! $
     move ! (2 ∷ []) $ feq_i ! (List Val) (vptr b o ∷ []) (vptr b o ∷ []) refl $ fjoin ! $ move ! (2 ∷ 0 ∷ []) $ fjoin ! $ move ! (2 ∷ 0 ∷ []) $ join ! $ join !
     $ use1 𝓛 (raw (k.pre y)) (id⊢ 𝓤 _) $
-    suffices ! (Run (w ∷ [])) (subst (λ (us : List Val). ent 𝓤 (Run (w ∷ [])) (Run us)) (sym (λ i. ws i ++ [])) (id⊢ 𝓤 (Run (w ∷ [])))) $
+    suffices ! (Run (w ∷ [])) (same_run 𝓤 Run (λ i. ws i ++ [])) $
     enter ! 𝓣.C 𝓣.Λ fn (w ∷ []) Post $ alloc_all ! (λ l. pass_all ! refl (typed, tt) $ let locals = env fn.locals l in
     sets ! (of_opd ! (get_in ! (fld ! refl (stop !)) (sub ! 0 refl (whole !)))) refl (tt, tt) $ sets !
     (of_opd ! (get_in ! (fld ! refl (stop !)) (sub ! 1 refl (whole !)))) refl fits $

@@ -1,20 +1,14 @@
-use Rattle.std.proofs.Common.{List, refl, sym, ℕ, ◌≡◌}
+use Rattle.zoned_ref.{proofs.Words.{arith}, specs.{KeepError.{IsRefused}, Offsets.{IsNarrow}, OpenError.{IsNotOpened, reason_of}}}
+use Rattle.zoned_ref.specs.declared.keep_error.KeepError.{KeepError, TheVariants.{OutOfMemory, WideZone}}
+use Rattle.std.proofs.Common.{List, ℕ, ◌≡◌}
+use Rattle.tz_info.specs.{TzFiles.{IsTzFile, IsZoneFault.{No_memory}}, Zones.{IsValid, Zone}}
 use Rattle.tz_base.specs.declared.error.Error.TheVariants as faults
-use Rattle.tz_info.specs.TzFiles.{IsTzFile}
-use Rattle.tz_info.specs.TzFiles.IsZoneFault.{No_memory}
-use Rattle.tz_info.specs.Zones.{IsValid, Zone}
-use Rattle.zoned_ref.specs.KeepError.{IsRefused}
-use Rattle.zoned_ref.specs.Offsets.{IsNarrow}
-use Rattle.zoned_ref.specs.OpenError.{IsNotOpened, reason_of}
-use Rattle.zoned_ref.specs.declared.keep_error.KeepError.{KeepError}
-use Rattle.zoned_ref.specs.declared.keep_error.KeepError.TheVariants.{OutOfMemory, WideZone}
 use Rattle.zoned_ref.specs.declared.keep_error.OpenError.TheVariants as why
 use Rattle.zoned_ref.proofs.kept_zone.KeptZone.open.Goals as goal
 
 -- a narrow zone is refused only if memory ran out
 out_of_memory : (z : Zone) (e : KeepError) → IsRefused z e → IsNarrow z → reason_of e ≡ why.Zone faults.OutOfMemory
-out_of_memory z (WideZone back) refused narrow = absurd (refused.1 narrow)
-out_of_memory z (OutOfMemory back) refused narrow = refl
+out_of_memory z e refused narrow = grind arith
 
 not_opened : (bytes : List ℕ) (z : Zone) (e : KeepError) → IsTzFile bytes z → IsValid z → IsRefused z e → IsNotOpened bytes (reason_of e)
 not_opened bytes z (WideZone back) file valid refused = (z, file, valid, refused.1)
@@ -22,8 +16,7 @@ not_opened bytes z (OutOfMemory back) file valid refused = No_memory file.0 file
 
 pub returns-in-Err-keep-clause-only : goal.returns-in-Err-keep-clause-only
 returns-in-Err-keep-clause-only c z file valid narrow =
-    let same : c.in-Ok.parsed ≡ z = c.in-Ok.ensures.only z file valid in
-    rw c.from.ensures (out_of_memory c.in-Ok.parsed c.in-Err-keep.refused c.in-Err-keep.ensures.kept (rw same narrow))
+    rw c.from.ensures (out_of_memory c.in-Ok.parsed c.in-Err-keep.refused c.in-Err-keep.ensures.kept (rw (c.in-Ok.ensures.only z file valid) narrow))
 
 pub returns-in-Err-keep-clause-fault : goal.returns-in-Err-keep-clause-fault
 returns-in-Err-keep-clause-fault c =

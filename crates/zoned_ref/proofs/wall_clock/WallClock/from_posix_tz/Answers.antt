@@ -1,6 +1,5 @@
-use Rattle.zoned_ref.proofs.Words.{IsWallClockOf, Zone, reading, subst}
 use Rattle.zoned_ref.proofs.wall_clock.WallClock.from_posix_tz.Goals as goal
 
 pub returns-in-Ok-clause-only : goal.returns-in-Ok-clause-only
-returns-in-Ok-clause-only c = λ z of_text.
-    subst (λ (y : Zone). IsWallClockOf y (reading c.args.local.now) c.in_zone.result) (c.in-Ok.ensures.only z of_text) c.in_zone.ensures.told
+returns-in-Ok-clause-only c z of_text =
+    rw (← c.in-Ok.ensures.only z of_text) c.in_zone.ensures.told
