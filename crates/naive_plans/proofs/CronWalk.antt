@@ -14,7 +14,7 @@ pub record IsLeft (c : Cron) (day : ℤ) (second minute : ℕ) : Type 0 where
   pub left : (k : ℕ) → IsCronTime c day k → second ≤ k → minute * 60 ≤ k
 
 pub all_left : (c : Cron) (day : ℤ) (second : ℕ) → IsLeft c day second ((second + 59) / 60)
-all_left c day second = record { later = omega arith; left = λ k h from. let whole = h.whole in omega arith }
+all_left c day second = record { later = omega arith; left = λ k h from. omega arith }
 
 pub found : (c : Cron) (day : ℤ) (second minute : ℕ) → minute < 1440 → IsLeft c day second minute → IsCronDay c day → IsCronMinute c minute
     → IsFirstSecondFrom (IsCronTime c day) second (minute * 60)
@@ -29,10 +29,9 @@ found c day second minute short h on at =
 
 pub passed : (c : Cron) (day : ℤ) (second minute : ℕ) → IsLeft c day second minute → (IsCronMinute c minute → ⊥) → IsLeft c day second (minute + 1)
 passed c day second minute h not = record {
-  later = let later = h.later in omega arith;
+  later = omega arith;
   left = λ k planned from.
-      let least = h.left k planned from in let whole = planned.whole in
-      let other : k ≡ minute * 60 → ⊥ = λ same. not (let is : k / 60 ≡ minute = omega arith in rw is at planned.at) in grind (arith, other);
+      let least = h.left k planned from in let other : k ≡ minute * 60 → ⊥ = λ same. not (let is : k / 60 ≡ minute = omega arith in rw is at planned.at) in grind (arith, other);
 }
 
 pub none : (c : Cron) (day : ℤ) (second : ℕ) → IsLeft c day second 1440 → HasNoSecondFrom (IsCronTime c day) second
@@ -45,7 +44,7 @@ longest b m = grind (arith, nat_tests)
 pub no_date : (c : Cron) (day : ℤ) → c.either ≡ false → ListsNoDateBefore c 13 → IsCronDay c day → ⊥
 no_date c day both none on =
     let listed = rw both at on.listed in let is = (date_is day).0 in let days = longest (is_leap (year_of day)) (month_of day) in
-    none (month_of day) (day_of_month day) (omega (arith, is)) (omega (arith, is)) (omega (arith, is)) (omega (arith, is, days)) on.month listed.0
+    none (month_of day) (day_of_month day) (omega arith) (omega arith) (omega arith) (omega arith) on.month listed.0
 
 pub no_date_by_either : (c : Cron) (day : ℤ) → (c.either ≡ false → ⊥) → ListsNoDateBefore c 13 → (IsTrue (get_or c.weekdays (weekday_of day) false) → ⊥)
     → IsCronDay c day → ⊥
@@ -53,7 +52,7 @@ no_date_by_either c day either none week on =
     let is = (date_is day).0 in let days = longest (is_leap (year_of day)) (month_of day) in
     let both : c.either ≡ true = grind (arith, either) in
     elim (rw both at on.listed) [
-      | inl month ↦ none (month_of day) (day_of_month day) (omega (arith, is)) (omega (arith, is)) (omega (arith, is)) (omega (arith, is, days)) on.month month
+      | inl month ↦ none (month_of day) (day_of_month day) (omega arith) (omega arith) (omega arith) (omega arith) on.month month
       | inr other ↦ week other
     ]
 
@@ -67,21 +66,19 @@ pub record IsLeftBefore (c : Cron) (day : ℤ) (second left : ℕ) : Type 0 wher
 pub found_last : (c : Cron) (day : ℤ) (second left : ℕ) → IsLeftBefore c day second (left + 1) → IsCronDay c day → IsCronMinute c left
     → IsLastSecondUntil (IsCronTime c day) second (left * 60)
 found_last c day second left h on at =
-    let is : left * 60 / 60 ≡ left = omega arith in let short = h.short in let not_later = h.not_later in
-    record {
+    let is : left * 60 / 60 ≡ left = omega arith in record {
       planned = record { on = on; whole = omega arith; at = rw is at };
       not_after = omega arith;
       in_day = omega arith;
-      greatest = λ k in_day planned come. let below = h.before k in_day planned come in let whole = planned.whole in omega arith;
+      greatest = λ k in_day planned come. let below = h.before k in_day planned come in omega arith;
     }
 
 pub passed_back : (c : Cron) (day : ℤ) (second left : ℕ) → IsLeftBefore c day second (left + 1) → (IsCronMinute c left → ⊥) → IsLeftBefore c day second left
 passed_back c day second left h not = record {
-  short = let short = h.short in omega arith;
-  not_later = let not_later = h.not_later in omega arith;
+  short = omega arith;
+  not_later = omega arith;
   before = λ k in_day planned come.
-      let below = h.before k in_day planned come in let whole = planned.whole in
-      let other : k ≡ left * 60 → ⊥ = λ same. not (let is : k / 60 ≡ left = omega arith in rw is at planned.at) in grind (arith, other);
+      let below = h.before k in_day planned come in let other : k ≡ left * 60 → ⊥ = λ same. not (let is : k / 60 ≡ left = omega arith in rw is at planned.at) in grind (arith, other);
 }
 
 pub none_back : (c : Cron) (day : ℤ) (second : ℕ) → IsLeftBefore c day second 0 → HasNoSecondUntil (IsCronTime c day) second

@@ -21,7 +21,7 @@ pub none_on_day : (on : ℤ → ℕ → Type 0) (before day : ℤ) (from : ℕ) 
     → IsLeft (IsPlannedOnItsDay on) before (day +ℤ pos 1) 0
 none_on_day on before day from h none = record {
   in_day = omega arith;
-  later = let later = h.later in let in_day = h.in_day in omega (arith, ints);
+  later = let later = h.later in omega (arith, ints);
   left = λ m planned later. let least = h.left m planned later in
       by_lt_z day (floor_div m 86_400) (λ more. omega (arith, ints, floors))
       (λ not. absurd (none (floor_mod m 86_400) (omega (arith, ints, floors)) (on_its_day on day m (omega (arith, ints, floors)) planned)
@@ -31,13 +31,12 @@ none_on_day on before day from h none = record {
 pub at_end : (plan : ℤ → Type 0) (before day : ℤ) → IsWideDay day → (IsWideDay (day +ℤ pos 1) → ⊥) → IsLeft plan before (day +ℤ pos 1) 0
     → HasNoneAfter plan before
 at_end plan before day wide out h m inside planned later =
-    let least = h.left m planned later in out (omega (arith, ints, wide, inside), omega (arith, ints, wide, inside))
+    let least = h.left m planned later in out (omega (arith, ints), omega (arith, ints))
 
 pub found_on_day : (on : ℤ → ℕ → Type 0) (before day : ℤ) (from s : ℕ) → IsLeft (IsPlannedOnItsDay on) before day from → IsFirstSecondFrom (on day) from s
     → IsNextAfter (IsPlannedOnItsDay on) before (day *ℤ pos 86_400 +ℤ pos s)
 found_on_day on before day from s h first =
-    let l : ℤ = day *ℤ pos 86_400 +ℤ pos s in let in_day = first.in_day in let not_before = first.not_before in
-    let is_day : floor_div l 86_400 ≡ day = omega (arith, ints, floors) in
+    let l : ℤ = day *ℤ pos 86_400 +ℤ pos s in let in_day = first.in_day in let is_day : floor_div l 86_400 ≡ day = omega (arith, ints, floors) in
     let is_second : floor_mod l 86_400 ≡ s = omega (arith, ints, floors) in
     record {
       planned = rw (is_day, is_second) first.planned;
@@ -62,9 +61,8 @@ pub none_back : (on : ℤ → ℕ → Type 0) (until day : ℤ) (to : ℕ) → I
     → IsLeftBefore (IsPlannedOnItsDay on) until (day -ℤ pos 1) 86_399
 none_back on until day to h none = record {
   in_day = omega arith;
-  not_later = let not_later = h.not_later in omega (arith, ints);
-  left = λ m planned come. let most = h.left m planned come in let in_day = h.in_day in
-      by_lt_z (floor_div m 86_400) day (λ less. omega (arith, ints, floors))
+  not_later = omega (arith, ints);
+  left = λ m planned come. let most = h.left m planned come in by_lt_z (floor_div m 86_400) day (λ less. omega (arith, ints, floors))
       (λ not. absurd (none (floor_mod m 86_400) (omega (arith, ints, floors)) (on_its_day on day m (omega (arith, ints, floors)) planned)
       (omega (arith, ints, floors))));
 }
@@ -72,19 +70,18 @@ none_back on until day to h none = record {
 pub at_start : (plan : ℤ → Type 0) (until day : ℤ) → IsWideDay day → (IsWideDay (day -ℤ pos 1) → ⊥) → IsLeftBefore plan until (day -ℤ pos 1) 86_399
     → HasNoneUntil plan until
 at_start plan until day wide out h m inside planned come =
-    let most = h.left m planned come in out (omega (arith, ints, wide, inside), omega (arith, ints, wide, inside))
+    let most = h.left m planned come in out (omega (arith, ints), omega (arith, ints))
 
 pub last_on_day : (on : ℤ → ℕ → Type 0) (until day : ℤ) (to s : ℕ) → IsLeftBefore (IsPlannedOnItsDay on) until day to → IsLastSecondUntil (on day) to s
     → IsLastUntil (IsPlannedOnItsDay on) until (day *ℤ pos 86_400 +ℤ pos s)
 last_on_day on until day to s h last =
-    let l : ℤ = day *ℤ pos 86_400 +ℤ pos s in let in_day = last.in_day in let not_after = last.not_after in
+    let l : ℤ = day *ℤ pos 86_400 +ℤ pos s in let not_after = last.not_after in
     let is_day : floor_div l 86_400 ≡ day = omega (arith, ints, floors) in
     let is_second : floor_mod l 86_400 ≡ s = omega (arith, ints, floors) in
     record {
       planned = rw (is_day, is_second) last.planned;
-      not_after = let not_later = h.not_later in omega (arith, ints);
-      greatest = λ m inside planned come. let most = h.left m planned come in let short = h.in_day in
-          by_lt_z (floor_div m 86_400) day (λ less. omega (arith, ints, floors))
+      not_after = omega (arith, ints);
+      greatest = λ m inside planned come. let most = h.left m planned come in by_lt_z (floor_div m 86_400) day (λ less. omega (arith, ints, floors))
           (λ not. let greatest = last.greatest (floor_mod m 86_400) (omega (arith, ints, floors)) (on_its_day on day m (omega (arith, ints, floors)) planned)
           (omega (arith, ints, floors)) in omega (arith, ints, floors));
     }

@@ -22,48 +22,46 @@ rises r a b le = period_rises r.frequency (weekday_number r.week_start) a b le
 
 -- ---- the one before
 occasion_is_wide : (r : RecurrenceRule) (start l : ℤ) → neg_ℤ (pos 62_167_219_200) ≤ℤ start → IsOccasion r start l → l <ℤ pos 253_402_300_800 → IsWide l
-occasion_is_wide r start l low one short = let early = after_all r start l one in (omega (arith, ints, low, early), omega (arith, ints, short))
+occasion_is_wide r start l low one short = let early = after_all r start l one in (omega (arith, ints), omega (arith, ints))
 
 pub none_before : (r : RecurrenceRule) (start time : ℤ) → neg_ℤ (pos 62_167_219_200) ≤ℤ start → time <ℤ pos 253_402_300_800
     → HasNoneUntil (IsOccasion r start) (time -ℤ pos 1) → HasNoneUpTo (around r start time) (time -ℤ pos 1)
-none_before r start time low short none m own come = none m (occasion_is_wide r start m low own.occasion (omega (arith, ints, come, short))) own.occasion come
+none_before r start time low short none m own come = none m (occasion_is_wide r start m low own.occasion (omega (arith, ints))) own.occasion come
 
 pub before_in_period : (r : RecurrenceRule) (start time last : ℤ) (found : Option ℤ) → neg_ℤ (pos 62_167_219_200) ≤ℤ start → time <ℤ pos 253_402_300_800
     → IsLastUntil (IsOccasion r start) (time -ℤ pos 1) last
     → MatchOption found (own_period r last ≡ own_period r time → ⊥) (λ l. (l ≡ last) × (own_period r last ≡ own_period r time))
     → MatchOption found (HasNoneUpTo (around r start time) (time -ℤ pos 1)) (λ l. IsLastUpTo (around r start time) (time -ℤ pos 1) l)
 before_in_period r start time last None low short own other = λ m one come.
-    let most = own.greatest m (occasion_is_wide r start m low one.occasion (omega (arith, ints, come, short))) one.occasion come in
-    let up = own.not_after in let early = rises r m last most in let late = rises r last time (omega (arith, ints, up)) in let same = one.same in
-    other (omega (arith, ints, early, late, same))
+    let most = own.greatest m (occasion_is_wide r start m low one.occasion (omega (arith, ints))) one.occasion come in
+    let early = rises r m last most in let late = rises r last time (omega (arith, ints)) in let same = one.same in
+    other (omega (arith, ints, same))
 before_in_period r start time last (Some l) low short own is = record {
   one = record { occasion = rw is.0 own.planned; same = rw is.0 is.1 };
-  not_after = let up = own.not_after in omega (arith, ints, up, is.0);
+  not_after = omega (arith, ints);
   greatest = λ m one come.
-      let most = own.greatest m (occasion_is_wide r start m low one.occasion (omega (arith, ints, come, short))) one.occasion come in omega
-      (arith, ints, most, is.0);
+      let most = own.greatest m (occasion_is_wide r start m low one.occasion (omega (arith, ints))) one.occasion come in omega (arith, ints);
 }
 
 -- ---- the one after
 pub none_after : (r : RecurrenceRule) (start time from end : ℤ) → from ≡ time +ℤ pos 1 → end ≡ time +ℤ pos 31_708_800
     → HasNoneBetween (IsOccasion r start) from end → HasNoneLeft (around r start time) time
 none_after r start time from end is_from is_end none m own later =
-    by_lt_z m end (λ less. none m own.occasion (omega (arith, ints, later, is_from)) less)
-    (λ not. let long = long_before r.frequency (weekday_number r.week_start) time m (omega (arith, ints, is_end, not)) in let same = own.same in
-    omega (arith, ints, long, same))
+    by_lt_z m end (λ less. none m own.occasion (omega (arith, ints)) less)
+    (λ not. let long = long_before r.frequency (weekday_number r.week_start) time m (omega (arith, ints, not)) in let same = own.same in
+    omega (arith, ints, same))
 
 pub after_in_period : (r : RecurrenceRule) (start time from end next : ℤ) (found : Option ℤ) → from ≡ time +ℤ pos 1
     → IsFirstBetween (IsOccasion r start) from end next
     → MatchOption found (own_period r next ≡ own_period r time → ⊥) (λ l. (l ≡ next) × (own_period r next ≡ own_period r time))
     → MatchOption found (HasNoneLeft (around r start time) time) (λ l. IsFirstAfter (around r start time) time l)
 after_in_period r start time from end next None is_from own other = λ m one later.
-    let least = own.least m one.occasion (omega (arith, ints, later, is_from)) in let come = own.not_before in
-    let late = rises r next m least in let early = rises r time next (omega (arith, ints, come, is_from)) in let same = one.same in
-    other (omega (arith, ints, early, late, same))
+    let least = own.least m one.occasion (omega (arith, ints)) in let late = rises r next m least in let early = rises r time next (omega (arith, ints)) in let same = one.same in
+    other (omega (arith, ints, same))
 after_in_period r start time from end next (Some l) is_from own is = record {
   one = record { occasion = rw is.0 own.one; same = rw is.0 is.1 };
-  after = let come = own.not_before in omega (arith, ints, come, is.0, is_from);
-  least = λ m one later. let least = own.least m one.occasion (omega (arith, ints, later, is_from)) in omega (arith, ints, least, is.0);
+  after = omega (arith, ints);
+  least = λ m one later. let least = own.least m one.occasion (omega (arith, ints)) in omega (arith, ints);
 }
 
 -- ---- the nth time before
@@ -72,29 +70,29 @@ member set zero l h = h.0
 member set (suc n) l h = h.2
 
 one_before : (set : ℤ → Type 0) (n : ℕ) (l k : ℤ) → set l → IsLastUpTo set (l -ℤ pos 1) k → HasBefore set (suc n) l ↔ HasBefore set n k
-one_before set n l k one last = let up = last.not_after in (
-  λ h. let less = h.3 in let most = last.greatest h.0 (member set n h.0 h.1) (omega (arith, ints, less)) in
-      let same : h.0 ≡ k = by_lt_z h.0 k (λ more. absurd (let le = h.4 k last.one more in omega (arith, ints, le, up)))
-      (λ not. omega (arith, ints, not, most)) in
+one_before set n l k one last = (
+  λ h. let less = h.3 in let most = last.greatest h.0 (member set n h.0 h.1) (omega (arith, ints)) in
+      let same : h.0 ≡ k = by_lt_z h.0 k (λ more. absurd (let le = h.4 k last.one more in omega (arith, ints)))
+      (λ not. omega (arith, ints, not)) in
       rw same at h.1,
   λ h. (
     k,
     h,
     one,
-    omega (arith, ints, up),
+    omega (arith, ints),
     λ m own later.
-        by_lt_z m l (λ less. absurd (let most = last.greatest m own (omega (arith, ints, less)) in omega (arith, ints, most, later))) (λ not. not),
+        by_lt_z m l (λ less. absurd (let most = last.greatest m own (omega (arith, ints)) in omega (arith, ints))) (λ not. not),
   ),
 )
 
 pub is_first : (set : ℤ → Type 0) (l : ℤ) → set l → HasNoneUpTo set (l -ℤ pos 1) → HasBefore set zero l
-is_first set l one none = (one, λ m own. by_lt_z m l (λ less. absurd (none m own (omega (arith, ints, less)))) (λ not. not))
+is_first set l one none = (one, λ m own. by_lt_z m l (λ less. absurd (none m own (omega (arith, ints)))) (λ not. not))
 
 pub not_later : (set : ℤ → Type 0) (n : ℕ) (l : ℤ) → HasNoneUpTo set (l -ℤ pos 1) → HasBefore set (suc n) l → ⊥
-not_later set n l none h = let less = h.3 in none h.0 (member set n h.0 h.1) (omega (arith, ints, less))
+not_later set n l none h = none h.0 (member set n h.0 h.1) (omega (arith, ints))
 
 pub not_first : (set : ℤ → Type 0) (l k : ℤ) → IsLastUpTo set (l -ℤ pos 1) k → HasBefore set zero l → ⊥
-not_first set l k last h = let le = h.1 k last.one in let up = last.not_after in omega (arith, ints, le, up)
+not_first set l k last h = let le = h.1 k last.one in omega (arith, ints)
 
 -- `count` times come before `time` if and only if `left` come before `first`
 pub record IsAsFar (r : RecurrenceRule) (start time : ℤ) (count left : ℕ) (first : ℤ) : Type 0 where
@@ -109,20 +107,20 @@ pub one_step : (r : RecurrenceRule) (start time first before : ℤ) (count left 
     → IsLastUpTo (around r start first) (first -ℤ pos 1) before → IsAsFar r start time count (left - 1) before
 one_step r start time first before count left h some own =
     let last : IsLastUpTo (around r start time) (first -ℤ pos 1) before = rw h.one.same at own in
-    let is : left ≡ suc (left - 1) = omega (arith, some) in
+    let is : left ≡ suc (left - 1) = omega arith in
     let step = one_before (around r start time) (left - 1) first before h.one last in
     let same : HasBefore (around r start time) count time ↔ HasBefore (around r start time) (suc (left - 1)) first = rw is at h.same in
     record {
       same = (λ n. step.0 (same.0 n), λ n. same.1 (step.1 n));
       one = last.one;
-      not_after = let up = last.not_after in let low = h.not_after in omega (arith, ints, up, low);
+      not_after = omega (arith, ints);
     }
 
 pub none_so_far : (r : RecurrenceRule) (start time first : ℤ) (count left : ℕ) → IsAsFar r start time count left first → 0 < left
     → HasNoneUpTo (around r start first) (first -ℤ pos 1) → HasBefore (around r start time) count time → ⊥
 none_so_far r start time first count left h some own has =
     let none : HasNoneUpTo (around r start time) (first -ℤ pos 1) = rw h.one.same at own in
-    let is : left ≡ suc (left - 1) = omega (arith, some) in
+    let is : left ≡ suc (left - 1) = omega arith in
     not_later (around r start time) (left - 1) first none (rw is at (h.same.0 has))
 
 pub all_passed : (r : RecurrenceRule) (start time first : ℤ) (count left : ℕ) (found : Option ℤ) (none : Bool) → IsAsFar r start time count left first
@@ -146,8 +144,8 @@ member_of set (suc n) l h = h.2
 one_after : (set : ℤ → Type 0) (n : ℕ) (l k : ℤ) → set l → IsFirstAfter set l k → HasAfter set (suc n) l ↔ HasAfter set n k
 one_after set n l k one first = let later = first.after in (
   λ h. let more = h.3 in let least = first.least h.0 (member_of set n h.0 h.1) more in
-      let same : h.0 ≡ k = by_lt_z k h.0 (λ less. absurd (let le = h.4 k first.one less in omega (arith, ints, le, later)))
-      (λ not. omega (arith, ints, not, least)) in
+      let same : h.0 ≡ k = by_lt_z k h.0 (λ less. absurd (let le = h.4 k first.one less in omega (arith, ints)))
+      (λ not. omega (arith, ints, not)) in
       rw same at h.1,
   λ h. (
     k,
@@ -155,7 +153,7 @@ one_after set n l k one first = let later = first.after in (
     one,
     later,
     λ m own less.
-        by_lt_z l m (λ more. absurd (let least = first.least m own more in omega (arith, ints, least, less))) (λ not. not),
+        by_lt_z l m (λ more. absurd (let least = first.least m own more in omega (arith, ints))) (λ not. not),
   ),
 )
 
@@ -166,7 +164,7 @@ not_earlier : (set : ℤ → Type 0) (n : ℕ) (l : ℤ) → HasNoneLeft set l �
 not_earlier set n l none h = none h.0 (member_of set n h.0 h.1) h.3
 
 not_last : (set : ℤ → Type 0) (l k : ℤ) → IsFirstAfter set l k → HasAfter set zero l → ⊥
-not_last set l k first h = let le = h.1 k first.one in let later = first.after in omega (arith, ints, le, later)
+not_last set l k first h = let le = h.1 k first.one in omega (arith, ints)
 
 -- `count` times come after `time` if and only if `left` come after `last`
 pub record IsAsFarOn (r : RecurrenceRule) (start time : ℤ) (count left : ℕ) (last : ℤ) : Type 0 where
@@ -180,26 +178,26 @@ as_far_on r start time count one = record { same = (λ h. h, λ h. h); one = rec
 pub near_on : (r : RecurrenceRule) (start time : ℤ) (count left : ℕ) (last : ℤ) → IsAsFarOn r start time count left last → last <ℤ (time +ℤ pos 31_708_800)
 near_on r start time count left last h =
     by_lt_z last (time +ℤ pos 31_708_800) (λ less. less)
-    (λ not. let long = long_before r.frequency (weekday_number r.week_start) time last not in let same = h.one.same in absurd (omega (arith, ints, long, same)))
+    (λ not. let long = long_before r.frequency (weekday_number r.week_start) time last not in let same = h.one.same in absurd (omega (arith, ints, same)))
 
 pub one_step_on : (r : RecurrenceRule) (start time last after : ℤ) (count left : ℕ) → IsAsFarOn r start time count left last → 0 < left
     → IsFirstAfter (around r start last) last after → IsAsFarOn r start time count (left - 1) after
 one_step_on r start time last after count left h some own =
     let first : IsFirstAfter (around r start time) last after = rw h.one.same at own in
-    let is : left ≡ suc (left - 1) = omega (arith, some) in
+    let is : left ≡ suc (left - 1) = omega arith in
     let step = one_after (around r start time) (left - 1) last after h.one first in
     let same : HasAfter (around r start time) count time ↔ HasAfter (around r start time) (suc (left - 1)) last = rw is at h.same in
     record {
       same = (λ n. step.0 (same.0 n), λ n. same.1 (step.1 n));
       one = first.one;
-      not_before = let later = first.after in let low = h.not_before in omega (arith, ints, later, low);
+      not_before = omega (arith, ints);
     }
 
 pub none_so_far_on : (r : RecurrenceRule) (start time last : ℤ) (count left : ℕ) → IsAsFarOn r start time count left last → 0 < left
     → HasNoneLeft (around r start last) last → HasAfter (around r start time) count time → ⊥
 none_so_far_on r start time last count left h some own has =
     let none : HasNoneLeft (around r start time) last = rw h.one.same at own in
-    let is : left ≡ suc (left - 1) = omega (arith, some) in
+    let is : left ≡ suc (left - 1) = omega arith in
     not_earlier (around r start time) (left - 1) last none (rw is at (h.same.0 has))
 
 pub all_passed_on : (r : RecurrenceRule) (start time last : ℤ) (count left : ℕ) (found : Option ℤ) (none : Bool) → IsAsFarOn r start time count left last
@@ -220,8 +218,8 @@ nth_before : (set : ℤ → Type 0) (n : ℤ) (l : ℤ) (before : ℕ) → n ≡
 nth_before set n l before is = (
   λ h. inl (before, is, h),
   λ h. elim h [
-    | inl own ↦ let same : own.0 ≡ before = let other = own.1 in omega (arith, ints, is, other) in rw same at own.2
-    | inr own ↦ absurd (let other = own.1 in omega (arith, ints, is, other))
+    | inl own ↦ let same : own.0 ≡ before = omega (arith, ints) in rw same at own.2
+    | inr own ↦ absurd (omega (arith, ints))
   ],
 )
 
@@ -229,15 +227,15 @@ nth_after : (set : ℤ → Type 0) (n : ℤ) (l : ℤ) (after : ℕ) → n ≡ n
 nth_after set n l after is = (
   λ h. inr (after, is, h),
   λ h. elim h [
-    | inl own ↦ absurd (let other = own.1 in omega (arith, ints, is, other))
-    | inr own ↦ let same : own.0 ≡ after = let other = own.1 in omega (arith, ints, is, other) in rw same at own.2
+    | inl own ↦ absurd (omega (arith, ints))
+    | inr own ↦ let same : own.0 ≡ after = omega (arith, ints) in rw same at own.2
   ],
 )
 
 pub not_zeroth : (set : ℤ → Type 0) (n l : ℤ) → (pos 1 ≤ℤ n → ⊥) → (n ≤ℤ neg_ℤ (pos 1) → ⊥) → IsNth set n l → ⊥
 not_zeroth set n l no_front no_end h = elim h [
-  | inl own ↦ no_front (let other = own.1 in omega (arith, ints, other))
-  | inr own ↦ no_end (let other = own.1 in omega (arith, ints, other))
+  | inl own ↦ no_front (omega (arith, ints))
+  | inr own ↦ no_end (omega (arith, ints))
 ]
 
 pub told_before : (set : ℤ → Type 0) (n l : ℤ) (before : ℕ) (told : Bool) → n ≡ pos (before + 1)
@@ -249,6 +247,6 @@ pub told_after : (set : ℤ → Type 0) (n l : ℤ) (after : ℕ) (told : Bool) 
 told_after set n l after told is own = let same = nth_after set n l after is in (λ yes. same.0 (own.0 yes), λ nth. own.1 (same.1 nth))
 
 pub any_default : (xs : List ℤ) (i : ℕ) (d e : ℤ) → i < length xs → get_or xs i d ≡ get_or xs i e
-any_default [] i d e less = absurd (omega (arith, less))
+any_default [] i d e less = absurd (omega arith)
 any_default (x ∷ xs) zero d e less = refl
-any_default (x ∷ xs) (suc i) d e less = any_default xs i d e (omega (arith, less))
+any_default (x ∷ xs) (suc i) d e less = any_default xs i d e (omega arith)

@@ -24,8 +24,7 @@ counts_here r start second first period last is_first is_period own same = rw (s
 pub not_counted : (r : RecurrenceRule) (start second first period last : ℤ) → first ≡ own_period r start → period ≡ own_period r second
     → IsLastPeriod r.interval first period last → (last ≡ period → ⊥) → IsCounted r start second → ⊥
 not_counted r start second first period last is_first is_period own other counted =
-    let most = own.greatest (own_period r second) (rw is_first counted) (omega (arith, ints, is_period)) in let up = own.not_after in
-    other (omega (arith, ints, is_period, most, up))
+    let most = own.greatest (own_period r second) (rw is_first counted) (omega (arith, ints)) in other (omega (arith, ints))
 
 pub starts_later : (r : RecurrenceRule) (start second first period last next s : ℤ) → first ≡ own_period r start → period ≡ own_period r second
     → IsLastPeriod r.interval first period last → (last ≡ period → ⊥) → next ≡ last +ℤ pos r.interval
@@ -42,14 +41,12 @@ starts_later r start second first period last next s is_first is_period own othe
 }
 
 pub last_bounds : (n : ℕ) (first period last : ℤ) → IsLastPeriod n first period last → IsPeriod first → IsPeriod period → IsPeriod last
-last_bounds n first period last own low high = let is = own.counts.is in let up = own.not_after in let least = low.0 in let most = high.1 in
-    (omega (arith, ints, is, least), omega (arith, ints, up, most))
+last_bounds n first period last own low high = (omega (arith, ints), omega (arith, ints))
 
 pub later_bounds : (n by : ℕ) (least first period last next : ℤ) → IsLastPeriod n first period last → least ≤ℤ first → IsPeriod period
     → next ≡ last +ℤ pos by → by < 4_294_967_296 → (least ≤ℤ next) × (next ≤ℤ pos 400_000_000_000)
 later_bounds n by least first period last next own low high is_next small =
-    let is = own.counts.is in let up = own.not_after in let most = high.1 in
-    (omega (arith, ints, is, low, is_next), omega (arith, ints, up, most, is_next, small))
+    (omega (arith, ints), omega (arith, ints))
 
 -- ---- within a day
 pub hour_skipped : (r : RecurrenceRule) (start day : ℤ) (second : ℕ) → second < 86_400 → (HasHour r (floor_mod start 86_400) second → ⊥)
@@ -84,7 +81,7 @@ period_skipped r start day l s second next is own later from = record {
   in_day = later.1;
   none = λ k in_day on le.
       let other : second ≡ k → ⊥ = λ same. own.not_here (rw is (rw same on.counts)) in
-      from k in_day (grind (arith, other)) (own.none (day *ℤ pos 86_400 +ℤ pos k) on.counts (omega (arith, ints, is, le)));
+      from k in_day (grind (arith, other)) (own.none (day *ℤ pos 86_400 +ℤ pos k) on.counts (omega (arith, ints)));
 }
 
 -- ---- days
@@ -110,28 +107,27 @@ pub month_passed : (r : RecurrenceRule) (start day d : ℤ) → (HasMonth r (mon
     → (day +ℤ pos (days_in_month (is_leap (year_of day)) (month_of day) - day_of_month day)) <ℤ d
 month_passed r start day d none on later =
     by_lt_z (day +ℤ pos (days_in_month (is_leap (year_of day)) (month_of day) - day_of_month day)) d (λ more. more)
-    (λ not. absurd (none (rw (month_left day d later (omega (arith, ints, not))) at on.month)))
+    (λ not. absurd (none (rw (month_left day d later (omega (arith, ints))) at on.month)))
 
 -- a later day with none before it
 pub left_later : (on : ℤ → ℕ → Type 0) (before day next : ℤ) → IsLeft (IsPlannedOnItsDay on) before (day +ℤ pos 1) 0 → day <ℤ next
     → ((d : ℤ) (second : ℕ) → on d second → second < 86_400 → day <ℤ d → next ≤ℤ d) → IsLeft (IsPlannedOnItsDay on) before next 0
 left_later on before day next h later none = record {
   in_day = omega arith;
-  later = let from = h.later in omega (arith, ints, from, later);
+  later = let from = h.later in omega (arith, ints);
   left = λ m planned come. let least = h.left m planned come in
-      let from = none (floor_div m 86_400) (floor_mod m 86_400) planned (omega (arith, ints, floors)) (omega (arith, ints, floors, least)) in
-      omega (arith, ints, floors, from);
+      let from = none (floor_div m 86_400) (floor_mod m 86_400) planned (omega (arith, ints, floors)) (omega (arith, ints, floors)) in
+      omega (arith, ints, floors);
 }
 
 pub none_between : (set : ℤ → Type 0) (from end day : ℤ) (second : ℕ) → IsLeft set (from -ℤ pos 1) day second → (end ≤ℤ (day *ℤ pos 86_400))
     → HasNoneBetween set from end
-none_between set from end day second h over m one come before = let least = h.left m one (omega (arith, ints, come)) in omega (arith, ints, least, over, before)
+none_between set from end day second h over m one come before = let least = h.left m one (omega (arith, ints)) in omega (arith, ints)
 
 least_found : (on : ℤ → ℕ → Type 0) (before day : ℤ) (second s : ℕ) → IsLeft (IsPlannedOnItsDay on) before day second → IsFirstSecondFrom (on day) second s
     → (m : ℤ) → IsPlannedOnItsDay on m → before <ℤ m → (day *ℤ pos 86_400 +ℤ pos s) ≤ℤ m
 least_found on before day second s h first m one later =
-    let after = h.left m one later in let in_day = first.in_day in
-    by_lt_z day (floor_div m 86_400) (λ more. omega (arith, ints, floors))
+    let after = h.left m one later in by_lt_z day (floor_div m 86_400) (λ more. omega (arith, ints, floors))
     (λ not. let least = first.least (floor_mod m 86_400) (on_its_day on day m (omega (arith, ints, floors)) one) (omega (arith, ints, floors)) in
     omega (arith, ints, floors))
 
@@ -145,32 +141,32 @@ pub first_found : (on : ℤ → ℕ → Type 0) (from end day l : ℤ) (second s
     → l ≡ day *ℤ pos 86_400 +ℤ pos s → MatchOption found (end ≤ℤ l) (λ f. (f ≡ l) × (f <ℤ end))
     → MatchOption found (HasNoneBetween (IsPlannedOnItsDay on) from end) (λ f. IsFirstBetween (IsPlannedOnItsDay on) from end f)
 first_found on from end day l second s None h first is over = λ m one come before.
-    let least = least_found on (from -ℤ pos 1) day second s h first m one (omega (arith, ints, come)) in omega (arith, ints, least, is, over, before)
+    let least = least_found on (from -ℤ pos 1) day second s h first m one (omega (arith, ints)) in omega (arith, ints)
 first_found on from end day l second s (Some f) h first is here = record {
-  one = on_day on day f s first.in_day (omega (arith, ints, is, here.0)) first.planned;
-  not_before = let later = h.later in let le = first.not_before in omega (arith, ints, later, le, is, here.0);
+  one = on_day on day f s first.in_day (omega (arith, ints)) first.planned;
+  not_before = omega (arith, ints);
   before_end = here.1;
-  least = λ m one come. let least = least_found on (from -ℤ pos 1) day second s h first m one (omega (arith, ints, come)) in
-      omega (arith, ints, least, is, here.0);
+  least = λ m one come. let least = least_found on (from -ℤ pos 1) day second s h first m one (omega (arith, ints)) in
+      omega (arith, ints);
 }
 
 pub left_at_start : (set : ℤ → Type 0) (from day : ℤ) (second : ℕ) → day ≡ floor_div from 86_400 → second ≡ floor_mod from 86_400
     → IsLeft set (from -ℤ pos 1) day second
 left_at_start set from day second is_day is_second = record {
-  in_day = omega (arith, ints, floors, is_second);
-  later = omega (arith, ints, floors, is_day, is_second);
-  left = λ m one come. omega (arith, ints, floors, is_day, is_second, come);
+  in_day = omega (arith, ints, floors);
+  later = omega (arith, ints, floors);
+  left = λ m one come. omega (arith, ints, floors);
 }
 
 pub day_from : (start day d : ℤ) (second : ℕ) → day ≡ floor_div start 86_400 → second < 86_400 → start ≤ℤ (d *ℤ pos 86_400 +ℤ pos second) → day ≤ℤ d
-day_from start day d second is short le = omega (arith, ints, floors, is, short, le)
+day_from start day d second is short le = omega (arith, ints, floors)
 
 pub days_between : (next d : ℤ) (second : ℕ) → next ≤ℤ d → (next *ℤ pos 86_400) ≤ℤ (d *ℤ pos 86_400 +ℤ pos second)
-days_between next d second le = omega (arith, ints, le)
+days_between next d second le = omega (arith, ints)
 
 pub after_month : (r : RecurrenceRule) (start day d result : ℤ) (m f n dom : ℕ) (year : ℤ) → year ≡ year_of day → m ≡ month_of day → dom ≡ day_of_month day
     → f ≡ month_of start
     → n ≡ days_in_month (is_leap year) m → result ≡ day +ℤ pos (n - dom) +ℤ pos 1 → (HasMonth r f m → ⊥) → IsOnDate r start d → day <ℤ d → result ≤ℤ d
 after_month r start day d result m f n dom year is_year is_month is_day is_first days is none on later =
     let lengths : n - dom ≡ days_in_month (is_leap (year_of day)) (month_of day) - day_of_month day = rw (days, is_year, is_month, is_day) refl in
-    let passed = month_passed r start day d (rw (is_month, is_first) at none) on later in omega (arith, ints, is, lengths, passed)
+    let passed = month_passed r start day d (rw (is_month, is_first) at none) on later in omega (arith, ints)

@@ -42,17 +42,17 @@ IsPassedBack on until left = (left ≤ until + 1) × ((k : ℕ) → k < 86_400 �
 
 pub more_back : (on : ℕ → Type 0) (until left end : ℕ) → IsPassedBack on until left → 0 < left → IsSkippedBack on (left - 1) end → IsPassedBack on until end
 more_back on until left end h some skip = (
-  let earlier = skip.earlier in let low = h.0 in omega (arith, earlier, low, some),
-  λ k in_day one le. let below = h.1 k in_day one le in skip.none k one (omega (arith, below, some)),
+  omega arith,
+  λ k in_day one le. let below = h.1 k in_day one le in skip.none k one (omega arith),
 )
 
 pub found_back : (on : ℕ → Type 0) (until left : ℕ) → until < 86_400 → IsPassedBack on until left → 0 < left → on (left - 1)
     → IsLastSecondUntil on until (left - 1)
 found_back on until left short h some one = record {
   planned = one;
-  not_after = let low = h.0 in omega (arith, low, some);
-  in_day = let low = h.0 in omega (arith, low, some, short);
-  greatest = λ k in_day other le. let below = h.1 k in_day other le in omega (arith, below, some);
+  not_after = omega arith;
+  in_day = omega arith;
+  greatest = λ k in_day other le. let below = h.1 k in_day other le in omega arith;
 }
 
 -- ---- days
@@ -69,71 +69,69 @@ with_date_back r start day until (Some s) date last = record {
 
 earlier_number : (y : ℤ) (m d k : ℕ) (day : ℤ) → 1 ≤ d → day_number y m (d + k) ≡ day → day_number y m d ≡ day -ℤ pos k
 unfolding day_number
-earlier_number y m d k day low is = omega (arith, ints, low, is)
+earlier_number y m d k day low is = omega (arith, ints)
 
 same_month_back : (day : ℤ) (d k : ℕ) → 1 ≤ d → d + k ≡ day_of_month day → month_of (day -ℤ pos k) ≡ month_of day
 same_month_back day d k low sum =
-    let own = date_is day in let last = own.0.3 in
-    (date_only (day -ℤ pos k) (year_of day) (month_of day) d (own.0.0, own.0.1, low, omega (arith, sum, last))
+    let own = date_is day in (date_only (day -ℤ pos k) (year_of day) (month_of day) d (own.0.0, own.0.1, low, omega arith)
     (earlier_number (year_of day) (month_of day) d k day low (rw sum own.1))).1
 
 pub month_begun : (day d : ℤ) → d <ℤ day → (day -ℤ pos (day_of_month day)) <ℤ d → month_of d ≡ month_of day
 month_begun day d less after =
-    let k : ℕ = unsigned_abs (day -ℤ d) in let is : day -ℤ pos k ≡ d = omega (arith, ints, less) in
-    rw is at (same_month_back day (day_of_month day - k) k (omega (arith, ints, less, after)) (omega (arith, ints, less, after)))
+    let k : ℕ = unsigned_abs (day -ℤ d) in let is : day -ℤ pos k ≡ d = omega (arith, ints) in
+    rw is at (same_month_back day (day_of_month day - k) k (omega (arith, ints)) (omega (arith, ints)))
 
 pub before_month : (r : RecurrenceRule) (start day d result : ℤ) (m f dom : ℕ) → m ≡ month_of day → dom ≡ day_of_month day → f ≡ month_of start
     → result ≡ day -ℤ pos dom → (HasMonth r f m → ⊥) → IsOnDate r start d → d <ℤ day → d ≤ℤ result
 before_month r start day d result m f dom is_month is_day is_first is none on less =
     by_lt_z result d
-    (λ more. let same = month_begun day d less (omega (arith, ints, is, is_day, more)) in absurd (none (rw (is_month, is_first) (rw same at on.month))))
+    (λ more. let same = month_begun day d less (omega (arith, ints)) in absurd (none (rw (is_month, is_first) (rw same at on.month))))
     (λ not. not)
 
 most_days : (b : Bool) (m : ℕ) → days_in_month b m ≤ 31
 most_days b m = grind (arith, nat_tests)
 
 pub in_month : (day : ℤ) (dom : ℕ) → dom ≡ day_of_month day → dom ≤ 31
-in_month day dom is = let last = (date_is day).0.3 in let most = most_days (is_leap (year_of day)) (month_of day) in omega (arith, is, last, most)
+in_month day dom is = let last = (date_is day).0.3 in let most = most_days (is_leap (year_of day)) (month_of day) in omega arith
 
 -- an earlier day with none after it
 pub left_earlier : (on : ℤ → ℕ → Type 0) (until day last : ℤ) → IsLeftBefore (IsPlannedOnItsDay on) until (day -ℤ pos 1) 86_399 → last <ℤ day
     → ((d : ℤ) (second : ℕ) → on d second → second < 86_400 → d <ℤ day → d ≤ℤ last) → IsLeftBefore (IsPlannedOnItsDay on) until last 86_399
 left_earlier on until day last h earlier none = record {
   in_day = omega arith;
-  not_later = let from = h.not_later in omega (arith, ints, from, earlier);
+  not_later = let from = h.not_later in omega (arith, ints);
   left = λ m planned come. let most = h.left m planned come in
-      let from = none (floor_div m 86_400) (floor_mod m 86_400) planned (omega (arith, ints, floors)) (omega (arith, ints, floors, most)) in
-      omega (arith, ints, floors, from);
+      let from = none (floor_div m 86_400) (floor_mod m 86_400) planned (omega (arith, ints, floors)) (omega (arith, ints, floors)) in
+      omega (arith, ints, floors);
 }
 
 -- no occasion comes 367 days before the start
 pub after_all : (r : RecurrenceRule) (start l : ℤ) → IsOccasion r start l → (start -ℤ pos 31_708_800) <ℤ l
 after_all r start l one = by_lt_z (start -ℤ pos 31_708_800) l (λ less. less)
-    (λ not. let early = long_before r.frequency (weekday_number r.week_start) l start (omega (arith, ints, not)) in
+    (λ not. let early = long_before r.frequency (weekday_number r.week_start) l start (omega (arith, ints)) in
     let same : floor_div l 86_400 *ℤ pos 86_400 +ℤ pos (floor_mod l 86_400) ≡ l = omega (arith, ints, floors) in
-    let counts = (rw same at one.counts).is in absurd (omega (arith, ints, early, counts)))
+    let counts = (rw same at one.counts).is in absurd (omega (arith, ints)))
 
 pub none_until : (r : RecurrenceRule) (start until day : ℤ) (to : ℕ) → IsLeftBefore (IsOccasion r start) until day to
     → ((day *ℤ pos 86_400 +ℤ pos 86_400) ≤ℤ (start -ℤ pos 31_708_800)) → HasNoneUntil (IsOccasion r start) until
 none_until r start until day to h over m wide one come =
-    let most = h.left m one come in let short = h.in_day in let after = after_all r start m one in omega (arith, ints, most, short, over, after)
+    let most = h.left m one come in let after = after_all r start m one in omega (arith, ints)
 
 pub all_until : (set : ℤ → Type 0) (until day : ℤ) (second : ℕ) → day ≡ floor_div until 86_400 → second ≡ floor_mod until 86_400
     → IsLeftBefore set until day second
 all_until set until day second is_day is_second = record {
-  in_day = omega (arith, ints, floors, is_second);
-  not_later = omega (arith, ints, floors, is_day, is_second);
-  left = λ m one come. omega (arith, ints, floors, is_day, is_second, come);
+  in_day = omega (arith, ints, floors);
+  not_later = omega (arith, ints, floors);
+  left = λ m one come. omega (arith, ints, floors);
 }
 
 -- ---- periods that count
 pub none_counted : (r : RecurrenceRule) (start second first period end : ℤ) → first ≡ own_period r start → period ≡ own_period r second
     → (first ≤ℤ period → ⊥) → start <ℤ pos 253_402_300_800 → end ≡ start -ℤ pos 31_708_800 → IsEndOfLast r start second end
 none_counted r start second first period end is_first is_period early in_years is_end = record {
-  none = λ l counted le. absurd (early (let rise = period_rises r.frequency (weekday_number r.week_start) l second le in let is = counted.is in
-      omega (arith, ints, rise, is, is_first, is_period)));
-  not_here = λ counted. early (let is = counted.is in omega (arith, ints, is, is_first, is_period));
-  bound = (omega (arith, ints, is_end), omega (arith, ints, is_end, in_years));
+  none = λ l counted le. absurd (early (let rise = period_rises r.frequency (weekday_number r.week_start) l second le in omega (arith, ints)));
+  not_here = λ counted. early (omega (arith, ints));
+  bound = (omega (arith, ints), omega (arith, ints));
 }
 
 pub ends_earlier : (r : RecurrenceRule) (start second first period last next end : ℤ) → first ≡ own_period r start → period ≡ own_period r second
@@ -144,14 +142,14 @@ ends_earlier r start second first period last next end is_first is_period own ot
   none = λ l counted le.
       let rise : own_period r l ≤ℤ period = rw is_period (period_rises r.frequency (weekday_number r.week_start) l second le) in
       let most = own.greatest (own_period r l) (rw is_first counted) rise in
-      earlier l (omega (arith, ints, le, in_years)) (omega (arith, ints, most, is_next));
+      earlier l (omega (arith, ints)) (omega (arith, ints));
   not_here = not_counted r start second first period last is_first is_period own other;
   bound = (
-    let is = own.counts.is in let from = earlier start (omega (arith, ints, start_in_years)) (omega (arith, ints, is, is_first, is_next)) in
-        omega (arith, ints, from),
+    let from = earlier start (omega (arith, ints)) (omega (arith, ints)) in
+        omega (arith, ints),
     by_lt_z last period
-        (λ less. let up = later second (omega (arith, ints, less, is_next, is_period)) in omega (arith, ints, up, in_years))
-        (λ not. absurd (other (let up = own.not_after in omega (arith, ints, not, up)))),
+        (λ less. let up = later second (omega (arith, ints)) in omega (arith, ints))
+        (λ not. absurd (other (omega (arith, ints)))),
   );
 }
 
@@ -161,12 +159,12 @@ period_back r start day l e second end is own earlier to = record {
   earlier = earlier;
   none = λ k on le.
       let other : k ≡ second → ⊥ = λ same. own.not_here (rw is (rw same at on.counts)) in
-      to k (grind (arith, other, le)) (own.none (day *ℤ pos 86_400 +ℤ pos k) on.counts (omega (arith, ints, is, le)));
+      to k (grind (arith, other, le)) (own.none (day *ℤ pos 86_400 +ℤ pos k) on.counts (omega (arith, ints)));
 }
 
 -- a day of a second that counts, up to one that none counts after
 pub day_to : (end day d : ℤ) (second : ℕ) → day ≡ floor_div (end -ℤ pos 1) 86_400 → second < 86_400 → (d *ℤ pos 86_400 +ℤ pos second) <ℤ end → d ≤ℤ day
-day_to end day d second is short less = omega (arith, ints, floors, is, short, less)
+day_to end day d second is short less = omega (arith, ints, floors)
 
 pub days_up_to : (last d : ℤ) (second : ℕ) → d ≤ℤ last → second < 86_400 → (d *ℤ pos 86_400 +ℤ pos second) ≤ℤ (last *ℤ pos 86_400 +ℤ pos 86_399)
-days_up_to last d second le short = omega (arith, ints, le, short)
+days_up_to last d second le short = omega (arith, ints)

@@ -54,15 +54,15 @@ in_week r day f b a t some is is_b is_a lists = (
 
 pub passed_of_week : (day : ℤ) (weekday number first : ℕ) → weekday ≡ weekday_of day → number ≡ first → number < 7
     → (weekday + 7 - number) % 7 ≡ floor_mod (day +ℤ pos 4 -ℤ pos first) 7
-passed_of_week day weekday number first is same bound = omega (arith, floors, ints, is, same, bound)
+passed_of_week day weekday number first is same bound = omega (arith, floors, ints)
 
 pub fourth_is : (day fourth : ℤ) (passed first : ℕ) → passed ≡ floor_mod (day +ℤ pos 4 -ℤ pos first) 7 → fourth ≡ day -ℤ pos passed +ℤ pos 3
     → fourth ≡ fourth_of_week first day
-fourth_is day fourth passed first is same = omega (arith, floors, ints, is, same)
+fourth_is day fourth passed first is same = omega (arith, floors, ints)
 
 pub before_end : (day year : ℤ) (before days : ℕ) → year ≡ year_of day → before ≡ day_of_year day → days ≡ days_in_year year → before ≤ days - 1
 before_end day year before days is same all = let within = (day_of_year_is day).1 in let of_year : days ≡ days_in_year (year_of day) = rw is at all in
-    omega (arith, within, same, of_year)
+    omega arith
 
 -- ---- a date
 pub not_month : (r : RecurrenceRule) (start day : ℤ) (m f : ℕ) → m ≡ month_of day → f ≡ month_of start → (HasMonth r f m → ⊥) → IsOnDate r start day → ⊥

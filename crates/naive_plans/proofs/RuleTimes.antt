@@ -32,10 +32,10 @@ first_from r start from left end l le last h first own = record {
   one = record {
     occasion = first.one;
     position = own;
-    from_start = let come = first.not_before in let later = h.0 in omega (arith, ints, le, come, later);
-    in_years = let before = first.before_end in omega (arith, ints, before, last);
+    from_start = let come = first.not_before in omega (arith, ints);
+    in_years = omega (arith, ints);
   };
-  not_before = let come = first.not_before in let later = h.0 in omega (arith, ints, come, later);
+  not_before = let come = first.not_before in omega (arith, ints);
   before_end = first.before_end;
   least = λ m time come. first.least m time.occasion (h.1 m time come);
 }
@@ -43,28 +43,28 @@ first_from r start from left end l le last h first own = record {
 pub more_from : (r : RecurrenceRule) (start from left end l next : ℤ) → AreFrom r start from left → IsFirstBetween (IsOccasion r start) left end l
     → (IsAtPosition r start l → ⊥) → next ≡ l +ℤ pos 1 → AreFrom r start from next
 more_from r start from left end l next h first not is = (
-  let come = first.not_before in let later = h.0 in omega (arith, ints, come, later, is),
+  let come = first.not_before in omega (arith, ints),
   λ m time come.
       let least = first.least m time.occasion (h.1 m time come) in
-      by_lt_z l m (λ less. omega (arith, ints, less, is))
-      (λ over. absurd (let same : l ≡ m = omega (arith, ints, over, least) in not (rw same time.position))),
+      by_lt_z l m (λ less. omega (arith, ints))
+      (λ over. absurd (let same : l ≡ m = omega (arith, ints) in not (rw same time.position))),
 )
 
 pub from_later : (r : RecurrenceRule) (start after last from end : ℤ) (found : Option ℤ) → after <ℤ from → ((m : ℤ) → after <ℤ m → start ≤ℤ m → from ≤ℤ m)
     → end ≡ last +ℤ pos 1
     → MatchOption found (HasNoneBetween (IsRuleTime r start) from end) (λ l. IsFirstBetween (IsRuleTime r start) from end l)
     → MatchOption found (HasNoneLater (IsRuleTime r start) after last) (λ l. IsFirstLater (IsRuleTime r start) after last l)
-from_later r start after last from end None later least is none = λ m time come le. none m time (least m come time.from_start) (omega (arith, ints, is, le))
+from_later r start after last from end None later least is none = λ m time come le. none m time (least m come time.from_start) (omega (arith, ints))
 from_later r start after last from end (Some l) later least is first = record {
   one = first.one;
-  later = let come = first.not_before in omega (arith, ints, later, come);
-  not_after = let before = first.before_end in omega (arith, ints, before, is);
+  later = let come = first.not_before in omega (arith, ints);
+  not_after = omega (arith, ints);
   least = λ m time come. first.least m time (least m come time.from_start);
 }
 
 pub none_left : (r : RecurrenceRule) (start after last from : ℤ) → ((m : ℤ) → after <ℤ m → start ≤ℤ m → from ≤ℤ m) → last <ℤ from
     → HasNoneLater (IsRuleTime r start) after last
-none_left r start after last from least over m time come le = let more = least m come time.from_start in omega (arith, ints, over, le, more)
+none_left r start after last from least over m time come le = let more = least m come time.from_start in omega (arith, ints)
 
 pub next_later : (r : RecurrenceRule) (start last local l : ℤ) → IsFirstLater (IsRuleTime r start) local last l → IsNextAfter (λ m. IsRuleTime r start m ×
     (m ≤ℤ last)) local l
@@ -77,10 +77,10 @@ next_later r start last local l first = record {
 -- ---- ends
 pub none_up : (r : RecurrenceRule) (start last s : ℤ) → ((l : ℤ) → IsRuleTime r start l → l ≤ℤ last → ⊥) → s ≡ start -ℤ pos 1
     → (l : ℤ) → IsRuleTime r start l → (l ≤ℤ s) ↔ (l ≤ℤ last)
-none_up r start last s none is l time = (λ low. absurd (let from = time.from_start in omega (arith, ints, low, is, from)), λ le. absurd (none l time le))
+none_up r start last s none is l time = (λ low. absurd (omega (arith, ints)), λ le. absurd (none l time le))
 
 time_is_wide : (r : RecurrenceRule) (start l : ℤ) → neg_ℤ (pos 62_167_219_200) ≤ℤ start → IsRuleTime r start l → IsWide l
-time_is_wide r start l low time = let from = time.from_start in let years = time.in_years in (omega (arith, ints, low, from), omega (arith, ints, years))
+time_is_wide r start l low time = (omega (arith, ints), omega (arith, ints))
 
 pub none_to : (r : RecurrenceRule) (start last : ℤ) → neg_ℤ (pos 62_167_219_200) ≤ℤ start → HasNoneUntil (IsRuleTime r start) last
     → (l : ℤ) → IsRuleTime r start l → l ≤ℤ last → ⊥
@@ -89,12 +89,12 @@ none_to r start last low none l time le = none l (time_is_wide r start l low tim
 pub same_to : (r : RecurrenceRule) (start last s : ℤ) → neg_ℤ (pos 62_167_219_200) ≤ℤ start → IsLastUntil (IsRuleTime r start) last s
     → (l : ℤ) → IsRuleTime r start l → (l ≤ℤ s) ↔ (l ≤ℤ last)
 same_to r start last s low own l time = (
-  λ le. let up = own.not_after in omega (arith, ints, le, up),
+  λ le. omega (arith, ints),
   λ le. own.greatest l (time_is_wide r start l low time) time le,
 )
 
 pub bounded_to : (r : RecurrenceRule) (start last s : ℤ) → neg_ℤ (pos 62_167_219_200) ≤ℤ start → IsLastUntil (IsRuleTime r start) last s → IsBounded s
-bounded_to r start last s low own = let from = own.planned.from_start in let short = own.planned.in_years in (omega (arith, ints, low, from), short)
+bounded_to r start last s low own = let short = own.planned.in_years in (omega (arith, ints), short)
 
 -- ---- and back
 -- the rule's times up to a second come up to another one
@@ -102,7 +102,7 @@ abbrev pub AreTo : RecurrenceRule → ℤ → ℤ → ℤ → Type 0
 AreTo r start until to = (to ≤ℤ until) × ((m : ℤ) → IsRuleTime r start m → m ≤ℤ until → m ≤ℤ to)
 
 pub none_to_start : (r : RecurrenceRule) (start until to : ℤ) → AreTo r start until to → (start ≤ℤ to → ⊥) → HasNoneUntil (IsRuleTime r start) until
-none_to_start r start until to h not m wide time come = not (let from = time.from_start in let le = h.1 m time come in omega (arith, ints, from, le))
+none_to_start r start until to h not m wide time come = not (let le = h.1 m time come in omega (arith, ints))
 
 pub none_of_them : (r : RecurrenceRule) (start until to : ℤ) → AreTo r start until to → HasNoneUntil (IsOccasion r start) to
     → HasNoneUntil (IsRuleTime r start) until
@@ -111,33 +111,32 @@ none_of_them r start until to h none m wide time come = none m wide time.occasio
 pub all_early : (r : RecurrenceRule) (start until to last : ℤ) → AreTo r start until to → IsLastUntil (IsOccasion r start) to last → (start ≤ℤ last → ⊥)
     → HasNoneUntil (IsRuleTime r start) until
 all_early r start until to last h own early m wide time come =
-    let most = own.greatest m wide time.occasion (h.1 m time come) in let from = time.from_start in early (omega (arith, ints, most, from))
+    let most = own.greatest m wide time.occasion (h.1 m time come) in early (omega (arith, ints))
 
 pub last_found : (r : RecurrenceRule) (start until to last : ℤ) → until <ℤ pos 253_402_300_800 → AreTo r start until to
     → IsLastUntil (IsOccasion r start) to last → start ≤ℤ last → IsAtPosition r start last → IsLastUntil (IsRuleTime r start) until last
-last_found r start until to last short h own from at_position = let up = own.not_after in let low = h.0 in record {
-  planned = record { occasion = own.planned; position = at_position; from_start = from; in_years = omega (arith, ints, up, low, short) };
-  not_after = omega (arith, ints, up, low);
+last_found r start until to last short h own from at_position = record {
+  planned = record { occasion = own.planned; position = at_position; from_start = from; in_years = omega (arith, ints) };
+  not_after = omega (arith, ints);
   greatest = λ m wide time come. own.greatest m wide time.occasion (h.1 m time come);
 }
 
 pub more_to : (r : RecurrenceRule) (start until to last next : ℤ) → neg_ℤ (pos 62_167_219_200) ≤ℤ start → AreTo r start until to
     → IsLastUntil (IsOccasion r start) to last → (IsAtPosition r start last → ⊥) → next ≡ last -ℤ pos 1 → AreTo r start until next
-more_to r start until to last next first h own not is_next = let up = own.not_after in let low = h.0 in (
-  omega (arith, ints, up, low, is_next),
+more_to r start until to last next first h own not is_next = (
+  omega (arith, ints),
   λ m time come.
       let most = own.greatest m (time_is_wide r start m first time) time.occasion (h.1 m time come) in
-      by_lt_z m last (λ less. omega (arith, ints, less, is_next))
-      (λ over. absurd (let same : last ≡ m = omega (arith, ints, over, most) in not (rw same time.position))),
+      by_lt_z m last (λ less. omega (arith, ints))
+      (λ over. absurd (let same : last ≡ m = omega (arith, ints) in not (rw same time.position))),
 )
 
 pub last_planned : (r : RecurrenceRule) (start local last until l : ℤ) → (until ≤ℤ local) × (until ≤ℤ last) → ((m : ℤ) → m ≤ℤ local → m ≤ℤ last → m ≤ℤ until)
     → IsLastUntil (IsRuleTime r start) until l → IsLastUntil (IsPlannedUpTo r start last) local l
 last_planned r start local last until l both most own =
-    let up = own.not_after in let low = both.0 in let le = both.1 in
     record {
-      planned = (own.planned, omega (arith, ints, up, le));
-      not_after = omega (arith, ints, up, low);
+      planned = (own.planned, omega (arith, ints));
+      not_after = omega (arith, ints);
       greatest = λ m wide time come. own.greatest m wide time.0 (most m come time.1);
     }
 
@@ -174,11 +173,10 @@ has_times r start end last same l = (
 
 pub never_last : (r : RecurrenceRule) (start : ℤ) → IsLastSecond r start Never (pos 253_402_300_799)
 never_last r start = record {
-  same = λ l time. (λ _. tt, λ _. let last = time.in_years in omega (arith, ints, last));
+  same = λ l time. (λ _. tt, λ _. omega (arith, ints));
   bound = (
     omega (arith, ints),
-    omega
-        (arith, ints),
+    omega (arith, ints),
   );
 }
 

@@ -21,24 +21,24 @@ pub first_done : (xs : List NaiveDateTime) (after : ℤ) (n : ℕ) (found : Opti
     → MatchOption found (HasNoneAfter (HasLocalTime xs) after) (λ l. IsNextAfter (HasLocalTime xs) after (reading l).s)
 first_done xs after n None all h = λ m wide has later.
     let same : (reading (get_or xs has.listed.0 has.local)).s ≡ m = rw has.listed.2 has.at in h has.listed.0 has.local (let at = has.listed.1 in
-    omega (arith, all, at)) (rw same later)
+    omega arith) (rw same later)
 first_done xs after n (Some d) all h = record {
   planned = record { local = d; listed = h.0; at = refl };
   after = h.1;
   least = λ m wide has later.
       let same : (reading (get_or xs has.listed.0 has.local)).s ≡ m = rw has.listed.2 has.at in rw same at (h.2 has.listed.0 has.local
-      (let at = has.listed.1 in omega (arith, all, at)) (rw same later));
+      (omega arith) (rw same later));
 }
 
 pub last_done : (xs : List NaiveDateTime) (until : ℤ) (n : ℕ) (found : Option NaiveDateTime) → length xs ≤ n → IsLastAmong xs until n found
     → MatchOption found (HasNoneUntil (HasLocalTime xs) until) (λ l. IsLastUntil (HasLocalTime xs) until (reading l).s)
 last_done xs until n None all h = λ m wide has come.
     let same : (reading (get_or xs has.listed.0 has.local)).s ≡ m = rw has.listed.2 has.at in h has.listed.0 has.local (let at = has.listed.1 in
-    omega (arith, all, at)) (rw same come)
+    omega arith) (rw same come)
 last_done xs until n (Some d) all h = record {
   planned = record { local = d; listed = h.0; at = refl };
   not_after = h.1;
   greatest = λ m wide has come.
       let same : (reading (get_or xs has.listed.0 has.local)).s ≡ m = rw has.listed.2 has.at in rw same at (h.2 has.listed.0 has.local
-      (let at = has.listed.1 in omega (arith, all, at)) (rw same come));
+      (omega arith) (rw same come));
 }
