@@ -15,34 +15,25 @@ use Rattle.naive_plans.specs.declared.clock_step.ClockStep.{ClockStep}
 use Rattle.naive_plans.specs.declared.clock_step.ClockStep.TheVariants.{Day, Month, Part, Week, Year}
 
 -- ---- multiples of a number of seconds
-last_of : (a k q p r n : ℕ) → q + r ≡ a → p ≡ k → (p ≤ q) ⊎ (q + n ≤ p) → r < n → k ≤ a → k ≤ a - r
-last_of a k q p r n is own order short le = elim order [ inl low ↦ omega arith | inr high ↦ absurd (omega arith) ]
+-- of n seconds, up to the second a of the day or after it
+module _ (n a : ℕ) where
+  apart : (k : ℕ) → (k / n * n ≤ a / n * n) ⊎ (a / n * n + n ≤ k / n * n)
+  apart k = rw (one_more (a / n) n) at (multiples_apart n (a / n) (k / n))
 
-next_of : (a k q p r n : ℕ) → q + r ≡ a → p ≡ k → (p ≤ q) ⊎ (q + n ≤ p) → a < k → a - r + n ≤ k
-next_of a k q p r n is own order less = elim order [ inl low ↦ absurd (omega arith) | inr high ↦ omega arith ]
+  last_multiple : (k : ℕ) → 1 ≤ n → k % n ≡ 0 → k ≤ a → k ≤ a - a % n
+  last_multiple k some none le = omega (arith, apart k)
 
-none_left : (p r k : ℕ) → p + r ≡ k → r ≡ 0 → p ≡ k
-none_left p r k is none = omega arith
+  pub next_multiple : (k : ℕ) → k % n ≡ 0 → a < k → a - a % n + n ≤ k
+  next_multiple k none less = omega (arith, apart k, div-add-mod' a n, div-add-mod' k n)
 
-apart : (n a k : ℕ) → (k / n * n ≤ a / n * n) ⊎ (a / n * n + n ≤ k / n * n)
-apart n a k = rw (one_more (a / n) n) at (multiples_apart n (a / n) (k / n))
+  whole : a - a % n ≡ a / n * n
+  whole = omega (arith, div-add-mod' a n)
 
-pub last_multiple : (n a k : ℕ) → 1 ≤ n → k % n ≡ 0 → k ≤ a → k ≤ a - a % n
-last_multiple n a k some none le =
-    last_of a k (a / n * n) (k / n * n) (a % n) n (div-add-mod' a n) (none_left (k / n * n) (k % n) k (div-add-mod' k n) none) (apart n a k) (mod-lt a some) le
+  is_multiple : (a - a % n) % n ≡ 0
+  is_multiple = rw whole (mul-mod_left (a / n) n)
 
-pub next_multiple : (n a k : ℕ) → k % n ≡ 0 → a < k → a - a % n + n ≤ k
-next_multiple n a k none less =
-    next_of a k (a / n * n) (k / n * n) (a % n) n (div-add-mod' a n) (none_left (k / n * n) (k % n) k (div-add-mod' k n) none) (apart n a k) less
-
-whole : (a q r : ℕ) → q + r ≡ a → a - r ≡ q
-whole a q r is = omega arith
-
-pub is_multiple : (n a : ℕ) → (a - a % n) % n ≡ 0
-is_multiple n a = rw (whole a (a / n * n) (a % n) (div-add-mod' a n)) (mul-mod_left (a / n) n)
-
-pub next_is_multiple : (n a : ℕ) → (a - a % n + n) % n ≡ 0
-next_is_multiple n a = rw (whole a (a / n * n) (a % n) (div-add-mod' a n)) (rw (one_more (a / n) n) at (mul-mod_left (a / n + 1) n))
+  next_is_multiple : (a - a % n + n) % n ≡ 0
+  next_is_multiple = rw whole (rw (one_more (a / n) n) at (mul-mod_left (a / n + 1) n))
 
 -- ---- places of days
 -- steps that begin at midnight, or on each day
@@ -55,14 +46,12 @@ midnights_or_each_day (Part part) = inr (λ d. tt)
 
 none_around : (on : ℤ → Type 0) (day : ℤ) (before after : ℕ) → ((d : ℤ) → on d) → IsPlace on day before after → (before ≡ 0) × (after ≡ 0)
 none_around on day before after each h = (
-  by_lt_z (day -ℤ pos before) day (λ less. absurd (let more = h.none_between day (each day) less in omega (arith, ints)))
-      (λ not. omega (arith, ints)),
-  by_lt_z (day -ℤ pos before) (day +ℤ pos 1) (λ less. let more = h.none_between (day +ℤ pos 1) (each (day +ℤ pos 1)) less in omega (arith, ints))
-      (λ not. omega (arith, ints)),
+  grind (arith, ints, h.none_between day (each day)),
+  grind (arith, ints, h.none_between (day +ℤ pos 1) (each (day +ℤ pos 1))),
 )
 
 -- a step that begins at midnights only has no other seconds, and one that begins on each day no other days around
-pub around : (step : ClockStep) (day : ℤ) (before after : ℕ) → IsPlace (BeginsOnDay step) day before after
+around : (step : ClockStep) (day : ℤ) (before after : ℕ) → IsPlace (BeginsOnDay step) day before after
     → (seconds_of_step step ≡ 86_400) ⊎ ((before ≡ 0) × (after ≡ 0))
 around step day before after h = elim (midnights_or_each_day step) [
   | inl midnight ↦ inl midnight
@@ -77,39 +66,15 @@ at_second step day second l is short on none =
     let is_second : floor_mod l 86_400 ≡ second = omega (arith, ints, floors) in
     rw (is_day, is_second) (record { on = on; at = none })
 
-begin_below : (at r : ℕ) → at < 86_400 → at - r < 86_400
-begin_below at r short = omega arith
-
 -- a member of the day d, at its second k, up to second `at` of `day`
-last_member : (day d : ℤ) (before at k b n : ℕ) → (n ≡ 86_400) ⊎ (before ≡ 0) → (n ≡ 86_400 → k ≡ 0) → ((d ≡ day) → k ≤ b) → k < 86_400 → b < 86_400
+last_member : (day d : ℤ) (before k b n : ℕ) → (n ≡ 86_400) ⊎ (before ≡ 0) → (n ≡ 86_400 → k ≡ 0) → ((d ≡ day) → k ≤ b) → k < 86_400 → b < 86_400
     → d ≤ℤ (day -ℤ pos before) → (d *ℤ pos 86_400 +ℤ pos k) ≤ℤ ((day -ℤ pos before) *ℤ pos 86_400 +ℤ pos b)
-last_member day d before at k b n kind whole_days same short below le =
+last_member day d before k b n kind whole_days same short below le =
     by_lt_z d (day -ℤ pos before) (λ less. omega (arith, ints))
     (λ not. elim kind [
       | inl midnight ↦ let none = whole_days midnight in omega (arith, ints)
       | inr here ↦ let within = same (omega (arith, ints)) in omega (arith, ints)
     ])
-
-pub last_begin : (step : ClockStep) (s day : ℤ) (at before n : ℕ) (after : ℕ) → day ≡ floor_div s 86_400 → at ≡ floor_mod s 86_400 → n ≡ seconds_of_step step
-    → IsPartOfDay n → IsPlace (BeginsOnDay step) day before after
-    → IsLastUpTo (BeginsStep step) s ((day -ℤ pos before) *ℤ pos 86_400 +ℤ pos (at - at % n))
-last_begin step s day at before n after is_day is_at is_n part h =
-    let short : at < 86_400 = omega (arith, ints, floors) in
-    record {
-      one = at_second step (day -ℤ pos before) (at - at % n) _ refl (begin_below at (at % n) short) h.first (rw is_n (is_multiple _ at));
-      not_after = omega (arith, ints, floors);
-      greatest = λ m begins le.
-          let d : ℤ = floor_div m 86_400 in let k : ℕ = floor_mod m 86_400 in
-          let in_day : k < 86_400 = omega (arith, ints, floors) in let none : k % n ≡ 0 = rw is_n begins.at in
-          let not_later : d ≤ℤ day = omega (arith, ints, floors) in
-          let most = last_member day d before at k (at - at % n) n
-          (elim (around step day before after h) [ inl midnight ↦ inl (rw is_n midnight) | inr none ↦ inr none.0 ])
-          (λ midnight. let zero = rw midnight at none in omega arith)
-          (λ same. last_multiple n at k part.0 none (omega (arith, ints, floors))) in_day (begin_below at (at % n) short)
-          (by_lt_z (day -ℤ pos before) d (λ later. absurd (let more = h.none_between d begins.on later in omega (arith, ints)))
-          (λ not. not)) in
-          omega (arith, ints, floors);
-    }
 
 next_member : (day d : ℤ) (after e k : ℕ) → (d ≡ day → (after ≡ 0) × (e ≤ k)) → day ≤ℤ d → (day <ℤ d → (day +ℤ pos after) <ℤ d) → e ≤ 86_400
     → ((day +ℤ pos after) *ℤ pos 86_400 +ℤ pos e) ≤ℤ (d *ℤ pos 86_400 +ℤ pos k)
@@ -117,42 +82,66 @@ next_member day d after e k here from later most =
     by_lt_z day d (λ less. let more = later less in omega (arith, ints))
     (λ not. let same = here (omega (arith, ints)) in omega (arith, ints))
 
-pub next_begin : (step : ClockStep) (s day : ℤ) (at before after n : ℕ) → day ≡ floor_div s 86_400 → at ≡ floor_mod s 86_400 → n ≡ seconds_of_step step
-    → IsPartOfDay n → IsPlace (BeginsOnDay step) day before after
-    → IsFirstAfter (BeginsStep step) s ((day +ℤ pos after) *ℤ pos 86_400 +ℤ pos (at - at % n + n))
-next_begin step s day at before after n is_day is_at is_n part h =
-    let short : at < 86_400 = omega (arith, ints, floors) in let less = mod-lt at part.0 in
-    let most = next_multiple n at 86_400 part.1 short in
-    record {
-      one = elim (around step day before after h) [
-        | inl midnight ↦
-            let day_long : n ≡ 86_400 = rw is_n midnight in let passed : at % n ≡ at = rw day_long (omega arith) in
-            at_second step (day +ℤ pos after +ℤ pos 1) 0 _ (omega (arith, ints)) (omega arith) h.next (zero-mod (seconds_of_step step))
-        | inr none ↦
-            let here : BeginsOnDay step day = subst (λ (d : ℤ). BeginsOnDay step d) (omega (arith, ints)) h.first in
-            let there : BeginsOnDay step (day +ℤ pos 1) = subst (λ (d : ℤ). BeginsOnDay step d) (omega (arith, ints)) h.next in
-            elim (cases_order (at - at % n + n) 86_400) [
-              | inl same ↦ at_second step (day +ℤ pos 1) 0 _ (omega (arith, ints)) (omega arith) there (zero-mod (seconds_of_step step))
-              | inr (inl within) ↦
-                  at_second step day (at - at % n + n) _ (omega (arith, ints)) within here (rw is_n (next_is_multiple _ at))
-              | inr (inr over) ↦ absurd (omega arith)
-            ]
-      ];
-      after = omega (arith, ints, floors);
-      least = λ m begins later.
-          let d : ℤ = floor_div m 86_400 in let k : ℕ = floor_mod m 86_400 in
-          let in_day : k < 86_400 = omega (arith, ints, floors) in let none : k % n ≡ 0 = rw is_n begins.at in
-          let from : day ≤ℤ d = omega (arith, ints, floors) in
-          let at_least = next_member day d after (at - at % n + n) k
-          (λ same. let le = next_multiple n at k none (omega (arith, ints, floors)) in (
-            elim (around step day before after h) [
-              | inl midnight ↦ absurd (let day_long : n ≡ 86_400 = rw is_n midnight in omega arith)
-              | inr both ↦ both.1
-            ],
-            le,
-          )) from (λ more. h.none_between d begins.on (omega (arith, ints))) most in
-          omega (arith, ints, floors);
-    }
+-- the second s, which is the second `at` of `day`, in a step of days that begins `before` days earlier and ends after `after` more;
+-- each of its days begins a step of n seconds
+module _ (step : ClockStep) {s day : ℤ} {at before after n : ℕ} (is_day : day ≡ floor_div s 86_400) (is_at : at ≡ floor_mod s 86_400)
+    (is_n : n ≡ seconds_of_step step) (part : IsPartOfDay n) (h : IsPlace (BeginsOnDay step) day before after) where
+  last_begin : IsLastUpTo (BeginsStep step) s ((day -ℤ pos before) *ℤ pos 86_400 +ℤ pos (at - at % n))
+  last_begin = record {
+    one = at_second step (day -ℤ pos before) (at - at % n) _ refl (omega (arith, ints, floors)) h.first (rw is_n (is_multiple _ at));
+    not_after = omega (arith, ints, floors);
+    greatest = λ m begins le.
+        let d : ℤ = floor_div m 86_400 in let k : ℕ = floor_mod m 86_400 in
+        let in_day : k < 86_400 = omega (arith, ints, floors) in let none : k % n ≡ 0 = rw is_n begins.at in
+        let most = last_member day d before k (at - at % n) n
+        (elim (around step day before after h) [ inl midnight ↦ inl (rw is_n midnight) | inr none ↦ inr none.0 ])
+        (λ midnight. let zero = rw midnight at none in omega arith)
+        (λ same. last_multiple n at k part.0 none (omega (arith, ints, floors))) in_day (omega (arith, ints, floors))
+        (grind (arith, ints, floors, h.none_between d begins.on)) in
+        omega (arith, ints, floors);
+  }
+
+  next_begin : IsFirstAfter (BeginsStep step) s ((day +ℤ pos after) *ℤ pos 86_400 +ℤ pos (at - at % n + n))
+  next_begin =
+      let short : at < 86_400 = omega (arith, ints, floors) in let less = mod-lt at part.0 in let most = next_multiple n at 86_400 part.1 short in
+      record {
+        one = elim (around step day before after h) [
+          | inl midnight ↦
+              let day_long : n ≡ 86_400 = rw is_n midnight in let passed : at % n ≡ at = rw day_long (omega arith) in
+              at_second step (day +ℤ pos after +ℤ pos 1) 0 _ (omega (arith, ints)) (omega arith) h.next (zero-mod (seconds_of_step step))
+          | inr none ↦
+              let here : BeginsOnDay step day = subst (λ (d : ℤ). BeginsOnDay step d) (omega (arith, ints)) h.first in
+              let there : BeginsOnDay step (day +ℤ pos 1) = subst (λ (d : ℤ). BeginsOnDay step d) (omega (arith, ints)) h.next in
+              elim (cases_order (at - at % n + n) 86_400) [
+                | inl same ↦ at_second step (day +ℤ pos 1) 0 _ (omega (arith, ints)) (omega arith) there (zero-mod (seconds_of_step step))
+                | inr (inl within) ↦ at_second step day (at - at % n + n) _ (omega (arith, ints)) within here (rw is_n (next_is_multiple _ at))
+                | inr (inr over) ↦ absurd (omega arith)
+              ]
+        ];
+        after = omega (arith, ints, floors);
+        least = λ m begins later.
+            let d : ℤ = floor_div m 86_400 in let k : ℕ = floor_mod m 86_400 in
+            let in_day : k < 86_400 = omega (arith, ints, floors) in let none : k % n ≡ 0 = rw is_n begins.at in
+            let from : day ≤ℤ d = omega (arith, ints, floors) in
+            let at_least = next_member day d after (at - at % n + n) k
+            (λ same. let le = next_multiple n at k none (omega (arith, ints, floors)) in (
+              elim (around step day before after h) [
+                | inl midnight ↦ absurd (let day_long : n ≡ 86_400 = rw is_n midnight in omega arith)
+                | inr both ↦ both.1
+              ],
+              le,
+            )) from (grind (arith, ints, h.none_between d begins.on)) most in
+            omega (arith, ints, floors);
+      }
+
+  -- the same of what the code computes
+  pub last_is : {first l : ℤ} {begin : ℕ} → first ≡ day -ℤ pos before → begin ≡ at - at % n → l ≡ first *ℤ pos 86_400 +ℤ pos begin
+      → IsLastUpTo (BeginsStep step) s l
+  last_is is_first is_begin is = rw (is, is_first, is_begin) last_begin
+
+  pub next_is : {last l : ℤ} {next : ℕ} → last ≡ day +ℤ pos after → next ≡ at - at % n + n → l ≡ last *ℤ pos 86_400 +ℤ pos next
+      → IsFirstAfter (BeginsStep step) s l
+  next_is is_last is_next is = rw (is, is_last, is_next) next_begin
 
 -- ---- weeks, months and years
 pub in_week : (first : Weekday) (day : ℤ) (before : ℕ) → before ≡ floor_mod (day +ℤ pos 4 -ℤ pos (weekday_number first)) 7
@@ -227,18 +216,6 @@ in_year day =
     }
 
 -- ---- the same of what the code computes
-pub last_is : (step : ClockStep) (s day first l : ℤ) (at before after n begin : ℕ) → day ≡ floor_div s 86_400 → at ≡ floor_mod s 86_400
-    → n ≡ seconds_of_step step → IsPartOfDay n → IsPlace (BeginsOnDay step) day before after → first ≡ day -ℤ pos before → begin ≡ at - at % n
-    → l ≡ first *ℤ pos 86_400 +ℤ pos begin → IsLastUpTo (BeginsStep step) s l
-last_is step s day first l at before after n begin is_day is_at is_n part h is_first is_begin is =
-    rw (is, is_first, is_begin) (last_begin step s day at before n after is_day is_at is_n part h)
-
-pub next_is : (step : ClockStep) (s day last l : ℤ) (at before after n next : ℕ) → day ≡ floor_div s 86_400 → at ≡ floor_mod s 86_400
-    → n ≡ seconds_of_step step → IsPartOfDay n → IsPlace (BeginsOnDay step) day before after → last ≡ day +ℤ pos after → next ≡ at - at % n + n
-    → l ≡ last *ℤ pos 86_400 +ℤ pos next → IsFirstAfter (BeginsStep step) s l
-next_is step s day last l at before after n next is_day is_at is_n part h is_last is_next is =
-    rw (is, is_last, is_next) (next_begin step s day at before after n is_day is_at is_n part h)
-
 pub in_month_of : (day y : ℤ) (m d n : ℕ) → y ≡ year_of day → m ≡ month_of day → d ≡ day_of_month day → n ≡ days_in_month (is_leap y) m
     → IsPlace (BeginsOnDay Month) day (d - 1) (n - d)
 in_month_of day y m d n is_year is_month is_day is = rw (is, is_year, is_month, is_day) (in_month day)
