@@ -1,6 +1,5 @@
-use Rattle.naive_base.proofs.Words.{ints, rules, to_z-of_z}
+use Rattle.naive_base.proofs.Words.{to_z-of_z}
 use Rattle.naive_base.proofs.Words.{arith}
-use Rattle.std.proofs.Math.Nat.{mod-lt}
 use Rattle.naive_plans.proofs.ClockSteps.{next_multiple}
 use Rattle.naive_plans.proofs.clock_step.next_in_day.Goals as goal
 

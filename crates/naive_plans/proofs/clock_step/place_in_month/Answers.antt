@@ -1,4 +1,3 @@
-use Rattle.naive_base.proofs.Words.{arith, ints, rules}
 use Rattle.naive_base.proofs.Words.{to_z-of_z}
 use Rattle.naive_plans.proofs.ClockSteps.{in_month_of}
 use Rattle.naive_plans.proofs.clock_step.place_in_month.Goals as goal

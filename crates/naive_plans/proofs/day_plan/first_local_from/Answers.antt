@@ -1,5 +1,4 @@
 use Rattle.naive_base.proofs.Words.{arith, ints, rules, to_z-of_z}
-use Rattle.naive_base.proofs.Words.{Reading, ap, day_of}
 use Rattle.naive_plans.proofs.DayWalk.{all_left, at_end, found_on_day, none_on_day}
 use Rattle.naive_plans.proofs.day_plan.first_local_from.Goals as goal
 

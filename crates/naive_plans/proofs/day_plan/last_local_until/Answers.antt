@@ -1,5 +1,4 @@
 use Rattle.naive_base.proofs.Words.{arith, ints, rules, to_z-of_z}
-use Rattle.naive_base.proofs.Words.{Reading, ap, day_of}
 use Rattle.naive_plans.proofs.DayWalk.{all_before, at_start, last_on_day, none_back}
 use Rattle.naive_plans.proofs.day_plan.last_local_until.Goals as goal
 

@@ -1,4 +1,4 @@
-use Rattle.naive_base.proofs.Words.{arith, ints, rules}
+use Rattle.naive_base.proofs.Words.{arith}
 use Rattle.naive_base.proofs.Words.{to_z-of_z, w64}
 use Rattle.naive_plans.proofs.RuleTimes.{count_last, never_last, until_last}
 use Rattle.naive_plans.proofs.recurrence.last_second.Goals as goal

@@ -1,4 +1,3 @@
-use Rattle.naive_base.proofs.Words.{arith, ints}
 use Rattle.naive_base.proofs.Words.{of_z, rules, to_z, to_z-of_z, w64, ◌≡◌}
 use Rattle.naive_plans.proofs.RuleTimes.{bounded_to, none_to, none_up, same_to}
 use Rattle.naive_plans.proofs.recurrence.shortened.Goals as goal

@@ -1,5 +1,5 @@
-use Rattle.naive_base.proofs.Words.{arith, ints, rules}
-use Rattle.naive_base.proofs.Words.{to_z-of_z, w64, ◌∙◌}
+use Rattle.naive_base.proofs.Words.{arith}
+use Rattle.naive_base.proofs.Words.{to_z-of_z}
 use Rattle.naive_plans.proofs.RuleParts.{fourth_is}
 use Rattle.naive_plans.proofs.rule.fourth_of_week.Goals as goal
 

@@ -1,4 +1,3 @@
-use Rattle.naive_base.proofs.Words.{arith, ints, rules}
 use Rattle.naive_base.proofs.Words.{to_z-of_z, w64}
 use Rattle.naive_plans.proofs.Periods.{last_one}
 use Rattle.naive_plans.proofs.rule_periods.last_period.Goals as goal

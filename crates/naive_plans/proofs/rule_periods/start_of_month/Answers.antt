@@ -1,4 +1,3 @@
-use Rattle.naive_base.proofs.Words.{rules}
 use Rattle.naive_base.proofs.Words.{arith, ints, to_z-of_z, w64}
 use Rattle.std.proofs.lemmas.Int.{clamps}
 use Rattle.naive_plans.proofs.Periods.{month_earlier, month_later}

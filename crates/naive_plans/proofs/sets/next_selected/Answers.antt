@@ -1,5 +1,4 @@
-use Rattle.naive_base.proofs.Words.{ints, rules, to_z-of_z}
-use Rattle.naive_base.proofs.Words.{arith, refl}
+use Rattle.naive_base.proofs.Words.{rules, to_z-of_z}
 use Rattle.naive_plans.proofs.Selected.{next_kept, passed_one}
 use Rattle.naive_plans.proofs.sets.next_selected.Goals as goal
 

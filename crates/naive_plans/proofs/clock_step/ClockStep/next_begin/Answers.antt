@@ -1,4 +1,3 @@
-use Rattle.naive_base.proofs.Words.{arith, ints, rules}
 use Rattle.naive_base.proofs.Words.{to_z-of_z, w64}
 use Rattle.naive_plans.proofs.ClockSteps.{next_is}
 use Rattle.naive_plans.proofs.clock_step.ClockStep.next_begin.Goals as goal

@@ -1,6 +1,5 @@
-use Rattle.naive_base.proofs.Words.{ints, to_z-of_z}
-use Rattle.std.proofs.Common.{IsTrue, arith, false, get_or, inl, inr, rules}
-use Rattle.gregorian.specs.Weekdays.{weekday_of}
+use Rattle.naive_base.proofs.Words.{to_z-of_z}
+use Rattle.std.proofs.Common.{arith}
 use Rattle.naive_plans.proofs.CronWalk.{no_date, no_date_by_either}
 use Rattle.naive_plans.proofs.cron.Cron.has_no_date.Goals as goal
 

@@ -1,5 +1,5 @@
-use Rattle.naive_base.proofs.Words.{ints, rules, to_z-of_z}
-use Rattle.naive_base.proofs.Words.{arith, day_of, refl}
+use Rattle.naive_base.proofs.Words.{to_z-of_z}
+use Rattle.naive_base.proofs.Words.{arith}
 use Rattle.naive_plans.proofs.CronWalk.{found, passed}
 use Rattle.naive_plans.proofs.cron.CronDayPlan.first_second_from.Goals as goal
 

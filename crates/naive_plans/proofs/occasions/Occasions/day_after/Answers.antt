@@ -1,4 +1,3 @@
-use Rattle.naive_base.proofs.Words.{arith, ints}
 use Rattle.naive_base.proofs.Words.{of_z, rules, to_z, to_z-of_z, w64, ◌≡◌}
 use Rattle.naive_plans.proofs.OccasionWalk.{day_from, days_between}
 use Rattle.naive_plans.proofs.occasions.Occasions.day_after.Goals as goal

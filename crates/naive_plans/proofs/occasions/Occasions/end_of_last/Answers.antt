@@ -1,5 +1,5 @@
-use Rattle.naive_base.proofs.Words.{ints, rules}
-use Rattle.naive_base.proofs.Words.{ap, arith, of_z, refl, to_z, to_z-of_z, w64}
+use Rattle.naive_base.proofs.Words.{ints}
+use Rattle.naive_base.proofs.Words.{ap, arith, of_z, refl, to_z-of_z, w64}
 use Rattle.naive_plans.proofs.OccasionWalk.{counts_here, last_bounds, later_bounds}
 use Rattle.naive_plans.proofs.OccasionsBack.{ends_earlier, none_counted}
 use Rattle.naive_plans.proofs.occasions.Occasions.end_of_last.Goals as goal

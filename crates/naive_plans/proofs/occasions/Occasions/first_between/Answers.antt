@@ -1,4 +1,3 @@
-use Rattle.naive_base.proofs.Words.{rules}
 use Rattle.naive_base.proofs.Words.{arith, by_lt_z, floor_div, floors, ints, pos, to_z, to_z-of_z, w64, ◌*ℤ◌, ◌≡◌}
 use Rattle.naive_plans.specs.RecurrenceRules.{IsOccasion, IsOccasionOn}
 use Rattle.naive_plans.proofs.DayWalk.{none_on_day}

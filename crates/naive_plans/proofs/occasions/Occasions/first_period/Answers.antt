@@ -1,6 +1,5 @@
-use Rattle.naive_base.proofs.Words.{arith, ints}
-use Rattle.naive_base.proofs.Words.{rules, to_z-of_z, w64, ◌≡◌}
-use Rattle.naive_plans.specs.Steps.RuleSteps.{own_period}
+use Rattle.naive_base.proofs.Words.{arith}
+use Rattle.naive_base.proofs.Words.{to_z-of_z}
 use Rattle.naive_plans.proofs.Periods.{period_low, weekday_under}
 use Rattle.naive_plans.proofs.occasions.Occasions.first_period.Goals as goal
 

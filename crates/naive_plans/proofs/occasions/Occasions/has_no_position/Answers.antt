@@ -1,4 +1,3 @@
-use Rattle.naive_base.proofs.Words.{arith, ints, to_z-of_z}
 use Rattle.naive_base.proofs.Words.{rules}
 use Rattle.naive_plans.proofs.Chains.{never_placed}
 use Rattle.naive_plans.proofs.occasions.Occasions.has_no_position.Goals as goal

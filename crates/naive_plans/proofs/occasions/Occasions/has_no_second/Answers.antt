@@ -1,5 +1,4 @@
-use Rattle.naive_base.proofs.Words.{ints, rules, to_z-of_z}
-use Rattle.gregorian.specs.Year.{floor_mod}
+use Rattle.naive_base.proofs.Words.{to_z-of_z}
 use Rattle.naive_base.proofs.Words.{arith}
 use Rattle.naive_plans.proofs.PeriodsOfDay.{no_second}
 use Rattle.naive_plans.proofs.occasions.Occasions.has_no_second.Goals as goal

@@ -1,4 +1,3 @@
-use Rattle.naive_base.proofs.Words.{ints, to_z-of_z}
 use Rattle.naive_base.proofs.Words.{arith, inl, inr, pos, rules, ◌≡◌, ◌∙◌}
 use Rattle.std.proofs.Common.{get_or}
 use Rattle.std.proofs.lemmas.Bool.{cases_order}

@@ -1,5 +1,5 @@
-use Rattle.naive_base.proofs.Words.{ints, to_z-of_z}
-use Rattle.naive_base.proofs.Words.{arith, of_z, refl, rules, to_z, w64, ◌≡◌}
+use Rattle.naive_base.proofs.Words.{to_z-of_z}
+use Rattle.naive_base.proofs.Words.{arith, refl, rules}
 use Rattle.naive_plans.proofs.NthTimes.{not_zeroth, told_after, told_before}
 use Rattle.naive_plans.proofs.occasions.Occasions.is_nth.Goals as goal
 

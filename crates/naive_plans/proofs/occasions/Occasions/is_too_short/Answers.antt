@@ -1,4 +1,3 @@
-use Rattle.naive_base.proofs.Words.{arith, ints, rules, to_z-of_z}
 use Rattle.naive_plans.proofs.Chains.{never_nth}
 use Rattle.naive_plans.proofs.occasions.Occasions.is_too_short.Goals as goal
 

@@ -1,5 +1,4 @@
-use Rattle.naive_base.proofs.Words.{ints}
-use Rattle.naive_base.proofs.Words.{arith, rules, to_z-of_z}
+use Rattle.naive_base.proofs.Words.{arith, to_z-of_z}
 use Rattle.naive_plans.proofs.OccasionsBack.{with_date_back}
 use Rattle.naive_plans.proofs.occasions.Occasions.last_on.Goals as goal
 

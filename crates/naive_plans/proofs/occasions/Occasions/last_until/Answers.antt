@@ -1,4 +1,3 @@
-use Rattle.naive_base.proofs.Words.{rules}
 use Rattle.naive_base.proofs.Words.{arith, by_lt_z, floor_div, floors, ints, pos, to_z, to_z-of_z, w64, ◌*ℤ◌, ◌+ℤ◌, ◌-ℤ◌, ◌≡◌}
 use Rattle.naive_plans.specs.RecurrenceRules.{IsOccasionOn}
 use Rattle.naive_plans.proofs.DayWalk.{last_on_day, none_back}

@@ -1,4 +1,3 @@
-use Rattle.naive_base.proofs.Words.{ints}
 use Rattle.naive_base.proofs.Words.{arith, floor_div, rules, to_z-of_z, w64, ◌≡◌}
 use Rattle.naive_plans.proofs.OccasionWalk.{after_month}
 use Rattle.naive_plans.proofs.occasions.Occasions.next_day.Goals as goal

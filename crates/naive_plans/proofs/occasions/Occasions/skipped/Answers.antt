@@ -1,4 +1,3 @@
-use Rattle.naive_base.proofs.Words.{ints}
 use Rattle.naive_base.proofs.Words.{arith, of_z, refl, rules, to_z, to_z-of_z, w64, ◌≡◌}
 use Rattle.naive_plans.proofs.OccasionWalk.{hour_skipped, minute_skipped, period_skipped, second_skipped}
 use Rattle.naive_plans.proofs.occasions.Occasions.skipped.Goals as goal

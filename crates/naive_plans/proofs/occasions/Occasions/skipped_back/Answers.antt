@@ -1,4 +1,3 @@
-use Rattle.naive_base.proofs.Words.{ints}
 use Rattle.naive_base.proofs.Words.{arith, of_z, refl, rules, to_z, to_z-of_z, w64, ◌≡◌}
 use Rattle.naive_plans.proofs.OccasionsBack.{hour_back, minute_back, one_back, period_back}
 use Rattle.naive_plans.proofs.occasions.Occasions.skipped_back.Goals as goal

@@ -1,4 +1,3 @@
-use Rattle.naive_base.proofs.Words.{ints, rules, to_z-of_z}
 use Rattle.naive_base.proofs.Words.{arith}
 use Rattle.naive_plans.proofs.Chains.{none_counted, one_counted}
 use Rattle.naive_plans.proofs.occasions.Occasions.times_in.Goals.{else-has_second_at, then-has_second_at}

@@ -1,4 +1,4 @@
-use Rattle.naive_base.proofs.Words.{arith, by_lt_z, ints, of_z, pos, rules, to_z, to_z-of_z, w64, ◌+ℤ◌, ◌≡◌}
+use Rattle.naive_base.proofs.Words.{arith, rules, to_z-of_z}
 use Rattle.naive_plans.proofs.RuleTimes.{from_later, none_left}
 use Rattle.naive_plans.proofs.recurrence.Recurrence.first_after.Goals as goal
 

@@ -1,5 +1,5 @@
-use Rattle.naive_base.proofs.Words.{arith, ints, rules}
-use Rattle.naive_base.proofs.Words.{to_z-of_z, w64}
+use Rattle.naive_base.proofs.Words.{arith}
+use Rattle.naive_base.proofs.Words.{to_z-of_z}
 use Rattle.naive_plans.proofs.RuleTimes.{has_times}
 use Rattle.naive_plans.proofs.recurrence.Recurrence.new.Goals as goal
 

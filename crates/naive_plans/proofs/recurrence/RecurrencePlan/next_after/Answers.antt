@@ -1,5 +1,5 @@
-use Rattle.naive_base.proofs.Words.{arith, ints}
-use Rattle.naive_base.proofs.Words.{of_z, rules, to_z, to_z-of_z, w64, ◌∙◌, ◌≡◌}
+use Rattle.naive_base.proofs.Words.{arith}
+use Rattle.naive_base.proofs.Words.{to_z-of_z}
 use Rattle.naive_plans.proofs.RuleTimes.{next_later}
 use Rattle.naive_plans.proofs.recurrence.RecurrencePlan.next_after.Goals as goal
 

@@ -1,5 +1,5 @@
-use Rattle.naive_base.proofs.Words.{arith, ints}
-use Rattle.naive_base.proofs.Words.{rules, to_z-of_z}
+use Rattle.naive_base.proofs.Words.{arith}
+use Rattle.naive_base.proofs.Words.{to_z-of_z}
 use Rattle.naive_plans.proofs.RuleParts.{in_week}
 use Rattle.naive_plans.proofs.rule.RecurrenceRule.has_week.Goals as goal
 

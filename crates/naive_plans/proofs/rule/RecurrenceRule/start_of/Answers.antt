@@ -1,4 +1,3 @@
-use Rattle.naive_base.proofs.Words.{rules}
 use Rattle.std.proofs.Common.{SFits}
 use Rattle.naive_base.proofs.Words.{arith, floor_div, ints, neg_ℤ, of_z, pos, to_z, to_z-of_z, w64, ◌*ℤ◌, ◌≡◌, ◌≤ℤ◌}
 use Rattle.naive_plans.proofs.Periods.{year_by_month}
