@@ -1,6 +1,6 @@
 -- The walk back over the times that a rule's parts let through.
 use Rattle.naive_base.proofs.Words.{MatchOption, None, Option, Some, arith, by_lt_z, date_is, date_only, day_number, floor_div, floor_mod, floors}
-use Rattle.naive_base.proofs.Words.{ints, neg_ℤ, pos, unsigned_abs, ℕ, ℤ, ◌*◌, ◌*ℤ◌, ◌+ℤ◌, ◌+◌, ◌-ℤ◌, ◌-◌, ◌/◌, ◌<ℤ◌, ◌<◌, ◌≡◌, ◌≤ℤ◌, ◌≤◌}
+use Rattle.naive_base.proofs.Words.{ints, pos, unsigned_abs, ℕ, ℤ, ◌*◌, ◌*ℤ◌, ◌+ℤ◌, ◌+◌, ◌-ℤ◌, ◌-◌, ◌/◌, ◌<ℤ◌, ◌<◌, ◌≡◌, ◌≤ℤ◌, ◌≤◌}
 use Rattle.naive_base.proofs.Words.{day_of_month, days_in_month, is_leap, month_of, year_of}
 use Rattle.naive_base.proofs.Words.{nat_tests}
 use Rattle.std.proofs.{Common.{Bool}}
@@ -10,7 +10,7 @@ use Rattle.naive_plans.specs.Plans.{HasNoneUntil}
 use Rattle.naive_base.proofs.Words.{weekday_number}
 use Rattle.naive_plans.proofs.OccasionWalk.{not_counted, on_date, time_of}
 use Rattle.naive_plans.proofs.Periods.{long_before, period_rises}
-use Rattle.naive_plans.specs.Steps.OccasionSteps.{IsCounted, IsEndOfLast, IsSkippedBack, IsTimeOn}
+use Rattle.naive_plans.specs.Steps.OccasionSteps.{IsEndOfLast, IsSkippedBack, IsTimeOn}
 use Rattle.naive_plans.specs.Steps.RuleSteps.{IsLastPeriod, own_period}
 use Rattle.naive_plans.specs.RecurrenceRules.{HasHour, HasMinute, HasMonth, IsOccasion, IsOccasionOn, IsOnDate}
 use Rattle.naive_plans.specs.declared.rule.RecurrenceRule.{RecurrenceRule}

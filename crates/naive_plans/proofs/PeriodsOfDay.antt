@@ -1,6 +1,6 @@
 -- The periods of a day that a rule by hours, minutes or seconds meets.
 use Rattle.naive_base.proofs.Words.{arith, floor_div, floor_mod, floors, inl, inr, ints, pos, sym, unsigned_abs}
-use Rattle.naive_base.proofs.Words.{ℕ, ℤ, ◌%◌, ◌*◌, ◌*ℤ◌, ◌+ℤ◌, ◌+◌, ◌-ℤ◌, ◌/◌, ◌<◌, ◌≡◌, ◌≤◌}
+use Rattle.naive_base.proofs.Words.{ℕ, ℤ, ◌%◌, ◌*◌, ◌*ℤ◌, ◌+ℤ◌, ◌+◌, ◌-ℤ◌, ◌/◌, ◌<◌, ◌≡◌}
 use Rattle.std.proofs.Math.Nat.{add-mul-mod_self_right, div-add-mod', zero-mod}
 use Rattle.std.proofs.lemmas.Nat.{mul-mod_second}
 use Rattle.naive_plans.specs.RecurrenceRules.{HasSecond}

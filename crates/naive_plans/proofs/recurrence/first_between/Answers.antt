@@ -3,11 +3,7 @@ use Rattle.naive_plans.proofs.RuleTimes.{first_from, more_from, none_from}
 use Rattle.naive_plans.proofs.recurrence.first_between.Goals as goal
 
 pub returns-in_default : goal.returns-in_default
-returns-in_default c =
-    let fits = c.ranges.from in let fits_end = c.ranges.end in
-    let inv = rw (to_z-of_z {w = w64} fits, to_z-of_z {w = w64} fits_end) at c.times.invariant in
-    none_from c.args.of.now.rule c.args.of.now.start c.args.from (to_z w64 c.times.left-bits) c.args.end inv.1
-    (rw (to_z-of_z {w = w64} fits_end) at c.in_default.ensures)
+returns-in_default c = grind (arith, to_z-of_z, none_from)
 
 pub returns-then-is_at_position : goal.returns-then-is_at_position
 returns-then-is_at_position c =

@@ -1,16 +1,10 @@
-use Rattle.naive_base.proofs.Words.{arith, ints, of_z, pos, refl, rules, to_z, to_z-of_z, w64, ◌≡◌}
+use Rattle.naive_base.proofs.Words.{arith, of_z, pos, refl, rules, to_z, to_z-of_z, w64, ◌≡◌}
 use Rattle.naive_plans.specs.RecurrenceSets.{IsRuleTime}
 use Rattle.naive_plans.proofs.Counted.{all_counted, none_counted, one_more_counted, whole_count}
 use Rattle.naive_plans.proofs.recurrence.last_of.Goals as goal
 
 pub times-init : goal.times-init
-times-init c =
-    let started = c.args.of.now.started in let value = c.before_start-last.ensures.value in
-    rw (to_z-of_z {w = w64} (record { sfits = c.before_start-last.type_inv })) (
-      omega arith,
-      none_counted (IsRuleTime c.args.of.now.rule c.args.of.now.start) c.args.of.now.start c.before_start-last.result
-          (λ l one. one.from_start) value (let short = started.3 in omega (arith, ints, value, short)),
-    )
+times-init c = search (rules, to_z-of_z, none_counted)
 
 pub times-preserved : goal.times-preserved
 times-preserved c =

@@ -4,9 +4,7 @@ use Rattle.naive_plans.proofs.RuleTimes.{all_early, last_found, more_to, none_of
 use Rattle.naive_plans.proofs.recurrence.last_to.Goals as goal
 
 pub returns-in_default : goal.returns-in_default
-returns-in_default c =
-    let fits = c.ranges.until in let inv = rw (to_z-of_z {w = w64} fits) at c.times.invariant in
-    none_of_them c.args.of.now.rule c.args.of.now.start c.args.until (to_z w64 c.times.to-bits) inv c.in_default.ensures
+returns-in_default c = grind (arith, to_z-of_z, none_of_them)
 
 pub returns-then-not-is_from : goal.returns-then-not-is_from
 returns-then-not-is_from c =
@@ -41,12 +39,7 @@ times-preserved c =
     c.args.of.now.started.2 inv own (λ own_at. let told = at.1 own_at in grind (arith, told, c.if-is_at_position.false)) next)
 
 pub returns : goal.returns
-returns c =
-    let fits = c.ranges.until in let inv = rw (to_z-of_z {w = w64} fits) at c.times.invariant in let started = c.args.of.now.started in
-    let start_is : to_z w64 (of_z w64 c.args.of.now.start) ≡ c.args.of.now.start = search rules in
-    let from = rw start_is at c.is_from.ensures in
-    none_to_start c.args.of.now.rule c.args.of.now.start c.args.until (to_z w64 c.times.to-bits) inv
-    (λ le. let told = from.1 le in grind (arith, told, c.times-test.false))
+returns c = search (rules, to_z-of_z, none_to_start)
 
 pub is_at_position-requires-clause-from_start : goal.is_at_position-requires-clause-from_start
 is_at_position-requires-clause-from_start c =

@@ -1,4 +1,4 @@
-use Rattle.naive_base.proofs.Words.{arith, floor_div, floors, ints, of_z, pos, rules, to_z, to_z-of_z, w64, ◌-ℤ◌, ◌≡◌}
+use Rattle.naive_base.proofs.Words.{arith, floors, ints, of_z, rules, to_z, to_z-of_z, w64, ◌≡◌}
 use Rattle.std.proofs.lemmas.Int.{clamps}
 use Rattle.naive_plans.proofs.OccasionsBack.{day_to, days_up_to}
 use Rattle.naive_plans.proofs.occasions.Occasions.day_before.Goals as goal

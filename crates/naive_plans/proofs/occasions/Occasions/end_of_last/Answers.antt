@@ -1,4 +1,5 @@
-use Rattle.naive_base.proofs.Words.{ap, arith, of_z, refl, to_z, to_z-of_z, w64}
+use Rattle.naive_base.proofs.Words.{ints}
+use Rattle.naive_base.proofs.Words.{ap, arith, of_z, refl, to_z-of_z, w64}
 use Rattle.naive_plans.proofs.OccasionWalk.{counts_here, last_bounds, later_bounds}
 use Rattle.naive_plans.proofs.OccasionsBack.{ends_earlier, none_counted}
 use Rattle.naive_plans.proofs.occasions.Occasions.end_of_last.Goals as goal
@@ -7,19 +8,10 @@ pub last_period-last-requires-clause-later : goal.last_period-last-requires-clau
 last_period-last-requires-clause-later c = c.if-not-is_from.ensures.0 refl
 
 pub period_after-requires-clause-first : goal.period_after-requires-clause-first
-period_after-requires-clause-first c =
-    let own = rw (to_z-of_z {w = w64} (record { sfits = c.first_period-first.type_inv }), to_z-of_z {w = w64} (record { sfits = c.period_at-period.type_inv }))
-    at c.last_period-last.ensures in
-    rw (to_z-of_z {w = w64} (record { sfits = c.last_period-last.type_inv }))
-    (last_bounds _ _ _ _ own c.first_period-first.ensures.bound c.period_at-period.ensures.bound)
+period_after-requires-clause-first c = search (arith, ints, to_z-of_z, last_bounds)
 
 pub start_of-requires : goal.start_of-requires
-start_of-requires c =
-    let own = rw (to_z-of_z {w = w64} (record { sfits = c.first_period-first.type_inv }), to_z-of_z {w = w64} (record { sfits = c.period_at-period.type_inv }))
-    at c.last_period-last.ensures in
-    rw (to_z-of_z {w = w64} (record { sfits = c.period_after.type_inv })) (later_bounds c.args.self.now.rule.interval 1 _ _ _ _ c.period_after.result own
-    c.first_period-first.ensures.least c.period_at-period.ensures.bound
-    (rw (to_z-of_z {w = w64} (record { sfits = c.last_period-last.type_inv })) at c.period_after.ensures) (omega arith))
+start_of-requires c = search (arith, ints, to_z-of_z, later_bounds)
 
 pub returns-then-not-is_from : goal.returns-then-not-is_from
 returns-then-not-is_from c =
@@ -32,14 +24,7 @@ returns-then-not-is_from c =
     c.args.self.now.started.3 c.second_before_all.ensures)
 
 pub returns-then-last-period : goal.returns-then-last-period
-returns-then-last-period c =
-    let fits = c.ranges.second in
-    counts_here c.args.self.now.rule c.args.self.now.start c.args.second _ _ _ c.first_period-first.ensures.value
-    (simp to_z-of_z at c.period_at-period.ensures.value)
-    (rw (to_z-of_z {w = w64} (record { sfits = c.first_period-first.type_inv }), to_z-of_z {w = w64} (record { sfits = c.period_at-period.type_inv }))
-    at c.last_period-last.ensures)
-    (rw (to_z-of_z {w = w64} (record { sfits = c.last_period-last.type_inv }), to_z-of_z {w = w64} (record { sfits = c.period_at-period.type_inv }))
-    at (ap (to_z w64) c.if-last-period.true))
+returns-then-last-period c = grind (arith, to_z-of_z, counts_here)
 
 pub returns : goal.returns
 returns c =

@@ -3,9 +3,7 @@ use Rattle.naive_plans.proofs.NthTimes.{all_passed_on, as_far_on, near_on, none_
 use Rattle.naive_plans.proofs.occasions.Occasions.has_after.Goals as goal
 
 pub times-init : goal.times-init
-times-init c =
-    let fits = c.ranges.time in
-    rw (to_z-of_z {w = w64} fits) (as_far_on c.args.self.now.rule c.args.self.now.start c.args.time c.args.count c.requires.one)
+times-init c = search (rules, to_z-of_z, as_far_on)
 
 pub times-preserved : goal.times-preserved
 times-preserved c =
@@ -18,12 +16,7 @@ times-preserved c =
     rw (after_is, to_z-of_z {w = w64} fits) step
 
 pub returns-in-None : goal.returns-in-None
-returns-in-None c =
-    let fits = c.ranges.time in let inv = rw (to_z-of_z {w = w64} fits) at c.times.invariant in (
-      λ no. absurd (search rules),
-      λ has. absurd (none_so_far_on c.args.self.now.rule c.args.self.now.start c.args.time (to_z w64 c.times.last-bits) c.args.count c.times.left inv
-          c.times-test.true c.in-None.ensures has),
-    )
+returns-in-None c = grind (arith, to_z-of_z, none_so_far_on)
 
 pub returns : goal.returns
 returns c =

@@ -4,9 +4,7 @@ use Rattle.naive_plans.proofs.OccasionsBack.{after_all}
 use Rattle.naive_plans.proofs.occasions.Occasions.has_before.Goals as goal
 
 pub times-init : goal.times-init
-times-init c =
-    let fits = c.ranges.time in
-    rw (to_z-of_z {w = w64} fits) (as_far c.args.self.now.rule c.args.self.now.start c.args.time c.args.count c.requires.one)
+times-init c = search (rules, to_z-of_z, as_far)
 
 pub times-preserved : goal.times-preserved
 times-preserved c =
@@ -18,12 +16,7 @@ times-preserved c =
     c.args.count c.times.left inv c.times-test.true own)
 
 pub returns-in-None : goal.returns-in-None
-returns-in-None c =
-    let fits = c.ranges.time in let inv = rw (to_z-of_z {w = w64} fits) at c.times.invariant in (
-      λ no. absurd (search rules),
-      λ has. absurd (none_so_far c.args.self.now.rule c.args.self.now.start c.args.time (to_z w64 c.times.first-bits) c.args.count c.times.left inv
-          c.times-test.true c.in-None.ensures has),
-    )
+returns-in-None c = grind (arith, to_z-of_z, none_so_far)
 
 pub returns : goal.returns
 returns c =

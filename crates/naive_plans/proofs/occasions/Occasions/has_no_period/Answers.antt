@@ -1,4 +1,4 @@
-use Rattle.naive_base.proofs.Words.{arith, floor_mod, rules, to_z-of_z, w64, ◌≡◌}
+use Rattle.naive_base.proofs.Words.{arith, floor_mod, rules, ◌≡◌}
 use Rattle.naive_plans.proofs.PeriodsOfDay.{never_met}
 use Rattle.naive_plans.proofs.occasions.Occasions.has_no_period.Goals as goal
 

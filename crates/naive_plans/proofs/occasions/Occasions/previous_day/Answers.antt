@@ -13,7 +13,7 @@ returns-clause-none c =
     (simp to_z-of_z at c.days_earlier.ensures) (λ has. let yes = c.has_month.ensures.1 has in grind (arith, yes, c.if-has_month.false)) on less)
 
 pub days_earlier-requires-clause-days : goal.days_earlier-requires-clause-days
-days_earlier-requires-clause-days c = let fits = c.ranges.day in in_month c.args.day _ (simp to_z-of_z at c.date_of-date.ensures.day)
+days_earlier-requires-clause-days c = search (rules, to_z-of_z, in_month)
 
 pub returns-clause-near : goal.returns-clause-near
 returns-clause-near c =

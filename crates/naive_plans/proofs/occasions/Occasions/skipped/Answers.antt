@@ -3,16 +3,14 @@ use Rattle.naive_plans.proofs.OccasionWalk.{hour_skipped, minute_skipped, period
 use Rattle.naive_plans.proofs.occasions.Occasions.skipped.Goals as goal
 
 pub returns-then-not-has_hour : goal.returns-then-not-has_hour
-returns-then-not-has_hour c = hour_skipped c.args.self.now.rule c.args.self.now.start c.args.day c.args.second c.requires.second
-    (λ has. let yes = c.has_hour.ensures.1 has in grind (arith, yes, c.if-not-has_hour.true))
+returns-then-not-has_hour c = grind (arith, to_z-of_z, hour_skipped)
 
 pub returns-then-not-has_minute : goal.returns-then-not-has_minute
 returns-then-not-has_minute c = minute_skipped c.args.self.now.rule c.args.self.now.start c.args.day c.args.second c.requires.second
     (λ has. let yes = c.has_minute.ensures.1 has in grind (arith, yes, c.if-not-has_minute.true))
 
 pub returns-then-not-has_second : goal.returns-then-not-has_second
-returns-then-not-has_second c = second_skipped c.args.self.now.rule c.args.self.now.start c.args.day c.args.second c.requires.second
-    (λ has. let yes = c.has_second.ensures.1 has in grind (arith, yes, c.if-not-has_second.true))
+returns-then-not-has_second c = grind (arith, to_z-of_z, second_skipped)
 
 pub returns-in-Some : goal.returns-in-Some
 returns-in-Some c =

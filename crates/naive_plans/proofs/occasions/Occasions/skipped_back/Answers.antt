@@ -3,16 +3,14 @@ use Rattle.naive_plans.proofs.OccasionsBack.{hour_back, minute_back, one_back, p
 use Rattle.naive_plans.proofs.occasions.Occasions.skipped_back.Goals as goal
 
 pub returns-then-not-has_hour : goal.returns-then-not-has_hour
-returns-then-not-has_hour c = hour_back c.args.self.now.rule c.args.self.now.start c.args.day c.args.second (λ has. let yes = c.has_hour.ensures.1 has in
-    grind (arith, yes, c.if-not-has_hour.true))
+returns-then-not-has_hour c = grind (arith, to_z-of_z, hour_back)
 
 pub returns-then-not-has_minute : goal.returns-then-not-has_minute
 returns-then-not-has_minute c = minute_back c.args.self.now.rule c.args.self.now.start c.args.day c.args.second (λ has. let yes = c.has_minute.ensures.1 has
     in grind (arith, yes, c.if-not-has_minute.true))
 
 pub returns-then-not-has_second : goal.returns-then-not-has_second
-returns-then-not-has_second c = one_back _ c.args.second (λ on. let yes = c.has_second.ensures.1 on.at_second in
-    absurd (grind (arith, yes, c.if-not-has_second.true)))
+returns-then-not-has_second c = grind (arith, to_z-of_z, one_back)
 
 pub returns-in-Some : goal.returns-in-Some
 returns-in-Some c =

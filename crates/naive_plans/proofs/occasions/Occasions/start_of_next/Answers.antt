@@ -1,38 +1,19 @@
-use Rattle.naive_base.proofs.Words.{ap, of_z, to_z, to_z-of_z, w64}
+use Rattle.naive_base.proofs.Words.{arith, ints, rules}
+use Rattle.naive_base.proofs.Words.{ap, of_z, to_z-of_z, w64}
 use Rattle.naive_plans.proofs.OccasionWalk.{counts_here, first_not_later, last_bounds, later_bounds, starts_later}
 use Rattle.naive_plans.proofs.occasions.Occasions.start_of_next.Goals as goal
 
 pub last_period-last-requires-clause-later : goal.last_period-last-requires-clause-later
-last_period-last-requires-clause-later c =
-    let fits = c.ranges.second in
-    rw (to_z-of_z {w = w64} (record { sfits = c.first_period.type_inv }), to_z-of_z {w = w64} (record { sfits = c.period_at-period.type_inv }))
-    (first_not_later c.args.self.now.rule c.args.self.now.start c.args.second _ _ c.first_period.ensures.value
-    (simp to_z-of_z at c.period_at-period.ensures.value) c.requires.from_start)
+last_period-last-requires-clause-later c = grind (arith, to_z-of_z, first_not_later)
 
 pub period_after-requires-clause-first : goal.period_after-requires-clause-first
-period_after-requires-clause-first c =
-    let own = rw (to_z-of_z {w = w64} (record { sfits = c.first_period.type_inv }), to_z-of_z {w = w64} (record { sfits = c.period_at-period.type_inv }))
-    at c.last_period-last.ensures in
-    rw (to_z-of_z {w = w64} (record { sfits = c.last_period-last.type_inv }))
-    (last_bounds _ _ _ _ own c.first_period.ensures.bound c.period_at-period.ensures.bound)
+period_after-requires-clause-first c = search (rules, to_z-of_z, last_bounds)
 
 pub start_of-requires : goal.start_of-requires
-start_of-requires c =
-    let own = rw (to_z-of_z {w = w64} (record { sfits = c.first_period.type_inv }), to_z-of_z {w = w64} (record { sfits = c.period_at-period.type_inv }))
-    at c.last_period-last.ensures in
-    rw (to_z-of_z {w = w64} (record { sfits = c.period_after.type_inv }))
-    (later_bounds c.args.self.now.rule.interval c.args.self.now.rule.interval _ _ _ _ c.period_after.result own
-    c.first_period.ensures.least c.period_at-period.ensures.bound
-    (rw (to_z-of_z {w = w64} (record { sfits = c.last_period-last.type_inv })) at c.period_after.ensures) c.args.self.now.started.1)
+start_of-requires c = search (arith, ints, to_z-of_z, later_bounds)
 
 pub returns-then-last-period : goal.returns-then-last-period
-returns-then-last-period c =
-    let fits = c.ranges.second in
-    counts_here c.args.self.now.rule c.args.self.now.start c.args.second _ _ _ c.first_period.ensures.value (simp to_z-of_z at c.period_at-period.ensures.value)
-    (rw (to_z-of_z {w = w64} (record { sfits = c.first_period.type_inv }), to_z-of_z {w = w64} (record { sfits = c.period_at-period.type_inv }))
-    at c.last_period-last.ensures)
-    (rw (to_z-of_z {w = w64} (record { sfits = c.last_period-last.type_inv }), to_z-of_z {w = w64} (record { sfits = c.period_at-period.type_inv }))
-    at (ap (to_z w64) c.if-last-period.true))
+returns-then-last-period c = grind (arith, to_z-of_z, counts_here)
 
 pub returns : goal.returns
 returns c =

@@ -1,14 +1,10 @@
+use Rattle.naive_base.proofs.Words.{arith}
 use Rattle.naive_base.proofs.Words.{of_z, rules, to_z, to_z-of_z, w64, ◌∙◌, ◌≡◌}
 use Rattle.naive_plans.proofs.RuleTimes.{last_planned, none_planned}
 use Rattle.naive_plans.proofs.recurrence.RecurrenceReversiblePlan.last_until.Goals as goal
 
 pub returns-in-None : goal.returns-in-None
-returns-in-None c =
-    let own = c.args.self.now in let bounded = own.bounded in
-    let last_is : to_z w64 (of_z w64 own.last) ≡ own.last = search rules in
-    let most = rw (to_z-of_z {w = w64} (record { sfits = c.secs_since_epoch.type_inv }), last_is, c.secs_since_epoch.ensures) at c.earlier.ensures.most in
-    none_planned own.occasions.rule own.occasions.start _ own.last c.earlier.result most (rw (to_z-of_z {w = w64} (record { sfits = c.earlier.type_inv })) at
-    c.in-None.ensures)
+returns-in-None c = grind (arith, to_z-of_z, none_planned)
 
 pub returns-in-Some : goal.returns-in-Some
 returns-in-Some c =
