@@ -8,7 +8,8 @@ use Rattle.naive_base.specs.declared.weekday.Weekday.{Weekday}
 use Rattle.gregorian.proofs.ForCallers.{months_all, months_step}
 use Rattle.std.proofs.Math.Nat.{div-add-mod', mod-lt, mul-mod_left, zero-mod}
 use Rattle.std.proofs.lemmas.Bool.{cases_order}
-use Rattle.naive_plans.proofs.Periods.{later_number, least_days, multiples_apart, one_more, weekday_under}
+use Rattle.naive_base.proofs.Named.{number_below}
+use Rattle.naive_plans.proofs.Periods.{in_same_month, least_days, multiples_apart}
 use Rattle.naive_plans.specs.{ClockSteps.{BeginsOnDay, BeginsStep, seconds_of_step}, PartsOfDay.{IsPartOfDay}}
 use Rattle.naive_plans.specs.Steps.{Members.{IsFirstAfter, IsLastUpTo}, StepPlaces.{IsPlace}}
 use Rattle.naive_plans.specs.declared.clock_step.ClockStep.{ClockStep}
@@ -17,14 +18,11 @@ use Rattle.naive_plans.specs.declared.clock_step.ClockStep.TheVariants.{Day, Mon
 -- ---- multiples of a number of seconds
 -- of n seconds, up to the second a of the day or after it
 module _ (n a : ℕ) where
-  apart : (k : ℕ) → (k / n * n ≤ a / n * n) ⊎ (a / n * n + n ≤ k / n * n)
-  apart k = rw (one_more (a / n) n) at (multiples_apart n (a / n) (k / n))
-
   last_multiple : (k : ℕ) → 1 ≤ n → k % n ≡ 0 → k ≤ a → k ≤ a - a % n
-  last_multiple k some none le = omega (arith, apart k)
+  last_multiple k some none le = omega (arith, multiples_apart n (a / n) (k / n))
 
   pub next_multiple : (k : ℕ) → k % n ≡ 0 → a < k → a - a % n + n ≤ k
-  next_multiple k none less = omega (arith, apart k, div-add-mod' a n, div-add-mod' k n)
+  next_multiple k none less = omega (arith, multiples_apart n (a / n) (k / n), div-add-mod' a n, div-add-mod' k n)
 
   whole : a - a % n ≡ a / n * n
   whole = omega (arith, div-add-mod' a n)
@@ -33,7 +31,7 @@ module _ (n a : ℕ) where
   is_multiple = rw whole (mul-mod_left (a / n) n)
 
   next_is_multiple : (a - a % n + n) % n ≡ 0
-  next_is_multiple = rw whole (rw (one_more (a / n) n) at (mul-mod_left (a / n + 1) n))
+  next_is_multiple = let more : (a / n + 1) * n ≡ a / n * n + n = omega arith in rw whole (rw more at (mul-mod_left (a / n + 1) n))
 
 -- ---- places of days
 -- steps that begin at midnight, or on each day
@@ -147,25 +145,17 @@ module _ (step : ClockStep) {s day : ℤ} {at before after n : ℕ} (is_day : da
 pub in_week : (first : Weekday) (day : ℤ) (before : ℕ) → before ≡ floor_mod (day +ℤ pos 4 -ℤ pos (weekday_number first)) 7
     → IsPlace (BeginsOnDay (Week first)) day before (6 - before)
 in_week first day before is =
-    let under = weekday_under first in
-    record {
-      first = omega (arith, ints, floors);
-      next = omega (arith, ints, floors);
-      none_between = λ d on later. omega (arith, ints, floors);
-    }
-
-first_number : (y : ℤ) (m d : ℕ) (day : ℤ) → 1 ≤ d → day_number y m d ≡ day → day_number y m 1 ≡ day -ℤ pos (d - 1)
-first_number y m d day low is = let own = number_at y m d low in omega (arith, ints)
+    let under = number_below first in
+    record { first = omega (arith, ints, floors); next = omega (arith, ints, floors); none_between = λ d on later. omega (arith, ints, floors) }
 
 next_number : (y : ℤ) (m d : ℕ) (day : ℤ) → 1 ≤ m → 1 ≤ d → d ≤ days_in_month (is_leap y) m → day_number y m d ≡ day
     → day_number y (m + 1) 1 ≡ day +ℤ pos (days_in_month (is_leap y) m - d) +ℤ pos 1
 unfolding day_number
-next_number y m d day low first last is =
-    let step = months_step (is_leap y) m low in let back : m + 1 - 1 ≡ m = omega arith in rw back (omega (arith, ints))
+next_number y m d day low first last is = let back : m + 1 - 1 ≡ m = omega arith in rw back (omega (arith, ints, months_step (is_leap y) m low))
 
 first_of_next_year : (y : ℤ) (day : ℤ) → day_number y 13 1 ≡ day → day_number (y +ℤ pos 1) 1 1 ≡ day
 unfolding day_number days_of_months
-first_of_next_year y day is = let all = months_all y in let next = year_step y in omega (arith, ints)
+first_of_next_year y day is = omega (arith, ints, months_all y, year_step y)
 
 next_month : (y : ℤ) (m : ℕ) (day : ℤ) → 1 ≤ m → m ≤ 12 → day_number y (m + 1) 1 ≡ day → day_of_month day ≡ 1
 next_month y m day low high is = elim (cases_order m 12) [
@@ -179,25 +169,17 @@ pub in_month : (day : ℤ) → IsPlace (BeginsOnDay Month) day (day_of_month day
 in_month day =
     let y = year_of day in let m = month_of day in let d = day_of_month day in
     let (date, number) = date_is day in let (low, high, first, last) = date in
-    let begins = first_number y m d day first number in
-    let ends = next_number y m d day low first last number in
-    let one_day : 1 ≤ days_in_month (is_leap y) m = omega arith in
     record {
-      first = (date_only (day -ℤ pos (d - 1)) y m 1 (low, high, omega arith, one_day) begins).2;
-      next = next_month y m (day +ℤ pos (days_in_month (is_leap y) m - d) +ℤ pos 1) low high ends;
+      first = (date_only (day -ℤ pos (d - 1)) y m 1 (low, high, omega arith, omega arith) (omega (arith, ints, number_at y m d first))).2;
+      next = next_month y m (day +ℤ pos (days_in_month (is_leap y) m - d) +ℤ pos 1) low high (next_number y m d day low first last number);
       none_between = λ e on later. by_lt_z (day +ℤ pos (days_in_month (is_leap y) m - d)) e (λ more. more)
-          (λ not. absurd (
-          let k : ℕ = unsigned_abs (e -ℤ (day -ℤ pos (d - 1))) in let is : day -ℤ pos (d - 1) +ℤ pos k ≡ e = omega (arith, ints) in
-          let within : 1 + k ≤ days_in_month (is_leap y) m = omega (arith, ints) in
-          let place = (date_only (day -ℤ pos (d - 1) +ℤ pos k) y m (1 + k) (low, high, omega arith, within) (later_number y m 1 k _ (omega arith) begins)).2
-          in let own : day_of_month e ≡ 1 + k = rw is at place in omega (arith, ints)
-          ));
+          (λ not. absurd (omega (arith, ints, in_same_month day e (omega (arith, ints)) not)));
     }
 
 start_lies : (y : ℤ) → (day_of_year (year_start y) ≡ 0) × (year_of (year_start y) ≡ y)
 start_lies y =
-    let step = year_step y in let some = days_at_least y in
-    let same = one_year (year_start y) y (year_of (year_start y)) (omega (arith, ints), omega (arith, ints)) (lies_in (year_start y)) in
+    let same = one_year (year_start y) y (year_of (year_start y)) (omega (arith, ints), omega (arith, ints, year_step y, days_at_least y))
+    (lies_in (year_start y)) in
     let own = (day_of_year_is (year_start y)).0 in (omega (arith, ints, rw (sym same) at own), sym same)
 
 pub in_year : (day : ℤ) → IsPlace (BeginsOnDay Year) day (day_of_year day) (days_in_year (year_of day) - 1 - day_of_year day)
@@ -211,8 +193,8 @@ in_year day =
       none_between = λ d on later.
           let other = (day_of_year_is d).0 in let lies = lies_in day in
           by_lt_z y (year_of d)
-          (λ more. let rise = starts_rise (y +ℤ pos 1) (year_of d) (omega (arith, ints)) in omega (arith, ints))
-          (λ not. absurd (let rise = starts_rise (year_of d) y not in omega (arith, ints)));
+          (λ more. omega (arith, ints, starts_rise (y +ℤ pos 1) (year_of d) (omega (arith, ints))))
+          (λ not. absurd (omega (arith, ints, starts_rise (year_of d) y not)));
     }
 
 -- ---- the same of what the code computes

@@ -2,16 +2,15 @@
 use Rattle.naive_base.proofs.Words.{MatchOption, None, Option, Some, arith, by_lt_z, date_is, date_only, day_number, floor_div, floor_mod, floors}
 use Rattle.naive_base.proofs.Words.{ints, pos, unsigned_abs, ℕ, ℤ, ◌*◌, ◌*ℤ◌, ◌+ℤ◌, ◌+◌, ◌-ℤ◌, ◌-◌, ◌/◌, ◌<ℤ◌, ◌<◌, ◌≡◌, ◌≤ℤ◌, ◌≤◌}
 use Rattle.naive_base.proofs.Words.{day_of_month, days_in_month, is_leap, month_of, year_of}
-use Rattle.naive_base.proofs.Words.{nat_tests}
-use Rattle.std.proofs.{Common.{Bool}}
+use Rattle.naive_base.proofs.Words.{month_bounds}
 use Rattle.naive_plans.proofs.DayWalk.{IsLeftBefore}
 use Rattle.naive_plans.specs.DayPlans.{HasNoSecondUntil, IsLastSecondUntil, IsPlannedOnItsDay}
 use Rattle.naive_plans.specs.Plans.{HasNoneUntil}
 use Rattle.naive_base.proofs.Words.{weekday_number}
-use Rattle.naive_plans.proofs.OccasionWalk.{not_counted, on_date, time_of}
-use Rattle.naive_plans.proofs.Periods.{long_before, period_rises}
+use Rattle.naive_plans.proofs.OccasionWalk.{on_date, time_of}
+use Rattle.naive_plans.proofs.Periods.{in_same_month, long_before, period_rises}
 use Rattle.naive_plans.specs.Steps.OccasionSteps.{IsEndOfLast, IsSkippedBack, IsTimeOn}
-use Rattle.naive_plans.specs.Steps.RuleSteps.{IsLastPeriod, own_period}
+use Rattle.naive_plans.specs.Steps.RuleSteps.{own_period}
 use Rattle.naive_plans.specs.RecurrenceRules.{HasHour, HasMinute, HasMonth, IsOccasion, IsOccasionOn, IsOnDate}
 use Rattle.naive_plans.specs.declared.rule.RecurrenceRule.{RecurrenceRule}
 
@@ -59,40 +58,21 @@ found_back on until left short h some one = record {
 pub with_date_back : (r : RecurrenceRule) (start day : ℤ) (until : ℕ) (found : Option ℕ) → IsOnDate r (floor_div start 86_400) day
     → MatchOption found (HasNoSecondUntil (IsTimeOn r start day) until) (λ s. IsLastSecondUntil (IsTimeOn r start day) until s)
     → MatchOption found (HasNoSecondUntil (IsOccasionOn r start day) until) (λ s. IsLastSecondUntil (IsOccasionOn r start day) until s)
-with_date_back r start day until None date none = λ k in_day on. none k in_day (time_of r start day k on)
+with_date_back r start day until None date none = λ k in_day on. none k in_day (time_of on)
 with_date_back r start day until (Some s) date last = record {
-  planned = on_date r start day s date last.planned;
+  planned = on_date date last.planned;
   not_after = last.not_after;
   in_day = last.in_day;
-  greatest = λ k in_day on. last.greatest k in_day (time_of r start day k on);
+  greatest = λ k in_day on. last.greatest k in_day (time_of on);
 }
-
-earlier_number : (y : ℤ) (m d k : ℕ) (day : ℤ) → 1 ≤ d → day_number y m (d + k) ≡ day → day_number y m d ≡ day -ℤ pos k
-unfolding day_number
-earlier_number y m d k day low is = omega (arith, ints)
-
-same_month_back : (day : ℤ) (d k : ℕ) → 1 ≤ d → d + k ≡ day_of_month day → month_of (day -ℤ pos k) ≡ month_of day
-same_month_back day d k low sum =
-    let own = date_is day in (date_only (day -ℤ pos k) (year_of day) (month_of day) d (own.0.0, own.0.1, low, omega arith)
-    (earlier_number (year_of day) (month_of day) d k day low (rw sum own.1))).1
-
-pub month_begun : (day d : ℤ) → d <ℤ day → (day -ℤ pos (day_of_month day)) <ℤ d → month_of d ≡ month_of day
-month_begun day d less after =
-    let k : ℕ = unsigned_abs (day -ℤ d) in let is : day -ℤ pos k ≡ d = omega (arith, ints) in
-    rw is at (same_month_back day (day_of_month day - k) k (omega (arith, ints)) (omega (arith, ints)))
 
 pub before_month : (r : RecurrenceRule) (start day d result : ℤ) (m f dom : ℕ) → m ≡ month_of day → dom ≡ day_of_month day → f ≡ month_of start
     → result ≡ day -ℤ pos dom → (HasMonth r f m → ⊥) → IsOnDate r start d → d <ℤ day → d ≤ℤ result
-before_month r start day d result m f dom is_month is_day is_first is none on less =
-    by_lt_z result d
-    (λ more. let same = month_begun day d less (omega (arith, ints)) in absurd (none (rw (is_month, is_first) (rw same at on.month))))
-    (λ not. not)
-
-most_days : (b : Bool) (m : ℕ) → days_in_month b m ≤ 31
-most_days b m = grind (arith, nat_tests)
+before_month r start day d result m f dom is_month is_day is_first is none on less = by_lt_z result d
+    (λ more. absurd (none (rw (is_month, is_first) (rw (in_same_month day d (omega (arith, ints)) (omega (arith, ints))).0 at on.month)))) (λ not. not)
 
 pub in_month : (day : ℤ) (dom : ℕ) → dom ≡ day_of_month day → dom ≤ 31
-in_month day dom is = let last = (date_is day).0.3 in let most = most_days (is_leap (year_of day)) (month_of day) in omega arith
+in_month day dom is = omega (arith, date_is day, month_bounds (is_leap (year_of day)) (month_of day))
 
 -- an earlier day with none after it
 pub left_earlier : (on : ℤ → ℕ → Type 0) (until day last : ℤ) → IsLeftBefore (IsPlannedOnItsDay on) until (day -ℤ pos 1) 86_399 → last <ℤ day
@@ -132,25 +112,6 @@ none_counted r start second first period end is_first is_period early in_years i
   none = λ l counted le. absurd (early (let rise = period_rises r.frequency (weekday_number r.week_start) l second le in omega (arith, ints)));
   not_here = λ counted. early (omega (arith, ints));
   bound = (omega (arith, ints), omega (arith, ints));
-}
-
-pub ends_earlier : (r : RecurrenceRule) (start second first period last next end : ℤ) → first ≡ own_period r start → period ≡ own_period r second
-    → IsLastPeriod r.interval first period last → (last ≡ period → ⊥) → next ≡ last +ℤ pos 1 → second <ℤ pos 345_600_086_400
-    → ((l : ℤ) → l <ℤ pos 345_600_086_400 → own_period r l <ℤ next → l <ℤ end)
-    → ((l : ℤ) → next ≤ℤ own_period r l → end ≤ℤ l) → start <ℤ pos 253_402_300_800 → IsEndOfLast r start second end
-ends_earlier r start second first period last next end is_first is_period own other is_next in_years earlier later start_in_years = record {
-  none = λ l counted le.
-      let rise : own_period r l ≤ℤ period = rw is_period (period_rises r.frequency (weekday_number r.week_start) l second le) in
-      let most = own.greatest (own_period r l) (rw is_first counted) rise in
-      earlier l (omega (arith, ints)) (omega (arith, ints));
-  not_here = not_counted r start second first period last is_first is_period own other;
-  bound = (
-    let from = earlier start (omega (arith, ints)) (omega (arith, ints)) in
-        omega (arith, ints),
-    by_lt_z last period
-        (λ less. let up = later second (omega (arith, ints)) in omega (arith, ints))
-        (λ not. absurd (other (omega (arith, ints)))),
-  );
 }
 
 pub period_back : (r : RecurrenceRule) (start day l e : ℤ) (second end : ℕ) → l ≡ day *ℤ pos 86_400 +ℤ pos second → IsEndOfLast r start l e

@@ -102,8 +102,9 @@ in_same_month day d after come =
 -- ---- the periods that count
 pub multiples_apart : (n t k : ℕ) → (k * n ≤ t * n) ⊎ ((t + 1) * n ≤ k * n)
 multiples_apart n t k = elim (cases_order t k) [
+  | inl same ↦ inl (mul-le-mul_right n (omega arith))
   | inr (inl less) ↦ inr (mul-le-mul_right n (omega arith))
-  | _ ↦ inl (mul-le-mul_right n (omega arith))
+  | inr (inr more) ↦ inl (mul-le-mul_right n (omega arith))
 ]
 
 pub last_one : (n : ℕ) (first period last : ℤ) (passed : ℕ) → 1 ≤ n → period ≡ first +ℤ pos passed → last ≡ first +ℤ pos (passed / n * n)

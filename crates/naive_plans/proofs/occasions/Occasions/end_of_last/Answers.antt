@@ -1,7 +1,7 @@
 use Rattle.naive_base.proofs.Words.{ints}
 use Rattle.naive_base.proofs.Words.{ap, arith, of_z, refl, to_z-of_z, w64}
-use Rattle.naive_plans.proofs.OccasionWalk.{counts_here, last_bounds, later_bounds}
-use Rattle.naive_plans.proofs.OccasionsBack.{ends_earlier, none_counted}
+use Rattle.naive_plans.proofs.OccasionWalk.{counts_here, ends_earlier, last_bounds, later_bounds}
+use Rattle.naive_plans.proofs.OccasionsBack.{none_counted}
 use Rattle.naive_plans.proofs.occasions.Occasions.end_of_last.Goals as goal
 
 pub last_period-last-requires-clause-later : goal.last_period-last-requires-clause-later
@@ -30,8 +30,7 @@ pub returns : goal.returns
 returns c =
     let fits = c.ranges.second in
     rw (to_z-of_z {w = w64} (record { sfits = c.start_of.type_inv }))
-    (ends_earlier c.args.self.now.rule c.args.self.now.start c.args.second c.first_period-first.result c.period_at-period.result c.last_period-last.result
-    c.period_after.result c.start_of.result c.first_period-first.ensures.value (simp to_z-of_z at c.period_at-period.ensures.value)
+    (ends_earlier c.args.self.now.rule c.args.self.now.start c.args.second c.first_period-first.ensures.value (simp to_z-of_z at c.period_at-period.ensures.value)
     (rw (to_z-of_z {w = w64} (record { sfits = c.first_period-first.type_inv }), to_z-of_z {w = w64} (record { sfits = c.period_at-period.type_inv }))
     at c.last_period-last.ensures)
     (λ same. c.if-last-period.false (ap (of_z w64) same))

@@ -22,7 +22,7 @@ days-preserved c =
     rw (to_z-of_z {w = w64} (record { sfits = c.day_after-day.type_inv })) (
       omega (arith, ints, low, later),
       (let bound = c.day_after-day.ensures.bound in bound),
-      left_later on _ (to_z w64 c.days.day-bits) c.day_after-day.result (none_on_day on _ (to_z w64 c.days.day-bits) c.days.second inv.2
+      left_later on (none_on_day on _ (to_z w64 c.days.day-bits) c.days.second inv.2
           c.in_default.ensures) later c.day_after-day.ensures.none,
       omega arith,
     )
@@ -32,7 +32,7 @@ returns-in-Some c =
     let on = IsOccasionOn c.args.self.now.rule c.args.self.now.start in let fits = c.ranges.from in let fits_end = c.ranges.end in
     let inv = rw (to_z-of_z {w = w64} fits) at c.days.invariant in
     let over = rw (to_z-of_z {w = w64} fits_end, to_z-of_z {w = w64} (record { sfits = c.second_at.type_inv })) at c.before_end.ensures in
-    first_found on c.args.from c.args.end (to_z w64 c.days.day-bits) c.second_at.result c.days.second c.in-Some.found c.before_end.result inv.2
+    first_found on c.args.from c.args.end _ inv.2
     c.in-Some.ensures c.second_at.ensures over
 
 pub returns : goal.returns

@@ -1,6 +1,6 @@
 use Rattle.naive_base.proofs.Words.{to_z-of_z}
-use Rattle.naive_base.proofs.Words.{arith, refl, rules}
-use Rattle.naive_plans.proofs.NthTimes.{not_zeroth, told_after, told_before}
+use Rattle.naive_base.proofs.Words.{arith, of_z, refl, rules, to_z, w64, ◌≡◌}
+use Rattle.naive_plans.proofs.NthTimes.{End, Front, not_zeroth, told_nth}
 use Rattle.naive_plans.proofs.occasions.Occasions.is_nth.Goals as goal
 
 pub before_nth-requires : goal.before_nth-requires
@@ -10,10 +10,13 @@ pub after_nth-requires : goal.after_nth-requires
 after_nth-requires c = c.if-is_from_end.ensures.0 refl
 
 pub returns-then-is_from_front : goal.returns-then-is_from_front
-returns-then-is_from_front c = grind (arith, to_z-of_z, told_before)
+returns-then-is_from_front c =
+    let first = c.args.self.now.started.2 in let from = c.requires.from_start in let short = c.requires.in_years in
+    let same : to_z w64 (of_z w64 c.args.time.now) ≡ c.args.time.now = search rules in
+    told_nth Front _ c.before_nth.ensures (rw same at c.has_before.ensures)
 
 pub returns-then-is_from_end : goal.returns-then-is_from_end
-returns-then-is_from_end c = grind (arith, to_z-of_z, told_after)
+returns-then-is_from_end c = grind (arith, to_z-of_z, told_nth)
 
 pub returns : goal.returns
 returns c = search (rules, to_z-of_z, not_zeroth)

@@ -6,7 +6,7 @@ pub returns-in-None : goal.returns-in-None
 returns-in-None c =
     let fits = c.ranges.time in let from = rw (to_z-of_z {w = w64} fits) at c.second_after.ensures in
     let end = rw (to_z-of_z {w = w64} fits) at c.year_after.ensures in
-    none_after c.args.self.now.rule c.args.self.now.start c.args.time c.second_after.result c.year_after.result from end
+    none_after from end
     (rw (to_z-of_z {w = w64} (record { sfits = c.second_after.type_inv }), to_z-of_z {w = w64} (record { sfits = c.year_after.type_inv })) at
     c.in-None.ensures)
 
@@ -19,5 +19,5 @@ returns-in-Some c =
     let low = own.not_before in let high = own.before_end in let first = c.args.self.now.started.2 in let start = c.requires.from_start in
     let short = c.requires.in_years in
     let after_is : to_z w64 (of_z w64 c.in-Some.after) ≡ c.in-Some.after = search rules in
-    after_in_period c.args.self.now.rule c.args.self.now.start c.args.time c.second_after.result c.year_after.result c.in-Some.after _ from own
+    after_in_period c.args.time _ from own
     (rw (after_is, to_z-of_z {w = w64} fits) at c.in_period_of.ensures)

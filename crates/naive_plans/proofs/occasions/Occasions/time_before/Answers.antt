@@ -31,7 +31,7 @@ in_period_of-requires-clause-time c =
 pub returns-in-None : goal.returns-in-None
 returns-in-None c =
     let fits = c.ranges.time in let is = rw (to_z-of_z {w = w64} fits) at c.second_before.ensures in
-    none_before c.args.self.now.rule c.args.self.now.start c.args.time c.args.self.now.started.2 c.requires.in_years
+    none_before c.args.self.now.started.2 c.requires.in_years
     (rw (to_z-of_z {w = w64} (record { sfits = c.second_before.type_inv }), is) at c.in-None.ensures)
 
 pub returns-in-Some : goal.returns-in-Some
@@ -41,5 +41,5 @@ returns-in-Some c =
     let low = after_all c.args.self.now.rule c.args.self.now.start c.in-Some.before own.planned in let up = own.not_after in
     let first = c.args.self.now.started.2 in let short = c.requires.in_years in
     let before_is : to_z w64 (of_z w64 c.in-Some.before) ≡ c.in-Some.before = search rules in
-    before_in_period c.args.self.now.rule c.args.self.now.start c.args.time c.in-Some.before _ c.args.self.now.started.2 c.requires.in_years own
+    before_in_period _ c.args.self.now.started.2 c.requires.in_years own
     (rw (before_is, to_z-of_z {w = w64} fits) at c.in_period_of.ensures)
