@@ -15,44 +15,51 @@ use Rattle.naive_plans.specs.RecurrenceRules.{HasHour, HasMinute, HasMonth, IsOc
 use Rattle.naive_plans.specs.declared.rule.RecurrenceRule.{RecurrenceRule}
 
 -- ---- seconds of a day
-pub hour_back : (r : RecurrenceRule) (start day : ℤ) (second : ℕ) → (HasHour r (floor_mod start 86_400) second → ⊥)
-    → IsSkippedBack (IsTimeOn r start day) second (second / 3600 * 3600)
-hour_back r start day second not = record {
-  earlier = omega arith;
-  none = λ k on le. let other : k / 3600 ≡ second / 3600 → ⊥ = λ same. not (rw same at on.hour) in grind (arith, other);
-}
+-- the rule r with that start, up to a second of `day`
+module _ (r : RecurrenceRule) (start day : ℤ) (second : ℕ) where
+  pub hour_back : (HasHour r (floor_mod start 86_400) second → ⊥) → IsSkippedBack (IsTimeOn r start day) second (second / 3600 * 3600)
+  hour_back not = record {
+    earlier = omega arith;
+    none = λ k on le. let other : k / 3600 ≡ second / 3600 → ⊥ = λ same. not (rw same at on.hour) in grind (arith, other);
+  }
 
-pub minute_back : (r : RecurrenceRule) (start day : ℤ) (second : ℕ) → (HasMinute r (floor_mod start 86_400) second → ⊥)
-    → IsSkippedBack (IsTimeOn r start day) second (second / 60 * 60)
-minute_back r start day second not = record {
-  earlier = omega arith;
-  none = λ k on le. let other : k / 60 ≡ second / 60 → ⊥ = λ same. not (rw same at on.minute) in grind (arith, other);
-}
+  pub minute_back : (HasMinute r (floor_mod start 86_400) second → ⊥) → IsSkippedBack (IsTimeOn r start day) second (second / 60 * 60)
+  minute_back not = record {
+    earlier = omega arith;
+    none = λ k on le. let other : k / 60 ≡ second / 60 → ⊥ = λ same. not (rw same at on.minute) in grind (arith, other);
+  }
 
-pub one_back : (on : ℕ → Type 0) (second : ℕ) → (on second → ⊥) → IsSkippedBack on second second
-one_back on second not = record {
-  earlier = omega arith;
-  none = λ k one le. let other : k ≡ second → ⊥ = λ same. not (rw same at one) in grind (arith, other);
-}
+  pub period_back : {l e : ℤ} {end : ℕ} → l ≡ day *ℤ pos 86_400 +ℤ pos second → IsEndOfLast r start l e → end ≤ second
+      → ((k : ℕ) → k < second → (day *ℤ pos 86_400 +ℤ pos k) <ℤ e → k < end) → IsSkippedBack (IsTimeOn r start day) second end
+  period_back is own earlier to = record {
+    earlier = earlier;
+    none = λ k on le.
+        let other : k ≡ second → ⊥ = λ same. own.not_here (rw is (rw same at on.counts)) in
+        to k (grind (arith, other, le)) (own.none (day *ℤ pos 86_400 +ℤ pos k) on.counts (omega (arith, ints)));
+  }
 
 -- none comes from a second of the day on and up to another one
 abbrev pub IsPassedBack : (ℕ → Type 0) → ℕ → ℕ → Type 0
 IsPassedBack on until left = (left ≤ until + 1) × ((k : ℕ) → k < 86_400 → on k → k ≤ until → k < left)
 
-pub more_back : (on : ℕ → Type 0) (until left end : ℕ) → IsPassedBack on until left → 0 < left → IsSkippedBack on (left - 1) end → IsPassedBack on until end
-more_back on until left end h some skip = (
-  omega arith,
-  λ k in_day one le. let below = h.1 k in_day one le in skip.none k one (omega arith),
-)
+-- the seconds of a day that `on` lists
+module _ (on : ℕ → Type 0) where
+  pub one_back : (second : ℕ) → (on second → ⊥) → IsSkippedBack on second second
+  one_back second not = record {
+    earlier = omega arith;
+    none = λ k one le. let other : k ≡ second → ⊥ = λ same. not (rw same at one) in grind (arith, other);
+  }
 
-pub found_back : (on : ℕ → Type 0) (until left : ℕ) → until < 86_400 → IsPassedBack on until left → 0 < left → on (left - 1)
-    → IsLastSecondUntil on until (left - 1)
-found_back on until left short h some one = record {
-  planned = one;
-  not_after = omega arith;
-  in_day = omega arith;
-  greatest = λ k in_day other le. let below = h.1 k in_day other le in omega arith;
-}
+  pub more_back : (until left end : ℕ) → IsPassedBack on until left → 0 < left → IsSkippedBack on (left - 1) end → IsPassedBack on until end
+  more_back until left end h some skip = (omega arith, λ k in_day one le. let below = h.1 k in_day one le in skip.none k one (omega arith))
+
+  pub found_back : (until left : ℕ) → until < 86_400 → IsPassedBack on until left → 0 < left → on (left - 1) → IsLastSecondUntil on until (left - 1)
+  found_back until left short h some one = record {
+    planned = one;
+    not_after = omega arith;
+    in_day = omega arith;
+    greatest = λ k in_day other le. let below = h.1 k in_day other le in omega arith;
+  }
 
 -- ---- days
 pub with_date_back : (r : RecurrenceRule) (start day : ℤ) (until : ℕ) (found : Option ℕ) → IsOnDate r (floor_div start 86_400) day
@@ -112,15 +119,6 @@ none_counted r start second first period end is_first is_period early in_years i
   none = λ l counted le. absurd (early (let rise = period_rises r.frequency (weekday_number r.week_start) l second le in omega (arith, ints)));
   not_here = λ counted. early (omega (arith, ints));
   bound = (omega (arith, ints), omega (arith, ints));
-}
-
-pub period_back : (r : RecurrenceRule) (start day l e : ℤ) (second end : ℕ) → l ≡ day *ℤ pos 86_400 +ℤ pos second → IsEndOfLast r start l e
-    → end ≤ second → ((k : ℕ) → k < second → (day *ℤ pos 86_400 +ℤ pos k) <ℤ e → k < end) → IsSkippedBack (IsTimeOn r start day) second end
-period_back r start day l e second end is own earlier to = record {
-  earlier = earlier;
-  none = λ k on le.
-      let other : k ≡ second → ⊥ = λ same. own.not_here (rw is (rw same at on.counts)) in
-      to k (grind (arith, other, le)) (own.none (day *ℤ pos 86_400 +ℤ pos k) on.counts (omega (arith, ints)));
 }
 
 -- a day of a second that counts, up to one that none counts after

@@ -15,7 +15,7 @@ returns-then-not-has_second c = grind (arith, to_z-of_z, one_back)
 pub returns-in-Some : goal.returns-in-Some
 returns-in-Some c =
     let fits = c.ranges.day in let at = simp to_z-of_z at c.second_at.ensures in
-    period_back c.args.self.now.rule c.args.self.now.start c.args.day c.second_at.result c.in-Some.end c.args.second _ at
+    period_back c.args.self.now.rule c.args.self.now.start c.args.day c.args.second at
     (rw (to_z-of_z {w = w64} (record { sfits = c.second_at.type_inv })) at c.in-Some.ensures) c.earlier_in_day.ensures.earlier
     (λ k before less.
     let bound = c.in-Some.ensures.bound in let started = c.args.self.now.started.2 in

@@ -8,12 +8,12 @@ loop-second-preserved c =
     let low = c.loop-second.invariant.0 in elim c.if-has_second_at.branch [
       | then-has_second_at w ↦ rw w.counted-is (
         omega (arith, low),
-        one_counted c.args.self.now.rule c.args.self.now.start c.args.length c.loop-second.second c.loop-second.counted c.requires
+        one_counted c.args.self.now.rule c.args.self.now.start c.args.length c.requires c.loop-second.second c.loop-second.counted
             c.loop-second.invariant.1,
       )
       | else-has_second_at w ↦ rw w.counted-is (
         omega (arith, low),
-        none_counted c.args.self.now.rule c.args.self.now.start c.args.length c.loop-second.second c.loop-second.counted c.requires
+        none_counted c.args.self.now.rule c.args.self.now.start c.args.length c.requires c.loop-second.second c.loop-second.counted
             (λ has. let told = c.has_second_at.ensures.1 has in grind (arith, told, w.if-has_second_at)) c.loop-second.invariant.1,
       )
     ]
