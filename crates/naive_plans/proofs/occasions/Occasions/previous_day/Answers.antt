@@ -17,6 +17,6 @@ days_earlier-requires-clause-days c = search (rules, to_z-of_z, in_month)
 
 pub returns-clause-near : goal.returns-clause-near
 returns-clause-near c =
-    let fits = c.ranges.day in let short = in_month c.args.day _ (simp to_z-of_z at c.date_of-date.ensures.day) in
-    let is = simp to_z-of_z at c.days_earlier.ensures in
-    rw (to_z-of_z {w = w64} (record { sfits = c.days_earlier.type_inv })) (omega (arith, ints, is, short))
+    let short = in_month c.args.day _ (simp (to_z-of_z, c.ranges.day) at c.date_of-date.ensures.day) in
+    let is = simp (to_z-of_z, c.ranges.day) at c.days_earlier.ensures in
+    rw (to_z-of_z {w = w64} (record { sfits = c.days_earlier.type_inv })) (omega (arith, ints))
