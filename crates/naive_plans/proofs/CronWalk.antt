@@ -13,29 +13,27 @@ pub record IsLeft (c : Cron) (day : ℤ) (second minute : ℕ) : Type 0 where
   pub later : second ≤ minute * 60
   pub left : (k : ℕ) → IsCronTime c day k → second ≤ k → minute * 60 ≤ k
 
-pub all_left : (c : Cron) (day : ℤ) (second : ℕ) → IsLeft c day second ((second + 59) / 60)
-all_left c day second = record { later = omega arith; left = λ k h from. omega arith }
+-- on a day of the line, from a second on
+module _ {c : Cron} {day : ℤ} {second : ℕ} where
+  pub all_left : IsLeft c day second ((second + 59) / 60)
+  all_left = record { later = omega arith; left = λ k h from. omega arith }
 
-pub found : (c : Cron) (day : ℤ) (second minute : ℕ) → minute < 1440 → IsLeft c day second minute → IsCronDay c day → IsCronMinute c minute
-    → IsFirstSecondFrom (IsCronTime c day) second (minute * 60)
-found c day second minute short h on at =
-    let is : minute * 60 / 60 ≡ minute = omega arith in
-    record {
-      planned = record { on = on; whole = omega arith; at = rw is at };
-      not_before = h.later;
-      in_day = omega arith;
-      least = λ k planned from. h.left k planned from;
-    }
+  pub found : {minute : ℕ} → minute < 1440 → IsLeft c day second minute → IsCronDay c day → IsCronMinute c minute
+      → IsFirstSecondFrom (IsCronTime c day) second (minute * 60)
+  found {minute = minute} short h on at =
+      let is : minute * 60 / 60 ≡ minute = omega arith in
+      record { planned = record { on = on; whole = omega arith; at = rw is at }; not_before = h.later; in_day = omega arith; least = h.left }
 
-pub passed : (c : Cron) (day : ℤ) (second minute : ℕ) → IsLeft c day second minute → (IsCronMinute c minute → ⊥) → IsLeft c day second (minute + 1)
-passed c day second minute h not = record {
-  later = omega arith;
-  left = λ k planned from.
-      let least = h.left k planned from in let other : k ≡ minute * 60 → ⊥ = λ same. not (let is : k / 60 ≡ minute = omega arith in rw is at planned.at) in grind (arith, other);
-}
+  pub passed : {minute : ℕ} → IsLeft c day second minute → (IsCronMinute c minute → ⊥) → IsLeft c day second (minute + 1)
+  passed {minute = minute} h not = record {
+    later = omega arith;
+    left = λ k planned from.
+        let least = h.left k planned from in
+        let other : k ≡ minute * 60 → ⊥ = λ same. not (let is : k / 60 ≡ minute = omega arith in rw is at planned.at) in grind (arith, other);
+  }
 
-pub none : (c : Cron) (day : ℤ) (second : ℕ) → IsLeft c day second 1440 → HasNoSecondFrom (IsCronTime c day) second
-none c day second h k short planned from = let least = h.left k planned from in omega arith
+  pub none : IsLeft c day second 1440 → HasNoSecondFrom (IsCronTime c day) second
+  none h k short planned from = let least = h.left k planned from in omega arith
 
 -- ---- a line without a date
 longest : (b : Bool) (m : ℕ) → days_in_month b m ≤ days_in_month true m
@@ -63,25 +61,29 @@ pub record IsLeftBefore (c : Cron) (day : ℤ) (second left : ℕ) : Type 0 wher
   pub not_later : left * 60 ≤ second + 60
   pub before : (k : ℕ) → k < 86_400 → IsCronTime c day k → k ≤ second → k < left * 60
 
-pub found_last : (c : Cron) (day : ℤ) (second left : ℕ) → IsLeftBefore c day second (left + 1) → IsCronDay c day → IsCronMinute c left
-    → IsLastSecondUntil (IsCronTime c day) second (left * 60)
-found_last c day second left h on at =
-    let is : left * 60 / 60 ≡ left = omega arith in record {
-      planned = record { on = on; whole = omega arith; at = rw is at };
-      not_after = omega arith;
-      in_day = omega arith;
-      greatest = λ k in_day planned come. let below = h.before k in_day planned come in omega arith;
-    }
+-- on a day of the line, up to a second
+module _ {c : Cron} {day : ℤ} {second : ℕ} where
+  pub found_last : {left : ℕ} → IsLeftBefore c day second (left + 1) → IsCronDay c day → IsCronMinute c left
+      → IsLastSecondUntil (IsCronTime c day) second (left * 60)
+  found_last {left = left} h on at =
+      let is : left * 60 / 60 ≡ left = omega arith in
+      record {
+        planned = record { on = on; whole = omega arith; at = rw is at };
+        not_after = omega arith;
+        in_day = omega arith;
+        greatest = λ k in_day planned come. let below = h.before k in_day planned come in omega arith;
+      }
 
-pub passed_back : (c : Cron) (day : ℤ) (second left : ℕ) → IsLeftBefore c day second (left + 1) → (IsCronMinute c left → ⊥) → IsLeftBefore c day second left
-passed_back c day second left h not = record {
-  short = omega arith;
-  not_later = omega arith;
-  before = λ k in_day planned come.
-      let below = h.before k in_day planned come in let other : k ≡ left * 60 → ⊥ = λ same. not (let is : k / 60 ≡ left = omega arith in rw is at planned.at) in grind (arith, other);
-}
+  pub passed_back : {left : ℕ} → IsLeftBefore c day second (left + 1) → (IsCronMinute c left → ⊥) → IsLeftBefore c day second left
+  passed_back {left = left} h not = record {
+    short = omega arith;
+    not_later = omega arith;
+    before = λ k in_day planned come.
+        let below = h.before k in_day planned come in
+        let other : k ≡ left * 60 → ⊥ = λ same. not (let is : k / 60 ≡ left = omega arith in rw is at planned.at) in grind (arith, other);
+  }
 
-pub none_back : (c : Cron) (day : ℤ) (second : ℕ) → IsLeftBefore c day second 0 → HasNoSecondUntil (IsCronTime c day) second
-none_back c day second h k in_day planned come = let below = h.before k in_day planned come in omega arith
+  pub none_back : IsLeftBefore c day second 0 → HasNoSecondUntil (IsCronTime c day) second
+  none_back h k in_day planned come = let below = h.before k in_day planned come in omega arith
 
 pub ruleset minutes_back = (found_last, passed_back, none_back)

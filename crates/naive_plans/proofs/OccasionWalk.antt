@@ -3,7 +3,7 @@ use Rattle.naive_base.proofs.Words.{MatchOption, None, Option, Some, arith, by_l
 use Rattle.naive_base.proofs.Words.{ℕ, ℤ, ◌*◌, ◌*ℤ◌, ◌+ℤ◌, ◌+◌, ◌-ℤ◌, ◌-◌, ◌/◌, ◌<ℤ◌, ◌<◌, ◌≡◌, ◌≤ℤ◌, ◌≤◌}
 use Rattle.naive_base.specs.Weekday.{weekday_number}
 use Rattle.naive_base.proofs.Words.{day_of_month, days_in_month, is_leap, month_of, year_of}
-use Rattle.naive_plans.proofs.DayWalk.{IsLeft, on_its_day}
+use Rattle.naive_plans.proofs.DayWalk.{IsLeft, least_found, on_day}
 use Rattle.naive_plans.proofs.Periods.{in_same_month, period_rises}
 use Rattle.naive_plans.specs.DayPlans.{HasNoSecondFrom, IsFirstSecondFrom, IsPlannedOnItsDay}
 use Rattle.naive_plans.specs.Steps.OccasionSteps.{HasNoneBetween, IsCounted, IsEndOfLast, IsFirstBetween, IsSkipped, IsStartOfNext, IsTimeOn}
@@ -133,29 +133,16 @@ module _ (on : ℤ → ℕ → Type 0) where
         omega (arith, ints, floors);
   }
 
-  least_found : {before day : ℤ} {second s : ℕ} → IsLeft (IsPlannedOnItsDay on) before day second → IsFirstSecondFrom (on day) second s
-      → (m : ℤ) → IsPlannedOnItsDay on m → before <ℤ m → (day *ℤ pos 86_400 +ℤ pos s) ≤ℤ m
-  least_found {day = day} h first m one later =
-      let after = h.left m one later in
-      by_lt_z day (floor_div m 86_400) (λ more. omega (arith, ints, floors))
-      (λ not. let least = first.least (floor_mod m 86_400) (on_its_day on day m (omega (arith, ints, floors)) one) (omega (arith, ints, floors)) in
-      omega (arith, ints, floors))
-
-  on_day : (day l : ℤ) (s : ℕ) → s < 86_400 → l ≡ day *ℤ pos 86_400 +ℤ pos s → on day s → IsPlannedOnItsDay on l
-  on_day day l s short is one =
-      let is_day : floor_div l 86_400 ≡ day = omega (arith, ints, floors) in
-      let is_second : floor_mod l 86_400 ≡ s = omega (arith, ints, floors) in rw (is_day, is_second) one
-
   pub first_found : (from end : ℤ) {day l : ℤ} {second s : ℕ} (found : Option ℤ) → IsLeft (IsPlannedOnItsDay on) (from -ℤ pos 1) day second
       → IsFirstSecondFrom (on day) second s
       → l ≡ day *ℤ pos 86_400 +ℤ pos s → MatchOption found (end ≤ℤ l) (λ f. (f ≡ l) × (f <ℤ end))
       → MatchOption found (HasNoneBetween (IsPlannedOnItsDay on) from end) (λ f. IsFirstBetween (IsPlannedOnItsDay on) from end f)
-  first_found from end None h first is over = λ m one come before. let least = least_found h first m one (omega (arith, ints)) in omega (arith, ints)
+  first_found from end None h first is over = λ m one come before. let least = least_found on h first m one (omega (arith, ints)) in omega (arith, ints)
   first_found from end {day = day} {s = s} (Some f) h first is here = record {
-    one = on_day day f s first.in_day (omega (arith, ints)) first.planned;
+    one = on_day on day f s first.in_day (omega (arith, ints)) first.planned;
     not_before = omega (arith, ints);
     before_end = here.1;
-    least = λ m one come. let least = least_found h first m one (omega (arith, ints)) in omega (arith, ints);
+    least = λ m one come. let least = least_found on h first m one (omega (arith, ints)) in omega (arith, ints);
   }
 
 pub none_between : (set : ℤ → Type 0) (from end day : ℤ) (second : ℕ) → IsLeft set (from -ℤ pos 1) day second → (end ≤ℤ (day *ℤ pos 86_400))

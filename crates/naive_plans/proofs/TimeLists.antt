@@ -17,28 +17,25 @@ IsLastAmong xs until n None = (k : ℕ) (e : NaiveDateTime) → k < n → (readi
 IsLastAmong xs until n (Some d) = Contains xs d × ((reading d).s ≤ℤ until)
     × ((k : ℕ) (e : NaiveDateTime) → k < n → (reading (get_or xs k e)).s ≤ℤ until → (reading (get_or xs k e)).s ≤ℤ (reading d).s)
 
-pub first_done : (xs : List NaiveDateTime) (after : ℤ) (n : ℕ) (found : Option NaiveDateTime) → length xs ≤ n → IsFirstAmong xs after n found
-    → MatchOption found (HasNoneAfter (HasLocalTime xs) after) (λ l. IsNextAfter (HasLocalTime xs) after (reading l).s)
-first_done xs after n None all h = λ m wide has later.
-    let same : (reading (get_or xs has.listed.0 has.local)).s ≡ m = rw has.listed.2 has.at in h has.listed.0 has.local (let at = has.listed.1 in
-    omega arith) (rw same later)
-first_done xs after n (Some d) all h = record {
-  planned = record { local = d; listed = h.0; at = refl };
-  after = h.1;
-  least = λ m wide has later.
-      let same : (reading (get_or xs has.listed.0 has.local)).s ≡ m = rw has.listed.2 has.at in rw same at (h.2 has.listed.0 has.local
-      (omega arith) (rw same later));
-}
+-- the list, of which the first n local times are all
+module _ (xs : List NaiveDateTime) (n : ℕ) (all : length xs ≤ n) where
+  place : {m : ℤ} (has : HasLocalTime xs m) → (has.listed.0 < n) × ((reading (get_or xs has.listed.0 has.local)).s ≡ m)
+  place has = (let at = has.listed.1 in omega arith, rw has.listed.2 has.at)
 
-pub last_done : (xs : List NaiveDateTime) (until : ℤ) (n : ℕ) (found : Option NaiveDateTime) → length xs ≤ n → IsLastAmong xs until n found
-    → MatchOption found (HasNoneUntil (HasLocalTime xs) until) (λ l. IsLastUntil (HasLocalTime xs) until (reading l).s)
-last_done xs until n None all h = λ m wide has come.
-    let same : (reading (get_or xs has.listed.0 has.local)).s ≡ m = rw has.listed.2 has.at in h has.listed.0 has.local (let at = has.listed.1 in
-    omega arith) (rw same come)
-last_done xs until n (Some d) all h = record {
-  planned = record { local = d; listed = h.0; at = refl };
-  not_after = h.1;
-  greatest = λ m wide has come.
-      let same : (reading (get_or xs has.listed.0 has.local)).s ≡ m = rw has.listed.2 has.at in rw same at (h.2 has.listed.0 has.local
-      (omega arith) (rw same come));
-}
+  pub first_done : (after : ℤ) (found : Option NaiveDateTime) → IsFirstAmong xs after n found
+      → MatchOption found (HasNoneAfter (HasLocalTime xs) after) (λ l. IsNextAfter (HasLocalTime xs) after (reading l).s)
+  first_done after None h = λ m wide has later. h has.listed.0 has.local (place has).0 (rw (place has).1 later)
+  first_done after (Some d) h = record {
+    planned = record { local = d; listed = h.0; at = refl };
+    after = h.1;
+    least = λ m wide has later. rw (place has).1 at (h.2 has.listed.0 has.local (place has).0 (rw (place has).1 later));
+  }
+
+  pub last_done : (until : ℤ) (found : Option NaiveDateTime) → IsLastAmong xs until n found
+      → MatchOption found (HasNoneUntil (HasLocalTime xs) until) (λ l. IsLastUntil (HasLocalTime xs) until (reading l).s)
+  last_done until None h = λ m wide has come. h has.listed.0 has.local (place has).0 (rw (place has).1 come)
+  last_done until (Some d) h = record {
+    planned = record { local = d; listed = h.0; at = refl };
+    not_after = h.1;
+    greatest = λ m wide has come. rw (place has).1 at (h.2 has.listed.0 has.local (place has).0 (rw (place has).1 come));
+  }

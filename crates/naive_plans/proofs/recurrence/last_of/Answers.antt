@@ -8,20 +8,17 @@ times-init c = search (rules, to_z-of_z, none_counted)
 
 pub times-preserved : goal.times-preserved
 times-preserved c =
-    let inv = c.times.invariant in let test = c.times-test.true in
     let first = rw (to_z-of_z {w = w64} (record { sfits = c.second_after.type_inv })) at c.in-Some.ensures in
-    let low = first.not_before in let high = first.before_end in let after = c.second_after.ensures in let from = inv.1.from in
-    let started = c.args.of.now.started in
     let same : to_z w64 (of_z w64 c.in-Some.next) ≡ c.in-Some.next = search rules in
     rw same (
-      omega (arith, test),
-      one_more_counted (IsRuleTime c.args.of.now.rule c.args.of.now.start) c.times.invariant.1 c.second_after.ensures first refl,
+      omega arith,
+      one_more_counted _ c.times.invariant.1 c.second_after.ensures first refl,
     )
 
 pub returns-in-None-clause-last : goal.returns-in-None-clause-last
 returns-in-None-clause-last c =
-    all_counted (IsRuleTime c.args.of.now.rule c.args.of.now.start) c.times.invariant.1 c.args.count c.times.invariant.0 c.second_after.ensures refl (λ l one. one.in_years) (rw (to_z-of_z {w = w64} (record { sfits = c.second_after.type_inv })) at c.in-None.ensures)
+    all_counted _ c.times.invariant.1 c.args.count c.times.invariant.0 c.second_after.ensures refl (λ l one. one.in_years) (rw (to_z-of_z {w = w64} (record { sfits = c.second_after.type_inv })) at c.in-None.ensures)
 
 pub returns-clause-last : goal.returns-clause-last
 returns-clause-last c =
-    whole_count (IsRuleTime c.args.of.now.rule c.args.of.now.start) c.times.invariant.1 c.args.count c.times.invariant.0 c.times-test.false
+    whole_count _ c.times.invariant.1 c.args.count c.times.invariant.0 c.times-test.false

@@ -11,4 +11,4 @@ returns-in-Until c = grind (arith, to_z-of_z, until_last)
 
 pub returns-in-Count : goal.returns-in-Count
 returns-in-Count c = rw (c.in-Count.is, to_z-of_z {w = w64} (record { sfits = c.last_of.type_inv }))
-    (count_last c.args.of.now.rule c.args.of.now.start c.last_of.result c.in-Count.count c.last_of.ensures.last c.last_of.ensures.bound)
+    (count_last c.last_of.ensures.last c.last_of.ensures.bound)

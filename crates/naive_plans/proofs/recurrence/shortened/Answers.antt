@@ -7,10 +7,10 @@ returns-in-None-clause-same c = search (rules, to_z-of_z, none_to, none_up)
 
 pub returns-in-Some-clause-same : goal.returns-in-Some-clause-same
 returns-in-Some-clause-same c =
-    let fits = c.ranges.last in let own = rw (to_z-of_z {w = w64} fits) at c.in-Some.ensures in
-    let bound = bounded_to c.args.of.now.rule c.args.of.now.start c.args.last c.in-Some.time c.args.of.now.started.2 own in
+    let own = rw (to_z-of_z {w = w64} c.ranges.last) at c.in-Some.ensures in
+    let bound = bounded_to c.args.of.now.started.2 own in
     let same : to_z w64 (of_z w64 c.in-Some.time) ≡ c.in-Some.time = search rules in
-    rw same (same_to c.args.of.now.rule c.args.of.now.start c.args.last c.in-Some.time c.args.of.now.started.2 own)
+    rw same (same_to c.args.of.now.started.2 own)
 
 pub returns-in-Some-clause-bound : goal.returns-in-Some-clause-bound
 returns-in-Some-clause-bound c = search (rules, to_z-of_z, bounded_to)

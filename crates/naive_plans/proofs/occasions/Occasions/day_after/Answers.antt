@@ -4,14 +4,14 @@ use Rattle.naive_plans.proofs.occasions.Occasions.day_after.Goals as goal
 
 pub returns-in-None-clause-none : goal.returns-in-None-clause-none
 returns-in-None-clause-none c =
-    let fits = c.ranges.day in λ d second on short later.
-    rw (to_z-of_z {w = w64} (record { sfits = c.next_day-next.type_inv })) ((rw (to_z-of_z {w = w64} fits) at c.next_day-next.ensures.none) d on.date later)
+    λ d second on short later.
+    rw (to_z-of_z {w = w64} (record { sfits = c.next_day-next.type_inv })) ((rw (to_z-of_z {w = w64} c.ranges.day) at c.next_day-next.ensures.none) d on.date later)
 
 pub returns-in-Some-clause-none : goal.returns-in-Some-clause-none
 returns-in-Some-clause-none c =
-    let fits = c.ranges.day in let bound = c.in-Some.ensures.bound in let same : to_z w64 (of_z w64 c.in-Some.start) ≡ c.in-Some.start = search rules in
+    let same : to_z w64 (of_z w64 c.in-Some.start) ≡ c.in-Some.start = search rules in
     λ d second on short later.
-    let next = (rw (to_z-of_z {w = w64} fits) at c.next_day-next.ensures.none) d on.date later in
+    let next = (rw (to_z-of_z {w = w64} c.ranges.day) at c.next_day-next.ensures.none) d on.date later in
     let midnight = rw (to_z-of_z {w = w64} (record { sfits = c.next_day-next.type_inv })) at c.seconds_of.ensures in
     let own = rw midnight at (rw (to_z-of_z {w = w64} (record { sfits = c.seconds_of.type_inv })) at c.in-Some.ensures) in
     let most = rw (to_z-of_z {w = w64} (record { sfits = c.next_day-next.type_inv }), to_z-of_z {w = w64} (record { sfits = c.day_of.type_inv })) at

@@ -15,12 +15,11 @@ start_of-requires c = search (arith, ints, to_z-of_z, later_bounds)
 
 pub returns-then-not-is_from : goal.returns-then-not-is_from
 returns-then-not-is_from c =
-    let fits = c.ranges.second in
     let from = rw (to_z-of_z {w = w64} (record { sfits = c.first_period-first.type_inv }), to_z-of_z {w = w64} (record { sfits = c.period_at-period.type_inv }))
     at c.is_from.ensures in
     rw (to_z-of_z {w = w64} (record { sfits = c.second_before_all.type_inv }))
     (none_counted c.args.self.now.rule c.args.self.now.start c.args.second _ _ _ c.first_period-first.ensures.value
-    (simp to_z-of_z at c.period_at-period.ensures.value) (λ late. let yes = from.1 late in grind (arith, yes, c.if-not-is_from.true))
+    (simp (to_z-of_z, c.ranges.second) at c.period_at-period.ensures.value) (λ late. grind (arith, from.1 late, c.if-not-is_from.true))
     c.args.self.now.started.3 c.second_before_all.ensures)
 
 pub returns-then-last-period : goal.returns-then-last-period
@@ -28,9 +27,8 @@ returns-then-last-period c = grind (arith, to_z-of_z, counts_here)
 
 pub returns : goal.returns
 returns c =
-    let fits = c.ranges.second in
     rw (to_z-of_z {w = w64} (record { sfits = c.start_of.type_inv }))
-    (ends_earlier c.args.self.now.rule c.args.self.now.start c.args.second c.first_period-first.ensures.value (simp to_z-of_z at c.period_at-period.ensures.value)
+    (ends_earlier c.args.self.now.rule c.args.self.now.start c.args.second c.first_period-first.ensures.value (simp (to_z-of_z, c.ranges.second) at c.period_at-period.ensures.value)
     (rw (to_z-of_z {w = w64} (record { sfits = c.first_period-first.type_inv }), to_z-of_z {w = w64} (record { sfits = c.period_at-period.type_inv }))
     at c.last_period-last.ensures)
     (λ same. c.if-last-period.false (ap (of_z w64) same))

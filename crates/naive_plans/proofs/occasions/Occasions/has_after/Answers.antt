@@ -8,9 +8,7 @@ times-init c = search (rules, to_z-of_z, as_far)
 pub times-preserved : goal.times-preserved
 times-preserved c =
     let step = one_step (rw (to_z-of_z {w = w64} c.ranges.time) at c.times.invariant) c.times-test.true c.in-Some.ensures in
-    let near = near_on step in let first = c.args.self.now.started.2 in let from = c.requires.from_start in let short = c.requires.in_years in
-    let le = step.on in
-    let after_is : to_z w64 (of_z w64 c.in-Some.after) ≡ c.in-Some.after = search rules in
+    let near = near_on step in let after_is : to_z w64 (of_z w64 c.in-Some.after) ≡ c.in-Some.after = search rules in
     rw (after_is, to_z-of_z {w = w64} c.ranges.time) step
 
 pub returns-in-None : goal.returns-in-None

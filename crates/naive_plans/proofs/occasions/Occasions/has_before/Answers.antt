@@ -9,9 +9,7 @@ times-init c = search (rules, to_z-of_z, as_far)
 pub times-preserved : goal.times-preserved
 times-preserved c =
     let inv = rw (to_z-of_z {w = w64} c.ranges.time) at c.times.invariant in let own = c.in-Some.ensures in
-    let low = after_all c.args.self.now.rule c.args.self.now.start c.in-Some.before own.one.occasion in let up = own.not_after in
-    let first = c.args.self.now.started.2 in let short = c.requires.in_years in let le = inv.on in
-    let before_is : to_z w64 (of_z w64 c.in-Some.before) ≡ c.in-Some.before = search rules in
+    let low = after_all c.args.self.now.rule c.args.self.now.start c.in-Some.before own.one.occasion in let before_is : to_z w64 (of_z w64 c.in-Some.before) ≡ c.in-Some.before = search rules in
     rw (before_is, to_z-of_z {w = w64} c.ranges.time) (one_step inv c.times-test.true own)
 
 pub returns-in-None : goal.returns-in-None

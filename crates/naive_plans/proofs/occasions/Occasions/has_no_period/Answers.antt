@@ -6,4 +6,4 @@ pub returns : goal.returns
 returns c _ =
     let step = c.common_step-step.ensures in let same : c.second_of.result ≡ floor_mod c.args.self.now.start 86_400 = search rules in
     never_met c.args.self.now.rule c.args.self.now.start c.args.length c.common_step-step.result c.requires step.1 step.2
-    (λ k less alike. c.loop-period.invariant k (let end = c.loop-period-test.false in omega (arith, less, end)) (rw same alike))
+    (λ k less alike. c.loop-period.invariant k (omega arith) (rw same alike))

@@ -10,10 +10,7 @@ pub after_nth-requires : goal.after_nth-requires
 after_nth-requires c = c.if-is_from_end.ensures.0 refl
 
 pub returns-then-is_from_front : goal.returns-then-is_from_front
-returns-then-is_from_front c =
-    let first = c.args.self.now.started.2 in let from = c.requires.from_start in let short = c.requires.in_years in
-    let same : to_z w64 (of_z w64 c.args.time.now) ≡ c.args.time.now = search rules in
-    told_nth Front _ c.before_nth.ensures (rw same at c.has_before.ensures)
+returns-then-is_from_front c = grind (arith, to_z-of_z, Front, told_nth)
 
 pub returns-then-is_from_end : goal.returns-then-is_from_end
 returns-then-is_from_end c = grind (arith, to_z-of_z, told_nth)

@@ -6,5 +6,4 @@ pub returns : goal.returns
 returns c = grind (arith, to_z-of_z, with_date_back)
 
 pub returns-then-not-has_date : goal.returns-then-not-has_date
-returns-then-not-has_date c = let fits = c.ranges.day in λ k in_day on le. let yes = (simp to_z-of_z at c.has_date.ensures).1 on.date in
-    absurd (grind (arith, yes, c.if-not-has_date.true))
+returns-then-not-has_date c = λ k in_day on le. grind (arith, (simp (to_z-of_z, c.ranges.day) at c.has_date.ensures).1 on.date, c.if-not-has_date.true)

@@ -10,4 +10,4 @@ returns-clause-none c =
     (simp to_z-of_z at c.date_of-date.ensures.year) (simp to_z-of_z at c.date_of-date.ensures.month)
     (simp to_z-of_z at c.date_of-date.ensures.day) (rw same at (rw (to_z-of_z {w = w64} (record { sfits = c.day_of.type_inv })) at
     c.date_of-first.ensures.month)) c.month_length.ensures.value
-    (simp to_z-of_z at c.days_later.ensures) (λ has. let yes = c.has_month.ensures.1 has in grind (arith, yes, c.if-has_month.false)) on later)
+    (simp to_z-of_z at c.days_later.ensures) (λ has. grind (arith, c.has_month.ensures.1 has, c.if-has_month.false)) on later)

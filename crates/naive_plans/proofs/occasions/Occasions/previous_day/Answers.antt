@@ -10,13 +10,13 @@ returns-clause-none c =
     (simp to_z-of_z at c.date_of-date.ensures.month)
     (simp to_z-of_z at c.date_of-date.ensures.day) (rw same at (rw (to_z-of_z {w = w64} (record { sfits = c.day_of.type_inv })) at
     c.date_of-first.ensures.month))
-    (simp to_z-of_z at c.days_earlier.ensures) (λ has. let yes = c.has_month.ensures.1 has in grind (arith, yes, c.if-has_month.false)) on less)
+    (simp to_z-of_z at c.days_earlier.ensures) (λ has. grind (arith, c.has_month.ensures.1 has, c.if-has_month.false)) on less)
 
 pub days_earlier-requires-clause-days : goal.days_earlier-requires-clause-days
 days_earlier-requires-clause-days c = search (rules, to_z-of_z, in_month)
 
 pub returns-clause-near : goal.returns-clause-near
 returns-clause-near c =
-    let fits = c.ranges.day in let short = in_month c.args.day _ (simp to_z-of_z at c.date_of-date.ensures.day) in
-    let is = simp to_z-of_z at c.days_earlier.ensures in
-    rw (to_z-of_z {w = w64} (record { sfits = c.days_earlier.type_inv })) (omega (arith, ints, is, short))
+    let short = in_month c.args.day _ (simp (to_z-of_z, c.ranges.day) at c.date_of-date.ensures.day) in
+    let is = simp (to_z-of_z, c.ranges.day) at c.days_earlier.ensures in
+    rw (to_z-of_z {w = w64} (record { sfits = c.days_earlier.type_inv })) (omega (arith, ints))

@@ -7,24 +7,24 @@ returns-then-not-has_hour c = grind (arith, to_z-of_z, hour_skipped)
 
 pub returns-then-not-has_minute : goal.returns-then-not-has_minute
 returns-then-not-has_minute c = minute_skipped c.args.self.now.rule c.args.self.now.start c.args.day c.args.second c.requires.second
-    (λ has. let yes = c.has_minute.ensures.1 has in grind (arith, yes, c.if-not-has_minute.true))
+    (λ has. grind (arith, c.has_minute.ensures.1 has, c.if-not-has_minute.true))
 
 pub returns-then-not-has_second : goal.returns-then-not-has_second
 returns-then-not-has_second c = grind (arith, to_z-of_z, second_skipped)
 
 pub returns-in-Some : goal.returns-in-Some
 returns-in-Some c =
-    let fits = c.ranges.day in let at = simp to_z-of_z at c.second_at.ensures in
+    let at = simp (to_z-of_z, c.ranges.day) at c.second_at.ensures in
     period_skipped c.args.self.now.rule c.args.self.now.start c.args.day c.args.second at
     (rw (to_z-of_z {w = w64} (record { sfits = c.second_at.type_inv })) at c.in-Some.ensures) c.later_in_day.ensures.later
     (λ k in_day after le.
-    let bound = c.in-Some.ensures.bound in let same : to_z w64 (of_z w64 c.in-Some.start) ≡ c.in-Some.start = search rules in
-    let midnight = simp to_z-of_z at c.seconds_of.ensures in
+    let same : to_z w64 (of_z w64 c.in-Some.start) ≡ c.in-Some.start = search rules in
+    let midnight = simp (to_z-of_z, c.ranges.day) at c.seconds_of.ensures in
     c.later_in_day.ensures.start k in_day after (rw (same, to_z-of_z {w = w64} (record { sfits = c.seconds_of.type_inv }), midnight) le))
 
 pub returns : goal.returns
 returns c =
-    let fits = c.ranges.day in let at = simp to_z-of_z at c.second_at.ensures in
+    let at = simp (to_z-of_z, c.ranges.day) at c.second_at.ensures in
     record {
       counts = rw at at (rw (to_z-of_z {w = w64} (record { sfits = c.second_at.type_inv })) at c.in_default.ensures);
       hour = c.if-not-has_hour.ensures.0 refl;

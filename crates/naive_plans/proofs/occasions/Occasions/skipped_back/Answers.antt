@@ -14,18 +14,17 @@ returns-then-not-has_second c = grind (arith, to_z-of_z, one_back)
 
 pub returns-in-Some : goal.returns-in-Some
 returns-in-Some c =
-    let fits = c.ranges.day in let at = simp to_z-of_z at c.second_at.ensures in
+    let at = simp (to_z-of_z, c.ranges.day) at c.second_at.ensures in
     period_back c.args.self.now.rule c.args.self.now.start c.args.day c.args.second at
     (rw (to_z-of_z {w = w64} (record { sfits = c.second_at.type_inv })) at c.in-Some.ensures) c.earlier_in_day.ensures.earlier
     (λ k before less.
-    let bound = c.in-Some.ensures.bound in let started = c.args.self.now.started.2 in
     let same : to_z w64 (of_z w64 c.in-Some.end) ≡ c.in-Some.end = search rules in
-    let midnight = simp to_z-of_z at c.seconds_of.ensures in
+    let midnight = simp (to_z-of_z, c.ranges.day) at c.seconds_of.ensures in
     c.earlier_in_day.ensures.end k before (rw (same, to_z-of_z {w = w64} (record { sfits = c.seconds_of.type_inv }), midnight) less))
 
 pub returns : goal.returns
 returns c =
-    let fits = c.ranges.day in let at = simp to_z-of_z at c.second_at.ensures in
+    let at = simp (to_z-of_z, c.ranges.day) at c.second_at.ensures in
     record {
       counts = rw at at (rw (to_z-of_z {w = w64} (record { sfits = c.second_at.type_inv })) at c.in_default.ensures);
       hour = c.if-not-has_hour.ensures.0 refl;

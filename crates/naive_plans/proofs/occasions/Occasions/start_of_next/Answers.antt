@@ -17,9 +17,8 @@ returns-then-last-period c = grind (arith, to_z-of_z, counts_here)
 
 pub returns : goal.returns
 returns c =
-    let fits = c.ranges.second in
     rw (to_z-of_z {w = w64} (record { sfits = c.start_of.type_inv }))
-    (starts_later c.args.self.now.rule c.args.self.now.start c.args.second c.first_period.ensures.value (simp to_z-of_z at c.period_at-period.ensures.value)
+    (starts_later c.args.self.now.rule c.args.self.now.start c.args.second c.first_period.ensures.value (simp (to_z-of_z, c.ranges.second) at c.period_at-period.ensures.value)
     (rw (to_z-of_z {w = w64} (record { sfits = c.first_period.type_inv }), to_z-of_z {w = w64} (record { sfits = c.period_at-period.type_inv }))
     at c.last_period-last.ensures)
     (λ same. c.if-last-period.false (ap (of_z w64) same))

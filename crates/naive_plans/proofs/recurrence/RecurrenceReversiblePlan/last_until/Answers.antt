@@ -8,12 +8,10 @@ returns-in-None c = grind (arith, to_z-of_z, none_planned)
 
 pub returns-in-Some : goal.returns-in-Some
 returns-in-Some c =
-    let own = c.args.self.now in let bounded = own.bounded in let started = own.occasions.started.2 in
-    let last_is : to_z w64 (of_z w64 own.last) ≡ own.last = search rules in
+    let own = c.args.self.now in let last_is : to_z w64 (of_z w64 own.last) ≡ own.last = search rules in
     let most = rw (to_z-of_z {w = w64} (record { sfits = c.secs_since_epoch.type_inv }), last_is, c.secs_since_epoch.ensures) at c.earlier.ensures.most in
     let both = rw (to_z-of_z {w = w64} (record { sfits = c.secs_since_epoch.type_inv }), last_is, c.secs_since_epoch.ensures) at c.earlier.ensures.not_after in
-    let last = last_planned own.occasions.rule own.occasions.start _ own.last c.earlier.result c.in-Some.second both most (rw (to_z-of_z {w = w64}
+    let last = last_planned both most (rw (to_z-of_z {w = w64}
     (record { sfits = c.earlier.type_inv })) at c.in-Some.ensures) in
-    let low = last.planned.0.from_start in let high = last.planned.0.in_years in
     let same : to_z w64 (of_z w64 c.in-Some.second) ≡ c.in-Some.second = search rules in
     let is = c.local_at.ensures ∙ same in rw is last

@@ -16,5 +16,4 @@ returns-then-has_week c = grind (arith, to_z-of_z, on_date)
 
 pub returns-else-has_week : goal.returns-else-has_week
 returns-else-has_week c =
-    let fits = c.ranges.day in
-    (λ yes. absurd (grind (arith, yes, c.if-has_week.false)), λ on. (simp to_z-of_z at c.has_week.ensures).1 on.week)
+    (λ yes. absurd (grind (arith, yes, c.if-has_week.false)), λ on. (simp (to_z-of_z, c.ranges.day) at c.has_week.ensures).1 on.week)

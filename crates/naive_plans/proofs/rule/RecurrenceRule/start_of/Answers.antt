@@ -5,9 +5,8 @@ use Rattle.naive_plans.proofs.rule.RecurrenceRule.start_of.Goals as goal
 
 months : (c : goal.After-start_of_month) → to_z w64 (of_z w64 (to_z w64 (of_z w64 c.args.period) *ℤ pos 12)) ≡ c.args.period *ℤ pos 12
 months c =
-    let fits = c.ranges.period in let high = c.requires.1 in
-    let low : neg_ℤ (pos 1_100_000_000) ≤ℤ c.args.period = rw c.in-Yearly.is at c.requires.0 in
-    let whole : SFits w64 (c.args.period *ℤ pos 12) = omega (arith, ints, low, high) in
+    let fits = c.ranges.period in let low : neg_ℤ (pos 1_100_000_000) ≤ℤ c.args.period = rw c.in-Yearly.is at c.requires.0 in
+    let whole : SFits w64 (c.args.period *ℤ pos 12) = omega (arith, ints) in
     simp to_z-of_z
 
 pub returns-in-Yearly-clause-later : goal.returns-in-Yearly-clause-later
