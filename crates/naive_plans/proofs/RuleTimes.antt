@@ -19,6 +19,9 @@ use Rattle.std.proofs.Common.{◌<◌}
 use Rattle.naive_plans.specs.Steps.RuleSteps.{IsBounded}
 use Rattle.naive_plans.specs.declared.rule.RecurrenceRule.{RecurrenceRule}
 
+strictly : (a b : ℤ) → a ≤ℤ b → (a ≡ b → ⊥) → a <ℤ b
+strictly a b le other = grind (arith, ints)
+
 -- the rule's times from a second on come from another one on
 abbrev pub AreFrom : RecurrenceRule → ℤ → ℤ → ℤ → Type 0
 AreFrom r start from left = (from ≤ℤ left) × ((m : ℤ) → IsRuleTime r start m → from ≤ℤ m → left ≤ℤ m)
@@ -41,8 +44,7 @@ module _ {r : RecurrenceRule} {start : ℤ} where
       → (IsAtPosition r start l → ⊥) → next ≡ l +ℤ pos 1 → AreFrom r start from next
   more_from {l = l} h first not is = (
     let come = first.not_before in omega (arith, ints),
-    λ m time come. let other : l ≡ m → ⊥ = λ same. not (rw same time.position) in
-        grind (arith, ints, first.least m time.occasion (h.1 m time come), other),
+    λ m time come. omega (arith, ints, strictly l m (first.least m time.occasion (h.1 m time come)) (λ same. not (rw same time.position))),
   )
 
   pub none_left : {after last from : ℤ} → ((m : ℤ) → after <ℤ m → start ≤ℤ m → from ≤ℤ m) → last <ℤ from → HasNoneLater (IsRuleTime r start) after last
@@ -91,8 +93,8 @@ module _ {r : RecurrenceRule} {start : ℤ} (low : neg_ℤ (pos 62_167_219_200) 
       → next ≡ last -ℤ pos 1 → AreTo r start until next
   more_to {last = last} h own not is_next = (
     omega (arith, ints),
-    λ m time come. let other : last ≡ m → ⊥ = λ same. not (rw same time.position) in
-        grind (arith, ints, own.greatest m (time_is_wide time) time.occasion (h.1 m time come), other),
+    λ m time come. omega (arith, ints, strictly m last (own.greatest m (time_is_wide time) time.occasion (h.1 m time come))
+        (λ same. not (rw same at time.position))),
   )
 
 -- the times of the rule r with that start
