@@ -1,3 +1,4 @@
+mod Ranges
 mod DayWalk
 mod CronWalk
 mod RuleParts

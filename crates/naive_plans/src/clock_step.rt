@@ -161,6 +161,7 @@ fn begin_in_day(second: u32, step: u32) -> u32
 }
 
 // The next one.
+#[tactic(auto, using(crate::proofs::ClockSteps::next_multiple))]
 fn next_in_day(second: u32, step: u32) -> u32
     requires second { second < 86_400 }
     requires step { IsPartOfDay step }

@@ -167,6 +167,7 @@ fn until_second(until: &NaiveDateTime) -> i64
 }
 
 // The last of the first `count` times.
+#[tactic(auto, using(crate::proofs::Counted::none_counted))]
 fn last_of(of: &Occasions<'_>, count: u32) -> i64
     ensures last { (l : ℤ) → IsRuleTime of.now.rule of.now.start l
         → (l ≤ℤ result) ↔ IsWithinCount of.now.rule of.now.start count l }

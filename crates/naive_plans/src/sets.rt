@@ -48,6 +48,7 @@ pub struct Except<A, B> {
 impl<'a> Plan for LocalTimes<'a> {
     ghost planned = { λ d. HasLocalTime d.list.now };
 
+    #[tactic(auto, using(crate::proofs::TimeLists::first_done))]
     fn next_after(&self, local: &NaiveDateTime) -> Option<NaiveDateTime> {
         let mut first = None;
         for date in self.list {
@@ -62,6 +63,7 @@ impl<'a> Plan for LocalTimes<'a> {
 }
 
 impl<'a> ReversiblePlan for LocalTimes<'a> {
+    #[tactic(auto, using(crate::proofs::TimeLists::last_done))]
     fn last_until(&self, local: &NaiveDateTime) -> Option<NaiveDateTime> {
         let until = local.secs_since_epoch();
         let mut last = None;
@@ -143,6 +145,7 @@ impl<A: ReversiblePlan, B: ReversiblePlan> ReversiblePlan for Except<A, B> {
 }
 
 // The first local time of a plan after one that another plan has, or with `false` doesn't have.
+#[tactic(auto, using(crate::proofs::Selected::next_kept, crate::proofs::Selected::passed_one))]
 fn next_selected<A: Plan, B: ReversiblePlan>(
     plan: &A,
     wanted: bool,

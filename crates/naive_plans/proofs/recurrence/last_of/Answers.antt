@@ -3,9 +3,6 @@ use Rattle.naive_plans.specs.RecurrenceSets.{IsRuleTime}
 use Rattle.naive_plans.proofs.Counted.{all_counted, none_counted, one_more_counted, whole_count}
 use Rattle.naive_plans.proofs.recurrence.last_of.Goals as goal
 
-pub times-init : goal.times-init
-times-init c = search (rules, to_z-of_z, none_counted)
-
 pub times-preserved : goal.times-preserved
 times-preserved c =
     let first = rw (to_z-of_z {w = w64} (record { sfits = c.second_after.type_inv })) at c.in-Some.ensures in

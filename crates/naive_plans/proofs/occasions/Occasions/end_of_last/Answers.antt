@@ -7,12 +7,6 @@ use Rattle.naive_plans.proofs.occasions.Occasions.end_of_last.Goals as goal
 pub last_period-last-requires-clause-later : goal.last_period-last-requires-clause-later
 last_period-last-requires-clause-later c = c.if-not-is_from.ensures.0 refl
 
-pub period_after-requires-clause-first : goal.period_after-requires-clause-first
-period_after-requires-clause-first c = search (arith, ints, to_z-of_z, last_bounds)
-
-pub start_of-requires : goal.start_of-requires
-start_of-requires c = search (arith, ints, to_z-of_z, later_bounds)
-
 pub returns-then-not-is_from : goal.returns-then-not-is_from
 returns-then-not-is_from c =
     let from = rw (to_z-of_z {w = w64} (record { sfits = c.first_period-first.type_inv }), to_z-of_z {w = w64} (record { sfits = c.period_at-period.type_inv }))
@@ -21,9 +15,6 @@ returns-then-not-is_from c =
     (none_counted c.args.self.now.rule c.args.self.now.start c.args.second _ _ _ c.first_period-first.ensures.value
     (simp (to_z-of_z, c.ranges.second) at c.period_at-period.ensures.value) (λ late. grind (arith, from.1 late, c.if-not-is_from.true))
     c.args.self.now.started.3 c.second_before_all.ensures)
-
-pub returns-then-last-period : goal.returns-then-last-period
-returns-then-last-period c = grind (arith, to_z-of_z, counts_here)
 
 pub returns : goal.returns
 returns c =

@@ -2,9 +2,6 @@ use Rattle.naive_base.proofs.Words.{arith, ints, of_z, rules, to_z, to_z-of_z, w
 use Rattle.naive_plans.proofs.NthTimes.{all_passed, as_far, near_on, none_so_far, one_step}
 use Rattle.naive_plans.proofs.occasions.Occasions.has_after.Goals as goal
 
-pub times-init : goal.times-init
-times-init c = search (rules, to_z-of_z, as_far)
-
 pub times-preserved : goal.times-preserved
 times-preserved c =
     let step = one_step (rw (to_z-of_z {w = w64} c.ranges.time) at c.times.invariant) c.times-test.true c.in-Some.ensures in

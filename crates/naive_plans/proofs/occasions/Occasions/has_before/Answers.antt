@@ -3,9 +3,6 @@ use Rattle.naive_plans.proofs.NthTimes.{all_passed, as_far, none_so_far, one_ste
 use Rattle.naive_plans.proofs.OccasionsBack.{after_all}
 use Rattle.naive_plans.proofs.occasions.Occasions.has_before.Goals as goal
 
-pub times-init : goal.times-init
-times-init c = search (rules, to_z-of_z, as_far)
-
 pub times-preserved : goal.times-preserved
 times-preserved c =
     let inv = rw (to_z-of_z {w = w64} c.ranges.time) at c.times.invariant in let own = c.in-Some.ensures in

@@ -3,18 +3,6 @@ use Rattle.naive_base.proofs.Words.{ap, of_z, to_z-of_z, w64}
 use Rattle.naive_plans.proofs.OccasionWalk.{counts_here, first_not_later, last_bounds, later_bounds, starts_later}
 use Rattle.naive_plans.proofs.occasions.Occasions.start_of_next.Goals as goal
 
-pub last_period-last-requires-clause-later : goal.last_period-last-requires-clause-later
-last_period-last-requires-clause-later c = grind (arith, to_z-of_z, first_not_later)
-
-pub period_after-requires-clause-first : goal.period_after-requires-clause-first
-period_after-requires-clause-first c = search (rules, to_z-of_z, last_bounds)
-
-pub start_of-requires : goal.start_of-requires
-start_of-requires c = search (arith, ints, to_z-of_z, later_bounds)
-
-pub returns-then-last-period : goal.returns-then-last-period
-returns-then-last-period c = grind (arith, to_z-of_z, counts_here)
-
 pub returns : goal.returns
 returns c =
     rw (to_z-of_z {w = w64} (record { sfits = c.start_of.type_inv }))

@@ -1,7 +1,0 @@
-use Rattle.naive_base.proofs.Words.{to_z-of_z}
-use Rattle.std.proofs.Common.{arith}
-use Rattle.naive_plans.proofs.TimeLists.{first_done}
-use Rattle.naive_plans.proofs.sets.LocalTimesPlan.next_after.Goals as goal
-
-pub returns : goal.returns
-returns c = grind (arith, to_z-of_z, first_done)
