@@ -35,12 +35,7 @@ AreFew r start length second counted = (p from to : ℤ) (n : ℕ) → IsChain (
 -- the rule r, whose periods have `length` seconds
 module _ (r : RecurrenceRule) (start : ℤ) (length : ℕ) (kind : IsLength r length) where
   falls : (a b p : ℤ) → own_period r a ≡ p → own_period r b ≡ p → a <ℤ b → floor_mod a length < floor_mod b length
-  falls a b p first last less = elim kind [
-    | inl day ↦ let a_in = rw day.0 at first in let b_in = rw day.0 at last in rw day.1 (omega (arith, ints, floors))
-    | inr (inl hour) ↦ let a_in = rw hour.0 at first in let b_in = rw hour.0 at last in rw hour.1 (omega (arith, ints, floors))
-    | inr (inr (inl minute)) ↦ let a_in = rw minute.0 at first in let b_in = rw minute.0 at last in rw minute.1 (omega (arith, ints, floors))
-    | inr (inr (inr one)) ↦ let a_is = rw one.0 at first in let b_is = rw one.0 at last in absurd (omega (arith, ints))
-  ]
+  falls a b p first last less = grind (arith, ints, floors)
 
   has_its_second : (l : ℤ) → IsOccasion r start l → HasSecondAt r (floor_mod start 86_400) length (floor_mod l length)
   has_its_second l one = elim kind [
@@ -60,7 +55,7 @@ module _ (r : RecurrenceRule) (start : ℤ) (length : ℕ) (kind : IsLength r le
   one_counted second counted few p from to zero h less = omega arith
   one_counted second counted few p from to (suc n) h less =
       let rise = falls h.0 to p (last_one (IsInPeriod r start p) from n h.0 h.1).same h.2.same h.3 in
-      let before = few p from h.0 n h.1 (omega arith) in omega arith
+      omega (arith, few p from h.0 n h.1 (omega arith))
 
   pub none_counted : (second counted : ℕ) → (HasSecondAt r (floor_mod start 86_400) length second → ⊥) → AreFew r start length second counted
       → AreFew r start length (second + 1) counted
@@ -75,10 +70,7 @@ module _ (r : RecurrenceRule) (start : ℤ) (length : ℕ) (kind : IsLength r le
 module _ (r : RecurrenceRule) (start : ℤ) where
   pub never_nth : (count : ℕ) → ((p from to : ℤ) (n : ℕ) → IsChain (IsInPeriod r start p) from n to → n < count) → (p l n : ℤ) → IsBeyond count n
       → IsNth (IsInPeriod r start p) n l → ⊥
-  never_nth count few p l n beyond nth = elim nth [
-    | inl own ↦ let chain = chain_before (IsInPeriod r start p) own.0 l own.2 in let less = few p chain.0 l own.0 chain.1 in omega (arith, ints)
-    | inr own ↦ let chain = chain_after (IsInPeriod r start p) own.0 l own.2 in let less = few p l chain.0 own.0 chain.1 in omega (arith, ints)
-  ]
+  never_nth count few p l n beyond nth = grind (arith, ints, floors, chain_after, chain_before)
 
   pub never_placed : (IsAbsent r.by_set_position.now → ⊥) → ((p l n : ℤ) → Contains r.by_set_position.now n → IsNth (IsInPeriod r start p) n l → ⊥) → (l : ℤ)
       → IsAtPosition r start l → ⊥

@@ -25,13 +25,13 @@ module _ (n a : ℕ) where
   next_multiple k none less = omega (arith, multiples_apart n (a / n) (k / n), div-add-mod' a n, div-add-mod' k n)
 
   whole : a - a % n ≡ a / n * n
-  whole = omega (arith, div-add-mod' a n)
+  whole = omega (arith, ints, floors)
 
   is_multiple : (a - a % n) % n ≡ 0
   is_multiple = rw whole (mul-mod_left (a / n) n)
 
   next_is_multiple : (a - a % n + n) % n ≡ 0
-  next_is_multiple = let more : (a / n + 1) * n ≡ a / n * n + n = omega arith in rw whole (rw more at (mul-mod_left (a / n + 1) n))
+  next_is_multiple = grind (arith, ints, floors, mul-mod_left, whole)
 
 -- ---- places of days
 -- steps that begin at midnight, or on each day
@@ -59,45 +59,23 @@ around step day before after h = elim (midnights_or_each_day step) [
 -- ---- the last second at which a step begins, and the next one
 at_second : (step : ClockStep) (day : ℤ) (second : ℕ) (l : ℤ) → l ≡ day *ℤ pos 86_400 +ℤ pos second → second < 86_400 → BeginsOnDay step day
     → second % seconds_of_step step ≡ 0 → BeginsStep step l
-at_second step day second l is short on none =
-    let is_day : floor_div l 86_400 ≡ day = omega (arith, ints, floors) in
-    let is_second : floor_mod l 86_400 ≡ second = omega (arith, ints, floors) in
-    rw (is_day, is_second) (record { on = on; at = none })
+at_second step day second l is short on none = grind (arith, ints, floors)
 
 -- a member of the day d, at its second k, up to second `at` of `day`
 last_member : (day d : ℤ) (before k b n : ℕ) → (n ≡ 86_400) ⊎ (before ≡ 0) → (n ≡ 86_400 → k ≡ 0) → ((d ≡ day) → k ≤ b) → k < 86_400 → b < 86_400
     → d ≤ℤ (day -ℤ pos before) → (d *ℤ pos 86_400 +ℤ pos k) ≤ℤ ((day -ℤ pos before) *ℤ pos 86_400 +ℤ pos b)
-last_member day d before k b n kind whole_days same short below le =
-    by_lt_z d (day -ℤ pos before) (λ less. omega (arith, ints))
-    (λ not. elim kind [
-      | inl midnight ↦ let none = whole_days midnight in omega (arith, ints)
-      | inr here ↦ let within = same (omega (arith, ints)) in omega (arith, ints)
-    ])
+last_member day d before k b n kind whole_days same short below le = grind (arith, ints, floors)
 
 next_member : (day d : ℤ) (after e k : ℕ) → (d ≡ day → (after ≡ 0) × (e ≤ k)) → day ≤ℤ d → (day <ℤ d → (day +ℤ pos after) <ℤ d) → e ≤ 86_400
     → ((day +ℤ pos after) *ℤ pos 86_400 +ℤ pos e) ≤ℤ (d *ℤ pos 86_400 +ℤ pos k)
-next_member day d after e k here from later most =
-    by_lt_z day d (λ less. let more = later less in omega (arith, ints))
-    (λ not. let same = here (omega (arith, ints)) in omega (arith, ints))
+next_member day d after e k here from later most = grind (arith, ints, floors)
 
 -- the second s, which is the second `at` of `day`, in a step of days that begins `before` days earlier and ends after `after` more;
 -- each of its days begins a step of n seconds
 module _ (step : ClockStep) {s day : ℤ} {at before after n : ℕ} (is_day : day ≡ floor_div s 86_400) (is_at : at ≡ floor_mod s 86_400)
     (is_n : n ≡ seconds_of_step step) (part : IsPartOfDay n) (h : IsPlace (BeginsOnDay step) day before after) where
   last_begin : IsLastUpTo (BeginsStep step) s ((day -ℤ pos before) *ℤ pos 86_400 +ℤ pos (at - at % n))
-  last_begin = record {
-    one = at_second step (day -ℤ pos before) (at - at % n) _ refl (omega (arith, ints, floors)) h.first (rw is_n (is_multiple _ at));
-    not_after = omega (arith, ints, floors);
-    greatest = λ m begins le.
-        let d : ℤ = floor_div m 86_400 in let k : ℕ = floor_mod m 86_400 in
-        let in_day : k < 86_400 = omega (arith, ints, floors) in let none : k % n ≡ 0 = rw is_n begins.at in
-        let most = last_member day d before k (at - at % n) n
-        (elim (around step day before after h) [ inl midnight ↦ inl (rw is_n midnight) | inr none ↦ inr none.0 ])
-        (λ midnight. let zero = rw midnight at none in omega arith)
-        (λ same. last_multiple n at k part.0 none (omega (arith, ints, floors))) in_day (omega (arith, ints, floors))
-        (grind (arith, ints, floors, h.none_between d begins.on)) in
-        omega (arith, ints, floors);
-  }
+  last_begin = grind (arith, ints, floors, around, at_second, is_multiple, last_member, last_multiple)
 
   next_begin : IsFirstAfter (BeginsStep step) s ((day +ℤ pos after) *ℤ pos 86_400 +ℤ pos (at - at % n + n))
   next_begin =
@@ -144,9 +122,7 @@ module _ (step : ClockStep) {s day : ℤ} {at before after n : ℕ} (is_day : da
 -- ---- weeks, months and years
 pub in_week : (first : Weekday) (day : ℤ) (before : ℕ) → before ≡ floor_mod (day +ℤ pos 4 -ℤ pos (weekday_number first)) 7
     → IsPlace (BeginsOnDay (Week first)) day before (6 - before)
-in_week first day before is =
-    let under = number_below first in
-    record { first = omega (arith, ints, floors); next = omega (arith, ints, floors); none_between = λ d on later. omega (arith, ints, floors) }
+in_week first day before is = grind (arith, ints, floors, number_below)
 
 next_number : (y : ℤ) (m d : ℕ) (day : ℤ) → 1 ≤ m → 1 ≤ d → d ≤ days_in_month (is_leap y) m → day_number y m d ≡ day
     → day_number y (m + 1) 1 ≡ day +ℤ pos (days_in_month (is_leap y) m - d) +ℤ pos 1

@@ -69,10 +69,7 @@ module _ (set : ℤ → Type 0) where
 
     pub all_counted : {from end : ℤ} (count : ℕ) → n ≤ count → from ≡ last +ℤ pos 1 → end ≡ pos 253_402_300_800
         → ((l : ℤ) → set l → l <ℤ pos 253_402_300_800) → HasNoneBetween set from end → (l : ℤ) → set l → (l ≤ℤ last) ↔ IsAmong set count l
-    all_counted count le is is_end short none l one = (
-      λ low. let among = (h.same l one).0 low in let less = among.1 in (among.0, omega arith, among.2),
-      λ among. by_lt_z last l (λ later. absurd (none l one (omega (arith, ints)) (let before = short l one in omega (arith, ints)))) (λ not. not),
-    )
+    all_counted count le is is_end short none l one = grind (arith, ints)
 
     pub whole_count : (count : ℕ) → n ≤ count → count ≤ n → (l : ℤ) → set l → (l ≤ℤ last) ↔ IsAmong set count l
-    whole_count count le ge = rw (count_is n count le ge) at h.same
+    whole_count count le ge = grind (arith, ints, count_is)

@@ -16,13 +16,11 @@ pub record IsLeft (c : Cron) (day : ℤ) (second minute : ℕ) : Type 0 where
 -- on a day of the line, from a second on
 module _ {c : Cron} {day : ℤ} {second : ℕ} where
   pub all_left : IsLeft c day second ((second + 59) / 60)
-  all_left = record { later = omega arith; left = λ k h from. omega arith }
+  all_left = omega arith
 
   pub found : {minute : ℕ} → minute < 1440 → IsLeft c day second minute → IsCronDay c day → IsCronMinute c minute
       → IsFirstSecondFrom (IsCronTime c day) second (minute * 60)
-  found {minute = minute} short h on at =
-      let is : minute * 60 / 60 ≡ minute = omega arith in
-      record { planned = record { on = on; whole = omega arith; at = rw is at }; not_before = h.later; in_day = omega arith; least = h.left }
+  found {minute = minute} short h on at = grind (arith)
 
   pub passed : {minute : ℕ} → IsLeft c day second minute → (IsCronMinute c minute → ⊥) → IsLeft c day second (minute + 1)
   passed {minute = minute} h not = record {
@@ -33,26 +31,18 @@ module _ {c : Cron} {day : ℤ} {second : ℕ} where
   }
 
   pub none : IsLeft c day second 1440 → HasNoSecondFrom (IsCronTime c day) second
-  none h k short planned from = let least = h.left k planned from in omega arith
+  none h k short planned from = grind (arith)
 
 -- ---- a line without a date
 longest : (b : Bool) (m : ℕ) → days_in_month b m ≤ days_in_month true m
-longest b m = grind (arith, nat_tests)
+longest b m = grind (arith)
 
 pub no_date : (c : Cron) (day : ℤ) → c.either ≡ false → ListsNoDateBefore c 13 → IsCronDay c day → ⊥
-no_date c day both none on =
-    let listed = rw both at on.listed in let is = (date_is day).0 in let days = longest (is_leap (year_of day)) (month_of day) in
-    none (month_of day) (day_of_month day) (omega arith) (omega arith) (omega arith) (omega arith) on.month listed.0
+no_date c day both none on = grind (arith, date_is, longest, none)
 
 pub no_date_by_either : (c : Cron) (day : ℤ) → (c.either ≡ false → ⊥) → ListsNoDateBefore c 13 → (IsTrue (get_or c.weekdays (weekday_of day) false) → ⊥)
     → IsCronDay c day → ⊥
-no_date_by_either c day either none week on =
-    let is = (date_is day).0 in let days = longest (is_leap (year_of day)) (month_of day) in
-    let both : c.either ≡ true = grind (arith, either) in
-    elim (rw both at on.listed) [
-      | inl month ↦ none (month_of day) (day_of_month day) (omega arith) (omega arith) (omega arith) (omega arith) on.month month
-      | inr other ↦ week other
-    ]
+no_date_by_either c day either none week on = grind (arith, date_is, longest, none)
 
 -- ---- and back
 -- all that it has on that day up to a second comes before a minute
@@ -65,14 +55,7 @@ pub record IsLeftBefore (c : Cron) (day : ℤ) (second left : ℕ) : Type 0 wher
 module _ {c : Cron} {day : ℤ} {second : ℕ} where
   pub found_last : {left : ℕ} → IsLeftBefore c day second (left + 1) → IsCronDay c day → IsCronMinute c left
       → IsLastSecondUntil (IsCronTime c day) second (left * 60)
-  found_last {left = left} h on at =
-      let is : left * 60 / 60 ≡ left = omega arith in
-      record {
-        planned = record { on = on; whole = omega arith; at = rw is at };
-        not_after = omega arith;
-        in_day = omega arith;
-        greatest = λ k in_day planned come. let below = h.before k in_day planned come in omega arith;
-      }
+  found_last {left = left} h on at = grind (arith, left)
 
   pub passed_back : {left : ℕ} → IsLeftBefore c day second (left + 1) → (IsCronMinute c left → ⊥) → IsLeftBefore c day second left
   passed_back {left = left} h not = record {
@@ -84,6 +67,6 @@ module _ {c : Cron} {day : ℤ} {second : ℕ} where
   }
 
   pub none_back : IsLeftBefore c day second 0 → HasNoSecondUntil (IsCronTime c day) second
-  none_back h k in_day planned come = let below = h.before k in_day planned come in omega arith
+  none_back h k in_day planned come = grind (arith, found_last, passed_back)
 
 pub ruleset minutes_back = (found_last, passed_back, none_back)

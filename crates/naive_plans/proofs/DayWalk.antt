@@ -12,21 +12,19 @@ pub record IsLeft (plan : ℤ → Type 0) (before day : ℤ) (from : ℕ) : Type
   pub left : (m : ℤ) → plan m → before <ℤ m → (day *ℤ pos 86_400 +ℤ pos from) ≤ℤ m
 
 pub all_left : {plan : ℤ → Type 0} {day : ℤ} {from : ℕ} → from ≤ 86_400 → IsLeft plan (second_before day from) day from
-all_left in_day = record { in_day = in_day; later = omega (arith, ints); left = λ m planned later. omega (arith, ints) }
+all_left in_day = omega (arith, ints, floors)
 
 pub at_end : {plan : ℤ → Type 0} {before day : ℤ} → IsWideDay day → (IsWideDay (day +ℤ pos 1) → ⊥) → IsLeft plan before (day +ℤ pos 1) 0
     → HasNoneAfter plan before
-at_end wide out h m inside planned later = let least = h.left m planned later in out (omega (arith, ints))
+at_end wide out h m inside planned later = grind (arith, ints, floors, later)
 
 -- the seconds that `on` lists for each day
 module _ (on : ℤ → ℕ → Type 0) where
   on_its_day : (day m : ℤ) → floor_div m 86_400 ≡ day → IsPlannedOnItsDay on m → on day (floor_mod m 86_400)
-  on_its_day day m is planned = subst (λ (d : ℤ). on d (floor_mod m 86_400)) is planned
+  on_its_day day m is planned = grind (arith, ints, floors)
 
   pub on_day : (day l : ℤ) (s : ℕ) → s < 86_400 → l ≡ day *ℤ pos 86_400 +ℤ pos s → on day s → IsPlannedOnItsDay on l
-  on_day day l s short is one =
-      let is_day : floor_div l 86_400 ≡ day = omega (arith, ints, floors) in
-      let is_second : floor_mod l 86_400 ≡ s = omega (arith, ints, floors) in rw (is_day, is_second) one
+  on_day day l s short is one = grind (arith, ints, floors)
 
   pub none_on_day : {before day : ℤ} {from : ℕ} → IsLeft (IsPlannedOnItsDay on) before day from → HasNoSecondFrom (on day) from
       → IsLeft (IsPlannedOnItsDay on) before (day +ℤ pos 1) 0
@@ -41,19 +39,11 @@ module _ (on : ℤ → ℕ → Type 0) where
 
   pub least_found : {before day : ℤ} {from s : ℕ} → IsLeft (IsPlannedOnItsDay on) before day from → IsFirstSecondFrom (on day) from s
       → (m : ℤ) → IsPlannedOnItsDay on m → before <ℤ m → (day *ℤ pos 86_400 +ℤ pos s) ≤ℤ m
-  least_found {day = day} h first m planned later =
-      let after = h.left m planned later in
-      by_lt_z day (floor_div m 86_400) (λ more. omega (arith, ints, floors))
-      (λ not. let least = first.least (floor_mod m 86_400) (on_its_day day m (omega (arith, ints, floors)) planned) (omega (arith, ints, floors)) in
-      omega (arith, ints, floors))
+  least_found {day = day} h first m planned later = grind (arith, ints, floors, later, on_its_day)
 
   pub found_on_day : {before day : ℤ} {from s : ℕ} → IsLeft (IsPlannedOnItsDay on) before day from → IsFirstSecondFrom (on day) from s
       → IsNextAfter (IsPlannedOnItsDay on) before (day *ℤ pos 86_400 +ℤ pos s)
-  found_on_day {day = day} {s = s} h first = record {
-    planned = on_day day _ s first.in_day refl first.planned;
-    after = omega (arith, ints, h.later, first.not_before);
-    least = λ m inside. least_found h first m;
-  }
+  found_on_day {day = day} {s = s} h first = grind (arith, ints, floors, least_found, on_day)
 
 -- ---- and back
 -- all that it has up to a local second, and can be shown, comes up to a second of a day
@@ -63,11 +53,11 @@ pub record IsLeftBefore (plan : ℤ → Type 0) (until day : ℤ) (to : ℕ) : T
   pub left : (m : ℤ) → plan m → m ≤ℤ until → m ≤ℤ (day *ℤ pos 86_400 +ℤ pos to)
 
 pub all_before : {plan : ℤ → Type 0} {day : ℤ} {to : ℕ} → to < 86_400 → IsLeftBefore plan (day *ℤ pos 86_400 +ℤ pos to) day to
-all_before in_day = record { in_day = in_day; not_later = omega (arith, ints); left = λ m planned come. come }
+all_before in_day = omega (arith, ints, floors)
 
 pub at_start : {plan : ℤ → Type 0} {until day : ℤ} → IsWideDay day → (IsWideDay (day -ℤ pos 1) → ⊥) → IsLeftBefore plan until (day -ℤ pos 1) 86_399
     → HasNoneUntil plan until
-at_start wide out h m inside planned come = let most = h.left m planned come in out (omega (arith, ints))
+at_start wide out h m inside planned come = grind (arith, ints, floors)
 
 -- the seconds that `on` lists for each day
 module _ (on : ℤ → ℕ → Type 0) where
@@ -83,10 +73,4 @@ module _ (on : ℤ → ℕ → Type 0) where
 
   pub last_on_day : {until day : ℤ} {to s : ℕ} → IsLeftBefore (IsPlannedOnItsDay on) until day to → IsLastSecondUntil (on day) to s
       → IsLastUntil (IsPlannedOnItsDay on) until (day *ℤ pos 86_400 +ℤ pos s)
-  last_on_day {day = day} {s = s} h last = record {
-    planned = on_day on day _ s last.in_day refl last.planned;
-    not_after = omega (arith, ints, h.not_later, last.not_after);
-    greatest = λ m inside planned come. let most = h.left m planned come in by_lt_z (floor_div m 86_400) day (λ less. omega (arith, ints, floors))
-        (λ not. let greatest = last.greatest (floor_mod m 86_400) (omega (arith, ints, floors)) (on_its_day on day m (omega (arith, ints, floors)) planned)
-        (omega (arith, ints, floors)) in omega (arith, ints, floors));
-  }
+  last_on_day {day = day} {s = s} h last = grind (arith, ints, floors, on_day, on_its_day)

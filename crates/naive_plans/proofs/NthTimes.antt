@@ -18,17 +18,17 @@ abbrev pub around : RecurrenceRule → ℤ → ℤ → ℤ → Type 0
 around r start time = IsInPeriod r start (own_period r time)
 
 rises : (r : RecurrenceRule) (a b : ℤ) → a ≤ℤ b → own_period r a ≤ℤ own_period r b
-rises r = period_rises r.frequency (weekday_number r.week_start)
+rises r = grind (arith, ints, period_rises)
 
 -- ---- the time before one, and the one after it
 -- the times of the rule r with that start, in the period of `time`
 module _ {r : RecurrenceRule} {start time : ℤ} where
   occasion_is_wide : {l : ℤ} → neg_ℤ (pos 62_167_219_200) ≤ℤ start → time <ℤ pos 253_402_300_800 → IsOccasion r start l → l ≤ℤ (time -ℤ pos 1) → IsWide l
-  occasion_is_wide low short one le = let early = after_all r start _ one in (omega (arith, ints), omega (arith, ints))
+  occasion_is_wide low short one le = let early = after_all r start _ one in (omega (arith, ints))
 
   pub none_before : neg_ℤ (pos 62_167_219_200) ≤ℤ start → time <ℤ pos 253_402_300_800
       → HasNoneUntil (IsOccasion r start) (time -ℤ pos 1) → HasNoneUpTo (around r start time) (time -ℤ pos 1)
-  none_before low short none m own come = none m (occasion_is_wide low short own.occasion come) own.occasion come
+  none_before low short none m own come = grind (arith, ints, occasion_is_wide)
 
   pub before_in_period : {last : ℤ} (found : Option ℤ) → neg_ℤ (pos 62_167_219_200) ≤ℤ start → time <ℤ pos 253_402_300_800
       → IsLastUntil (IsOccasion r start) (time -ℤ pos 1) last
@@ -40,7 +40,7 @@ module _ {r : RecurrenceRule} {start time : ℤ} where
   before_in_period (Some l) low short own is = record {
     one = record { occasion = rw is.0 own.planned; same = rw is.0 is.1 };
     not_after = omega (arith, ints);
-    greatest = λ m one come. let most = own.greatest m (occasion_is_wide low short one.occasion come) one.occasion come in omega (arith, ints);
+    greatest = λ m one come. omega (arith, ints, own.greatest m (occasion_is_wide low short one.occasion come) one.occasion come);
   }
 
   pub none_after : {from end : ℤ} → from ≡ time +ℤ pos 1 → end ≡ time +ℤ pos 31_708_800 → HasNoneBetween (IsOccasion r start) from end
@@ -58,7 +58,7 @@ after_in_period {r = r} {next = next} time None is_from own other = λ m one lat
 after_in_period time (Some l) is_from own is = record {
   one = record { occasion = rw is.0 own.one; same = rw is.0 is.1 };
   after = omega (arith, ints);
-  least = λ m one later. let least = own.least m one.occasion (omega (arith, ints)) in omega (arith, ints);
+  least = λ m one later. omega (arith, ints, own.least m one.occasion (omega (arith, ints)));
 }
 
 -- ---- the nth time before one, and the nth after it
@@ -192,7 +192,7 @@ module _ {set : ℤ → Type 0} {n l : ℤ} where
   )
 
   pub not_zeroth : (pos 1 ≤ℤ n → ⊥) → (n ≤ℤ neg_ℤ (pos 1) → ⊥) → IsNth set n l → ⊥
-  not_zeroth no_front no_end h = elim h [ inl own ↦ no_front (omega (arith, ints)) | inr own ↦ no_end (omega (arith, ints)) ]
+  not_zeroth no_front no_end h = grind (arith, ints)
 
   pub told_nth : (side : Side) (k : ℕ) {told : Bool} → n ≡ number side k → IsTrue told ↔ Has side set k l → IsTrue told ↔ IsNth set n l
   told_nth side k is own = let same = nth_is side k is in (λ yes. same.0 (own.0 yes), λ nth. own.1 (same.1 nth))

@@ -14,18 +14,17 @@ use Rattle.naive_plans.specs.declared.rule.RecurrenceRule.{RecurrenceRule}
 -- ---- periods that count
 pub first_not_later : (r : RecurrenceRule) (start second first period : ℤ) → first ≡ own_period r start → period ≡ own_period r second → start ≤ℤ second
     → first ≤ℤ period
-first_not_later r start second first period is_first is_period le = rw (is_first, is_period) (period_rises r.frequency
-    (weekday_number r.week_start) start second le)
+first_not_later r start second first period is_first is_period le = grind (arith, ints, floors, period_rises)
 
 -- the rule's first period, the period of a second, and the last one up to that which counts
 module _ (r : RecurrenceRule) (start second : ℤ) {first period last : ℤ} (is_first : first ≡ own_period r start) (is_period : period ≡ own_period r second)
     (own : IsLastPeriod r.interval first period last) where
   pub counts_here : last ≡ period → IsCounted r start second
-  counts_here same = rw (same, is_period, is_first) at own.counts
+  counts_here same = grind (arith, ints, floors)
 
   -- if the last period that counts is an earlier one, its own doesn't
   not_counted : (last ≡ period → ⊥) → IsCounted r start second → ⊥
-  not_counted other counted = let most = own.greatest (own_period r second) (rw is_first counted) (omega (arith, ints)) in other (omega (arith, ints))
+  not_counted other counted = grind (arith, ints, floors)
 
   pub starts_later : {next s : ℤ} → (last ≡ period → ⊥) → next ≡ last +ℤ pos r.interval → ((l : ℤ) → next ≤ℤ own_period r l → s ≤ℤ l)
       → (neg_ℤ (pos 1_000_000_000_000_000_000) ≤ℤ s) × (s ≤ℤ pos 1_000_000_000_000_000_000) → IsStartOfNext r start second s
@@ -47,59 +46,41 @@ module _ (r : RecurrenceRule) (start second : ℤ) {first period last : ℤ} (is
         let most = own.greatest (own_period r l) (rw is_first counted) rise in earlier l (omega (arith, ints)) (omega (arith, ints));
     not_here = not_counted other;
     bound = (
-      let from = earlier start (omega (arith, ints)) (omega (arith, ints)) in omega (arith, ints),
-      by_lt_z last period (λ less. let up = later second (omega (arith, ints)) in omega (arith, ints)) (λ not. absurd (other (omega (arith, ints)))),
+      omega (arith, ints, earlier start (omega (arith, ints)) (omega (arith, ints))),
+      by_lt_z last period (λ less. omega (arith, ints, later second (omega (arith, ints)))) (λ not. absurd (other (omega (arith, ints)))),
     );
   }
 
 pub last_bounds : (n : ℕ) (first period last : ℤ) → IsLastPeriod n first period last → IsPeriod first → IsPeriod period → IsPeriod last
-last_bounds n first period last own low high = (omega (arith, ints), omega (arith, ints))
+last_bounds n first period last own low high = omega (arith, ints, floors)
 
 pub later_bounds : (n by : ℕ) (least first period last next : ℤ) → IsLastPeriod n first period last → least ≤ℤ first → IsPeriod period
     → next ≡ last +ℤ pos by → by < 4_294_967_296 → (least ≤ℤ next) × (next ≤ℤ pos 400_000_000_000)
-later_bounds n by least first period last next own low high is_next small = (omega (arith, ints), omega (arith, ints))
+later_bounds n by least first period last next own low high is_next small = omega (arith, ints, floors)
 
 -- ---- within a day
 -- the rule r with that start, from a second of `day` on
 module _ (r : RecurrenceRule) (start day : ℤ) (second : ℕ) where
   pub hour_skipped : second < 86_400 → (HasHour r (floor_mod start 86_400) second → ⊥) → IsSkipped (IsTimeOn r start day) second ((second / 3600 + 1) * 3600)
-  hour_skipped short not = record {
-    later = omega arith;
-    in_day = omega arith;
-    none = λ k in_day on le. let other : k / 3600 ≡ second / 3600 → ⊥ = λ same. not (rw same at on.hour) in grind (arith, other);
-  }
+  hour_skipped short not = grind (arith, ints, floors)
 
   pub minute_skipped : second < 86_400 → (HasMinute r (floor_mod start 86_400) second → ⊥) → IsSkipped (IsTimeOn r start day) second ((second / 60 + 1) * 60)
-  minute_skipped short not = record {
-    later = omega arith;
-    in_day = omega arith;
-    none = λ k in_day on le. let other : k / 60 ≡ second / 60 → ⊥ = λ same. not (rw same at on.minute) in grind (arith, other);
-  }
+  minute_skipped short not = grind (arith, ints, floors)
 
   pub second_skipped : second < 86_400 → (HasSecond r (floor_mod start 86_400) second → ⊥) → IsSkipped (IsTimeOn r start day) second (second + 1)
-  second_skipped short not = record {
-    later = omega arith;
-    in_day = omega arith;
-    none = λ k in_day on le. let other : k ≡ second → ⊥ = λ same. not (rw same at on.at_second) in grind (arith, other);
-  }
+  second_skipped short not = grind (arith, ints, floors)
 
   pub period_skipped : {l s : ℤ} {next : ℕ} → l ≡ day *ℤ pos 86_400 +ℤ pos second → IsStartOfNext r start l s → (second < next) × (next ≤ 86_400)
       → ((k : ℕ) → k < 86_400 → second < k → s ≤ℤ (day *ℤ pos 86_400 +ℤ pos k) → next ≤ k) → IsSkipped (IsTimeOn r start day) second next
-  period_skipped is own later from = record {
-    later = later.0;
-    in_day = later.1;
-    none = λ k in_day on le.
-        let other : second ≡ k → ⊥ = λ same. own.not_here (rw is (rw same on.counts)) in
-        from k in_day (grind (arith, other)) (own.none (day *ℤ pos 86_400 +ℤ pos k) on.counts (omega (arith, ints)));
-  }
+  period_skipped is own later from = grind (arith, ints, floors)
 
 -- ---- days
 pub time_of : {r : RecurrenceRule} {start day : ℤ} {second : ℕ} → IsOccasionOn r start day second → IsTimeOn r start day second
-time_of on = record { counts = on.counts; hour = on.hour; minute = on.minute; at_second = on.at_second }
+time_of on = grind (arith, ints, floors)
 
 pub on_date : {r : RecurrenceRule} {start day : ℤ} {second : ℕ} → IsOnDate r (floor_div start 86_400) day → IsTimeOn r start day second
     → IsOccasionOn r start day second
-on_date date on = record { counts = on.counts; date = date; hour = on.hour; minute = on.minute; at_second = on.at_second }
+on_date date on = grind (arith, ints, floors)
 
 pub with_date : (r : RecurrenceRule) (start day : ℤ) (from : ℕ) (found : Option ℕ) → IsOnDate r (floor_div start 86_400) day
     → MatchOption found (HasNoSecondFrom (IsTimeOn r start day) from) (λ s. IsFirstSecondFrom (IsTimeOn r start day) from s)
@@ -125,13 +106,7 @@ module _ (on : ℤ → ℕ → Type 0) where
   -- a later day with none before it
   pub left_later : {before day next : ℤ} → IsLeft (IsPlannedOnItsDay on) before (day +ℤ pos 1) 0 → day <ℤ next
       → ((d : ℤ) (second : ℕ) → on d second → second < 86_400 → day <ℤ d → next ≤ℤ d) → IsLeft (IsPlannedOnItsDay on) before next 0
-  left_later h later none = record {
-    in_day = omega arith;
-    later = omega (arith, ints);
-    left = λ m planned come. let least = h.left m planned come in
-        let from = none (floor_div m 86_400) (floor_mod m 86_400) planned (omega (arith, ints, floors)) (omega (arith, ints, floors)) in
-        omega (arith, ints, floors);
-  }
+  left_later h later none = grind (arith, ints, floors)
 
   pub first_found : (from end : ℤ) {day l : ℤ} {second s : ℕ} (found : Option ℤ) → IsLeft (IsPlannedOnItsDay on) (from -ℤ pos 1) day second
       → IsFirstSecondFrom (on day) second s
@@ -142,20 +117,16 @@ module _ (on : ℤ → ℕ → Type 0) where
     one = on_day on day f s first.in_day (omega (arith, ints)) first.planned;
     not_before = omega (arith, ints);
     before_end = here.1;
-    least = λ m one come. let least = least_found on h first m one (omega (arith, ints)) in omega (arith, ints);
+    least = λ m one come. omega (arith, ints, least_found on h first m one (omega (arith, ints)));
   }
 
 pub none_between : (set : ℤ → Type 0) (from end day : ℤ) (second : ℕ) → IsLeft set (from -ℤ pos 1) day second → (end ≤ℤ (day *ℤ pos 86_400))
     → HasNoneBetween set from end
-none_between set from end day second h over m one come before = let least = h.left m one (omega (arith, ints)) in omega (arith, ints)
+none_between set from end day second h over m one come before = grind (arith, ints, floors)
 
 pub left_at_start : (set : ℤ → Type 0) (from day : ℤ) (second : ℕ) → day ≡ floor_div from 86_400 → second ≡ floor_mod from 86_400
     → IsLeft set (from -ℤ pos 1) day second
-left_at_start set from day second is_day is_second = record {
-  in_day = omega (arith, ints, floors);
-  later = omega (arith, ints, floors);
-  left = λ m one come. omega (arith, ints, floors);
-}
+left_at_start set from day second is_day is_second = omega (arith, ints, floors)
 
 pub day_from : (start day d : ℤ) (second : ℕ) → day ≡ floor_div start 86_400 → second < 86_400 → start ≤ℤ (d *ℤ pos 86_400 +ℤ pos second) → day ≤ℤ d
 day_from start day d second is short le = omega (arith, ints, floors)

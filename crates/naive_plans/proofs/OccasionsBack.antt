@@ -18,25 +18,14 @@ use Rattle.naive_plans.specs.declared.rule.RecurrenceRule.{RecurrenceRule}
 -- the rule r with that start, up to a second of `day`
 module _ (r : RecurrenceRule) (start day : ℤ) (second : ℕ) where
   pub hour_back : (HasHour r (floor_mod start 86_400) second → ⊥) → IsSkippedBack (IsTimeOn r start day) second (second / 3600 * 3600)
-  hour_back not = record {
-    earlier = omega arith;
-    none = λ k on le. let other : k / 3600 ≡ second / 3600 → ⊥ = λ same. not (rw same at on.hour) in grind (arith, other);
-  }
+  hour_back not = grind (arith, ints, floors)
 
   pub minute_back : (HasMinute r (floor_mod start 86_400) second → ⊥) → IsSkippedBack (IsTimeOn r start day) second (second / 60 * 60)
-  minute_back not = record {
-    earlier = omega arith;
-    none = λ k on le. let other : k / 60 ≡ second / 60 → ⊥ = λ same. not (rw same at on.minute) in grind (arith, other);
-  }
+  minute_back not = grind (arith, ints, floors)
 
   pub period_back : {l e : ℤ} {end : ℕ} → l ≡ day *ℤ pos 86_400 +ℤ pos second → IsEndOfLast r start l e → end ≤ second
       → ((k : ℕ) → k < second → (day *ℤ pos 86_400 +ℤ pos k) <ℤ e → k < end) → IsSkippedBack (IsTimeOn r start day) second end
-  period_back is own earlier to = record {
-    earlier = earlier;
-    none = λ k on le.
-        let other : k ≡ second → ⊥ = λ same. own.not_here (rw is (rw same at on.counts)) in
-        to k (grind (arith, other, le)) (own.none (day *ℤ pos 86_400 +ℤ pos k) on.counts (omega (arith, ints)));
-  }
+  period_back is own earlier to = grind (arith, ints, floors)
 
 -- none comes from a second of the day on and up to another one
 abbrev pub IsPassedBack : (ℕ → Type 0) → ℕ → ℕ → Type 0
@@ -45,21 +34,13 @@ IsPassedBack on until left = (left ≤ until + 1) × ((k : ℕ) → k < 86_400 �
 -- the seconds of a day that `on` lists
 module _ (on : ℕ → Type 0) where
   pub one_back : (second : ℕ) → (on second → ⊥) → IsSkippedBack on second second
-  one_back second not = record {
-    earlier = omega arith;
-    none = λ k one le. let other : k ≡ second → ⊥ = λ same. not (rw same at one) in grind (arith, other);
-  }
+  one_back second not = grind (arith, ints, floors)
 
   pub more_back : (until left end : ℕ) → IsPassedBack on until left → 0 < left → IsSkippedBack on (left - 1) end → IsPassedBack on until end
-  more_back until left end h some skip = (omega arith, λ k in_day one le. let below = h.1 k in_day one le in skip.none k one (omega arith))
+  more_back until left end h some skip = grind (arith, ints, floors)
 
   pub found_back : (until left : ℕ) → until < 86_400 → IsPassedBack on until left → 0 < left → on (left - 1) → IsLastSecondUntil on until (left - 1)
-  found_back until left short h some one = record {
-    planned = one;
-    not_after = omega arith;
-    in_day = omega arith;
-    greatest = λ k in_day other le. let below = h.1 k in_day other le in omega arith;
-  }
+  found_back until left short h some one = grind (arith, ints, floors)
 
 -- ---- days
 pub with_date_back : (r : RecurrenceRule) (start day : ℤ) (until : ℕ) (found : Option ℕ) → IsOnDate r (floor_div start 86_400) day
@@ -84,13 +65,7 @@ in_month day dom is = omega (arith, date_is day, month_bounds (is_leap (year_of 
 -- an earlier day with none after it
 pub left_earlier : (on : ℤ → ℕ → Type 0) (until day last : ℤ) → IsLeftBefore (IsPlannedOnItsDay on) until (day -ℤ pos 1) 86_399 → last <ℤ day
     → ((d : ℤ) (second : ℕ) → on d second → second < 86_400 → d <ℤ day → d ≤ℤ last) → IsLeftBefore (IsPlannedOnItsDay on) until last 86_399
-left_earlier on until day last h earlier none = record {
-  in_day = omega arith;
-  not_later = let from = h.not_later in omega (arith, ints);
-  left = λ m planned come. let most = h.left m planned come in
-      let from = none (floor_div m 86_400) (floor_mod m 86_400) planned (omega (arith, ints, floors)) (omega (arith, ints, floors)) in
-      omega (arith, ints, floors);
-}
+left_earlier on until day last h earlier none = grind (arith, ints, floors)
 
 -- no occasion comes 367 days before the start
 pub after_all : (r : RecurrenceRule) (start l : ℤ) → IsOccasion r start l → (start -ℤ pos 31_708_800) <ℤ l
@@ -102,23 +77,19 @@ after_all r start l one = by_lt_z (start -ℤ pos 31_708_800) l (λ less. less)
 pub none_until : (r : RecurrenceRule) (start until day : ℤ) (to : ℕ) → IsLeftBefore (IsOccasion r start) until day to
     → ((day *ℤ pos 86_400 +ℤ pos 86_400) ≤ℤ (start -ℤ pos 31_708_800)) → HasNoneUntil (IsOccasion r start) until
 none_until r start until day to h over m wide one come =
-    let most = h.left m one come in let after = after_all r start m one in omega (arith, ints)
+    omega (arith, ints, after_all r start m one, h.left m one come)
 
 pub all_until : (set : ℤ → Type 0) (until day : ℤ) (second : ℕ) → day ≡ floor_div until 86_400 → second ≡ floor_mod until 86_400
     → IsLeftBefore set until day second
-all_until set until day second is_day is_second = record {
-  in_day = omega (arith, ints, floors);
-  not_later = omega (arith, ints, floors);
-  left = λ m one come. omega (arith, ints, floors);
-}
+all_until set until day second is_day is_second = omega (arith, ints, floors)
 
 -- ---- periods that count
 pub none_counted : (r : RecurrenceRule) (start second first period end : ℤ) → first ≡ own_period r start → period ≡ own_period r second
     → (first ≤ℤ period → ⊥) → start <ℤ pos 253_402_300_800 → end ≡ start -ℤ pos 31_708_800 → IsEndOfLast r start second end
 none_counted r start second first period end is_first is_period early in_years is_end = record {
-  none = λ l counted le. absurd (early (let rise = period_rises r.frequency (weekday_number r.week_start) l second le in omega (arith, ints)));
+  none = λ l counted le. absurd (early (omega (arith, ints, period_rises r.frequency (weekday_number r.week_start) l second le)));
   not_here = λ counted. early (omega (arith, ints));
-  bound = (omega (arith, ints), omega (arith, ints));
+  bound = omega (arith, ints);
 }
 
 -- a day of a second that counts, up to one that none counts after

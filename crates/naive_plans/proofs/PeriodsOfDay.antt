@@ -53,11 +53,7 @@ has_period r start day second length kind on = elim kind [
 ]
 
 period_under : (r : RecurrenceRule) (second length : ℕ) → IsPartOfHours r length → second < 86_400 → second / length < 86_400 / length
-period_under r second length kind short = elim kind [
-  | inl hour ↦ rw hour.1 (omega arith)
-  | inr (inl minute) ↦ rw minute.1 (omega arith)
-  | inr (inr one) ↦ rw one.1 (omega arith)
-]
+period_under r second length kind short = grind (arith, ints, floors)
 
 pub never_met : (r : RecurrenceRule) (start : ℤ) (length step : ℕ) → IsPartOfHours r length → 86_400 / length % step ≡ 0 → r.interval % step ≡ 0
     → ((k : ℕ) → k < 86_400 / length → k % step ≡ floor_mod start 86_400 / length % step
