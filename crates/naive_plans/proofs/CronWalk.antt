@@ -70,3 +70,7 @@ module _ {c : Cron} {day : ℤ} {second : ℕ} where
   none_back h k in_day planned come = grind (arith, found_last, passed_back)
 
 pub ruleset minutes_back = (found_last, passed_back, none_back)
+
+pub ruleset minutes = (all_left, found, passed)
+
+pub ruleset no_dates = (no_date, no_date_by_either)

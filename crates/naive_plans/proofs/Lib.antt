@@ -1,4 +1,3 @@
-mod Ranges
 mod DayWalk
 mod CronWalk
 mod RuleParts

@@ -1,5 +1,5 @@
 -- The walk over the times that a rule's parts let through.
-use Rattle.naive_base.proofs.Words.{MatchOption, None, Option, Some, arith, by_lt_z, floor_div, floor_mod, floors, ints, neg_ℤ, pos, refl, sym}
+use Rattle.naive_base.proofs.Words.{MatchOption, None, Option, Some, arith, by_lt_z, floor_div, floor_mod, floors, ints, neg_ℤ, pos, refl, sym, to_z-of_z}
 use Rattle.naive_base.proofs.Words.{ℕ, ℤ, ◌*◌, ◌*ℤ◌, ◌+ℤ◌, ◌+◌, ◌-ℤ◌, ◌-◌, ◌/◌, ◌<ℤ◌, ◌<◌, ◌≡◌, ◌≤ℤ◌, ◌≤◌}
 use Rattle.naive_base.specs.Weekday.{weekday_number}
 use Rattle.naive_base.proofs.Words.{day_of_month, days_in_month, is_leap, month_of, year_of}
@@ -133,3 +133,5 @@ day_from start day d second is short le = omega (arith, ints, floors)
 
 pub days_between : (next d : ℤ) (second : ℕ) → next ≤ℤ d → (next *ℤ pos 86_400) ≤ℤ (d *ℤ pos 86_400 +ℤ pos second)
 days_between next d second le = omega (arith, ints)
+
+pub ruleset periods = (to_z-of_z, first_not_later, counts_here, last_bounds, later_bounds)

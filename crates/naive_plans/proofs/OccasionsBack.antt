@@ -98,3 +98,5 @@ day_to end day d second is short less = omega (arith, ints, floors)
 
 pub days_up_to : (last d : ℤ) (second : ℕ) → d ≤ℤ last → second < 86_400 → (d *ℤ pos 86_400 +ℤ pos second) ≤ℤ (last *ℤ pos 86_400 +ℤ pos 86_399)
 days_up_to last d second le short = omega (arith, ints)
+
+pub ruleset seconds_back = (more_back, found_back)

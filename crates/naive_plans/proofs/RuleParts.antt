@@ -1,5 +1,5 @@
 -- The parts of a rule.
-use Rattle.std.proofs.Common.{IsTrue, inl, inr, arith, pos, Bool, ℕ, ℤ, ◌≡◌, ◌/◌, ◌%◌, ◌+◌, ◌-◌, ◌<◌, ◌≤◌, ◌+ℤ◌, ◌-ℤ◌, ◌↔◌, subst}
+use Rattle.std.proofs.Common.{IsTrue, to_z-of_z, inl, inr, arith, pos, Bool, ℕ, ℤ, ◌≡◌, ◌/◌, ◌%◌, ◌+◌, ◌-◌, ◌<◌, ◌≤◌, ◌+ℤ◌, ◌-ℤ◌, ◌↔◌, subst}
 use Rattle.std.proofs.lemmas.Int.{ints}
 use Rattle.gregorian.proofs.ForCallers.{day_of_year_is, floors}
 use Rattle.gregorian.specs.DateOf.{day_of_month, day_of_year, month_of, year_of}
@@ -56,3 +56,5 @@ pub on_date : (r : RecurrenceRule) (start day year : ℤ) (m d fm fd n : ℕ) �
     → n ≡ days_in_month (is_leap year) m → HasMonth r fm m → HasMonthDay r fd (d - 1) (n - d) d → HasWeekday r start day (d - 1) (n - d) → IsInWeek r day
     → IsOnYearDay r day → IsOnDate r start day
 on_date r start day year m d fm fd n is_year is_month is first_month first days month month_day weekday week year_day = grind (arith, ints, floors)
+
+pub ruleset fourth = (to_z-of_z, fourth_is)

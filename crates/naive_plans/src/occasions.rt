@@ -68,7 +68,7 @@ impl<'a> Occasions<'a> {
     }
 
     // A second up to which, from that one on, no period counts; `None` if its own one does.
-    #[tactic(auto, using(crate::proofs::Ranges::in_range, crate::proofs::OccasionWalk::first_not_later, crate::proofs::OccasionWalk::last_bounds, crate::proofs::OccasionWalk::later_bounds, crate::proofs::OccasionWalk::counts_here))]
+    #[tactic(auto, using(crate::proofs::OccasionWalk::periods))]
     fn start_of_next(&self, second: i64) -> Option<i64>
         requires second { IsRuleSecond second }
         requires from_start { self.now.start ≤ℤ second }

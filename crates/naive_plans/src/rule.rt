@@ -288,7 +288,7 @@ pub(crate) fn month_length(date: YearMonthDay) -> u32
 }
 
 // The fourth day of the week that a day lies in. Most of the week lies in that day's year.
-#[tactic(auto, using(crate::proofs::Ranges::in_range, crate::proofs::RuleParts::fourth_is))]
+#[tactic(auto, using(crate::proofs::RuleParts::fourth))]
 fn fourth_of_week(day: i64, week_start: Weekday) -> i64
     requires { IsRuleDay day }
     ensures value { result ≡ rules.fourth_of_week (weekday_number week_start) day }

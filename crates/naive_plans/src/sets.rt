@@ -145,7 +145,7 @@ impl<A: ReversiblePlan, B: ReversiblePlan> ReversiblePlan for Except<A, B> {
 }
 
 // The first local time of a plan after one that another plan has, or with `false` doesn't have.
-#[tactic(auto, using(crate::proofs::Selected::next_kept, crate::proofs::Selected::passed_one))]
+#[tactic(auto, using(crate::proofs::Selected::kept_later))]
 fn next_selected<A: Plan, B: ReversiblePlan>(
     plan: &A,
     wanted: bool,
