@@ -1,5 +1,5 @@
 -- How many times a day, an hour, a minute or a second of a rule has.
-use Rattle.naive_base.proofs.Words.{arith, floor_div, floor_mod, floors, inl, inr, ints, refl, suc, zero}
+use Rattle.naive_base.proofs.Words.{arith, floor_mod, floors, inl, inr, ints, refl, suc, zero}
 use Rattle.naive_base.proofs.Words.{ℕ, ℤ, ◌%◌, ◌+◌, ◌/◌, ◌<ℤ◌, ◌<◌, ◌≡◌}
 use Rattle.std.proofs.Common.{Contains}
 use Rattle.std.proofs.lemmas.Bool.{cases_order}

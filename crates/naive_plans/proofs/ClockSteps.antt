@@ -1,6 +1,6 @@
 -- Steps of the local clock: how many days and seconds come before the next one begins.
 use Rattle.naive_base.proofs.Words.{arith, by_lt_z, date_is, date_only, day_of_month, day_of_year, day_of_year_is, days_in_month, days_in_year, floor_div}
-use Rattle.naive_base.proofs.Words.{floor_mod, floors, inl, inr, ints, is_leap, lies_in, month_of, one_year, pos, refl, starts_rise, subst, sym, unsigned_abs}
+use Rattle.naive_base.proofs.Words.{floor_mod, floors, inl, inr, ints, is_leap, lies_in, month_of, one_year, pos, refl, starts_rise, subst, sym}
 use Rattle.naive_base.proofs.Words.{weekday_number, year_of, year_start, year_step, ℕ, ℤ, ◌%◌, ◌*◌, ◌*ℤ◌, ◌+ℤ◌, ◌+◌, ◌-ℤ◌, ◌-◌, ◌/◌, ◌<ℤ◌, ◌<◌}
 use Rattle.naive_base.proofs.Words.{◌≡◌, ◌≤ℤ◌, ◌≤◌, ◌⊎◌}
 use Rattle.naive_base.proofs.Words.{day_number, days_at_least, days_of_months, number_at}

@@ -1,10 +1,10 @@
 -- The minutes of a date, one after another.
 use Rattle.std.proofs.Common.{arith, false, true, ℕ, ℤ, ◌*◌, ◌+◌, ◌/◌, ◌<◌, ◌≡◌, ◌≤◌}
-use Rattle.std.proofs.{Common.{Bool}, lemmas.Bool.Decides.{nat_tests}}
-use Rattle.std.proofs.Common.{IsTrue, get_or, inl, inr}
+use Rattle.std.proofs.{Common.{Bool}}
+use Rattle.std.proofs.Common.{IsTrue, get_or}
 use Rattle.gregorian.specs.Weekdays.{weekday_of}
 use Rattle.gregorian.proofs.ForCallers.{date_is}
-use Rattle.gregorian.specs.{DateOf.{day_of_month, month_of, year_of}, Month.{days_in_month}, Year.{is_leap}}
+use Rattle.gregorian.specs.{Month.{days_in_month}}
 use Rattle.naive_plans.specs.{Steps.CronDates.{ListsNoDateBefore}, Cron.{IsCronDay, IsCronMinute, IsCronTime}}
 use Rattle.naive_plans.specs.{DayPlans.{HasNoSecondFrom, HasNoSecondUntil, IsFirstSecondFrom, IsLastSecondUntil}, declared.cron.Cron.{Cron}}
 

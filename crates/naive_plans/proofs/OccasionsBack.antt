@@ -1,7 +1,7 @@
 -- The walk back over the times that a rule's parts let through.
-use Rattle.naive_base.proofs.Words.{MatchOption, None, Option, Some, arith, by_lt_z, date_is, date_only, day_number, floor_div, floor_mod, floors}
-use Rattle.naive_base.proofs.Words.{ints, pos, unsigned_abs, ℕ, ℤ, ◌*◌, ◌*ℤ◌, ◌+ℤ◌, ◌+◌, ◌-ℤ◌, ◌-◌, ◌/◌, ◌<ℤ◌, ◌<◌, ◌≡◌, ◌≤ℤ◌, ◌≤◌}
-use Rattle.naive_base.proofs.Words.{day_of_month, days_in_month, is_leap, month_of, year_of}
+use Rattle.naive_base.proofs.Words.{MatchOption, None, Option, Some, arith, by_lt_z, date_is, floor_div, floor_mod, floors}
+use Rattle.naive_base.proofs.Words.{ints, pos, ℕ, ℤ, ◌*◌, ◌*ℤ◌, ◌+ℤ◌, ◌+◌, ◌-ℤ◌, ◌-◌, ◌/◌, ◌<ℤ◌, ◌<◌, ◌≡◌, ◌≤ℤ◌, ◌≤◌}
+use Rattle.naive_base.proofs.Words.{day_of_month, is_leap, month_of, year_of}
 use Rattle.naive_base.proofs.Words.{month_bounds}
 use Rattle.naive_plans.proofs.DayWalk.{IsLeftBefore}
 use Rattle.naive_plans.specs.DayPlans.{HasNoSecondUntil, IsLastSecondUntil, IsPlannedOnItsDay}

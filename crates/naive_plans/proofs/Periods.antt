@@ -1,5 +1,5 @@
 -- The periods of rules.
-use Rattle.naive_base.proofs.Words.{arith, ints, floors, neg_ℤ, pos, ℕ, ℤ, ◌%◌, ◌*◌, ◌*ℤ◌, ◌+ℤ◌, ◌+◌, ◌-ℤ◌, ◌-◌, ◌/◌, ◌<◌, ◌≡◌, ◌≤ℤ◌, ◌≤◌, ◌<ℤ◌}
+use Rattle.naive_base.proofs.Words.{arith, ints, floors, neg_ℤ, pos, ℕ, ℤ, ◌*◌, ◌*ℤ◌, ◌+ℤ◌, ◌+◌, ◌-ℤ◌, ◌-◌, ◌/◌, ◌<◌, ◌≡◌, ◌≤ℤ◌, ◌≤◌, ◌<ℤ◌}
 use Rattle.naive_base.proofs.Words.{date_is, date_only, day_number, floor_mod, number_at, unsigned_abs, day_of_month, floor_div, is_leap, lies_in}
 use Rattle.naive_base.proofs.Words.{month_of, starts_rise, year_of, year_start}
 use Rattle.naive_base.proofs.Words.{refl}

@@ -14,7 +14,7 @@ use Rattle.naive_plans.proofs.OccasionWalk.{time_of}
 use Rattle.naive_plans.specs.RecurrenceRules.{IsOccasion}
 use Rattle.naive_plans.specs.RecurrenceSets.{IsPlannedUpTo, IsWithinEnd}
 use Rattle.naive_plans.specs.Steps.OccasionSteps.{IsTimeOn}
-use Rattle.naive_base.proofs.Words.{floor_div, floor_mod, floors}
+use Rattle.naive_base.proofs.Words.{floors}
 use Rattle.std.proofs.Common.{◌<◌}
 use Rattle.naive_plans.specs.Steps.RuleSteps.{IsBounded}
 use Rattle.naive_plans.specs.declared.rule.RecurrenceRule.{RecurrenceRule}

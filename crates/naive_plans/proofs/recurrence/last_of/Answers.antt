@@ -1,6 +1,5 @@
-use Rattle.naive_base.proofs.Words.{arith, of_z, pos, refl, rules, to_z, to_z-of_z, w64, ◌≡◌}
-use Rattle.naive_plans.specs.RecurrenceSets.{IsRuleTime}
-use Rattle.naive_plans.proofs.Counted.{all_counted, none_counted, one_more_counted, whole_count}
+use Rattle.naive_base.proofs.Words.{arith, of_z, refl, rules, to_z, to_z-of_z, w64, ◌≡◌}
+use Rattle.naive_plans.proofs.Counted.{all_counted, one_more_counted, whole_count}
 use Rattle.naive_plans.proofs.recurrence.last_of.Goals as goal
 
 pub times-preserved : goal.times-preserved

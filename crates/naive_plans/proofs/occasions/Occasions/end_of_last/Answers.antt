@@ -1,6 +1,5 @@
-use Rattle.naive_base.proofs.Words.{ints}
 use Rattle.naive_base.proofs.Words.{ap, arith, of_z, refl, to_z-of_z, w64}
-use Rattle.naive_plans.proofs.OccasionWalk.{counts_here, ends_earlier, last_bounds, later_bounds}
+use Rattle.naive_plans.proofs.OccasionWalk.{ends_earlier}
 use Rattle.naive_plans.proofs.OccasionsBack.{none_counted}
 use Rattle.naive_plans.proofs.occasions.Occasions.end_of_last.Goals as goal
 

@@ -1,5 +1,5 @@
 use Rattle.naive_base.proofs.Words.{arith, of_z, rules, to_z, to_z-of_z, w64, ◌≡◌}
-use Rattle.naive_plans.proofs.NthTimes.{all_passed, as_far, none_so_far, one_step}
+use Rattle.naive_plans.proofs.NthTimes.{all_passed, none_so_far, one_step}
 use Rattle.naive_plans.proofs.OccasionsBack.{after_all}
 use Rattle.naive_plans.proofs.occasions.Occasions.has_before.Goals as goal
 

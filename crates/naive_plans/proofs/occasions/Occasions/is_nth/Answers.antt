@@ -1,6 +1,6 @@
 use Rattle.naive_base.proofs.Words.{to_z-of_z}
-use Rattle.naive_base.proofs.Words.{arith, of_z, refl, rules, to_z, w64, ◌≡◌}
-use Rattle.naive_plans.proofs.NthTimes.{End, Front, not_zeroth, told_nth}
+use Rattle.naive_base.proofs.Words.{arith, refl, rules}
+use Rattle.naive_plans.proofs.NthTimes.{Front, not_zeroth, told_nth}
 use Rattle.naive_plans.proofs.occasions.Occasions.is_nth.Goals as goal
 
 pub before_nth-requires : goal.before_nth-requires

@@ -1,6 +1,5 @@
-use Rattle.naive_base.proofs.Words.{arith, ints, rules}
 use Rattle.naive_base.proofs.Words.{ap, of_z, to_z-of_z, w64}
-use Rattle.naive_plans.proofs.OccasionWalk.{counts_here, first_not_later, last_bounds, later_bounds, starts_later}
+use Rattle.naive_plans.proofs.OccasionWalk.{starts_later}
 use Rattle.naive_plans.proofs.occasions.Occasions.start_of_next.Goals as goal
 
 pub returns : goal.returns
