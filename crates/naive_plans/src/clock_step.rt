@@ -121,13 +121,13 @@ impl Plan for ClockStep {
     ghost planned = { BeginsStep };
 
     fn next_after(&self, local: &NaiveDateTime) -> Option<NaiveDateTime> {
-        local_at(self.next_begin(local.secs_since_epoch()))
+        local_shown_at(self.next_begin(local.secs_since_epoch()))
     }
 }
 
 impl ReversiblePlan for ClockStep {
     fn last_until(&self, local: &NaiveDateTime) -> Option<NaiveDateTime> {
-        local_at(self.last_begin(local.secs_since_epoch()))
+        local_shown_at(self.last_begin(local.secs_since_epoch()))
     }
 }
 
@@ -190,7 +190,7 @@ fn days_on(day: i64, days: u32) -> i64
 }
 
 // The local time of a second; `None` if a `NaiveDateTime` can't show it.
-fn local_at(second: i64) -> Option<NaiveDateTime>
+fn local_shown_at(second: i64) -> Option<NaiveDateTime>
     requires { IsNear second }
     ensures { MatchOption result (¬ (IsWide second)) (λ l. (reading l).s ≡ second) }
 {

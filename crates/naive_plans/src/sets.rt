@@ -183,7 +183,7 @@ fn last_selected<A: ReversiblePlan, B: ReversiblePlan>(
         if is_kept(wanted, other, &last) {
             return Some(last);
         }
-        until = second_before(&last)?;
+        until = local_before(&last)?;
     }
 }
 
@@ -205,7 +205,7 @@ fn has<P: ReversiblePlan>(plan: &P, local: &NaiveDateTime) -> bool
 }
 
 // The local time a second earlier; `None` if a `NaiveDateTime` can show no such local time.
-fn second_before(local: &NaiveDateTime) -> Option<NaiveDateTime>
+fn local_before(local: &NaiveDateTime) -> Option<NaiveDateTime>
     ensures { MatchOption result (IsWide ((reading local.now).s -ℤ pos 1) → ⊥)
         (λ l. (reading l).s ≡ ((reading local.now).s -ℤ pos 1)) }
 {

@@ -9,9 +9,9 @@ returns-in-None c = grind (arith, to_z-of_z, none_planned)
 pub returns-in-Some : goal.returns-in-Some
 returns-in-Some c =
     let own = c.args.self.now in let last_is : to_z w64 (of_z w64 own.last) ≡ own.last = search rules in
-    let most = rw (to_z-of_z {w = w64} (record { sfits = c.secs_since_epoch.type_inv }), last_is, c.secs_since_epoch.ensures) at c.earlier.ensures.most in
-    let both = rw (to_z-of_z {w = w64} (record { sfits = c.secs_since_epoch.type_inv }), last_is, c.secs_since_epoch.ensures) at c.earlier.ensures.not_after in
+    let most = rw (to_z-of_z {w = w64} (record { sfits = c.secs_since_epoch.type_inv }), last_is, c.secs_since_epoch.ensures) at c.earlier_second.ensures.most in
+    let both = rw (to_z-of_z {w = w64} (record { sfits = c.secs_since_epoch.type_inv }), last_is, c.secs_since_epoch.ensures) at c.earlier_second.ensures.not_after in
     let last = last_planned both most (rw (to_z-of_z {w = w64}
-    (record { sfits = c.earlier.type_inv })) at c.in-Some.ensures) in
+    (record { sfits = c.earlier_second.type_inv })) at c.in-Some.ensures) in
     let same : to_z w64 (of_z w64 c.in-Some.second) ≡ c.in-Some.second = search rules in
     let is = c.local_at.ensures ∙ same in rw is last
