@@ -1,3 +1,4 @@
+use Rattle.naive_base.proofs.Words.{floors}
 use Rattle.naive_base.proofs.Words.{arith, ints, of_z, refl, rules, to_z, to_z-of_z, w64, ◌≡◌}
 use Rattle.naive_plans.proofs.OccasionsBack.{after_all}
 use Rattle.naive_plans.proofs.RuleTimes.{all_early, last_found, more_to, none_of_them, none_to_start}
@@ -35,9 +36,7 @@ pub returns : goal.returns
 returns c = search (rules, to_z-of_z, none_to_start)
 
 pub is_at_position-requires-clause-from_start : goal.is_at_position-requires-clause-from_start
-is_at_position-requires-clause-from_start c =
-    let start_is : to_z w64 (of_z w64 c.args.of.now.start) ≡ c.args.of.now.start = search rules in
-    rw start_is at (c.if-not-is_from.ensures.0 refl)
+is_at_position-requires-clause-from_start c = grind (arith, to_z-of_z)
 
 pub second_before-to-requires : goal.second_before-to-requires
 second_before-to-requires c =

@@ -1,11 +1,10 @@
+use Rattle.naive_base.proofs.Words.{arith, floors, ints}
 use Rattle.naive_base.proofs.Words.{of_z, rules, to_z, to_z-of_z, w64, ◌≡◌}
 use Rattle.naive_plans.proofs.OccasionWalk.{day_from, days_between}
 use Rattle.naive_plans.proofs.occasions.Occasions.day_after.Goals as goal
 
 pub returns-in-None-clause-none : goal.returns-in-None-clause-none
-returns-in-None-clause-none c =
-    λ d second on short later.
-    rw (to_z-of_z {w = w64} (record { sfits = c.next_day-next.type_inv })) ((rw (to_z-of_z {w = w64} c.ranges.day) at c.next_day-next.ensures.none) d on.date later)
+returns-in-None-clause-none c = grind (arith, to_z-of_z)
 
 pub returns-in-Some-clause-none : goal.returns-in-Some-clause-none
 returns-in-Some-clause-none c =

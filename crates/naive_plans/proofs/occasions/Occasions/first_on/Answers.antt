@@ -1,3 +1,4 @@
+use Rattle.naive_base.proofs.Words.{floors, ints}
 use Rattle.naive_base.proofs.Words.{arith, rules, to_z-of_z}
 use Rattle.naive_plans.proofs.OccasionWalk.{with_date}
 use Rattle.naive_plans.proofs.occasions.Occasions.first_on.Goals as goal
@@ -7,4 +8,4 @@ returns c = with_date c.args.self.now.rule c.args.self.now.start c.args.day c.ar
     (simp (to_z-of_z, c.ranges.day) at c.first_time.ensures)
 
 pub returns-then-not-has_date : goal.returns-then-not-has_date
-returns-then-not-has_date c = λ k in_day on le. grind (arith, (simp (to_z-of_z, c.ranges.day) at c.has_date.ensures).1 on.date, c.if-not-has_date.true)
+returns-then-not-has_date c = grind (arith, to_z-of_z)

@@ -1,3 +1,4 @@
+use Rattle.naive_base.proofs.Words.{floors, ints, rules}
 use Rattle.naive_base.proofs.Words.{arith, to_z-of_z}
 use Rattle.naive_plans.proofs.OccasionsBack.{with_date_back}
 use Rattle.naive_plans.proofs.occasions.Occasions.last_on.Goals as goal
@@ -6,4 +7,4 @@ pub returns : goal.returns
 returns c = grind (arith, to_z-of_z, with_date_back)
 
 pub returns-then-not-has_date : goal.returns-then-not-has_date
-returns-then-not-has_date c = λ k in_day on le. grind (arith, (simp (to_z-of_z, c.ranges.day) at c.has_date.ensures).1 on.date, c.if-not-has_date.true)
+returns-then-not-has_date c = grind (arith, to_z-of_z)

@@ -1,3 +1,4 @@
+use Rattle.naive_base.proofs.Words.{floors, ints}
 use Rattle.naive_base.proofs.Words.{arith, of_z, refl, rules, to_z, to_z-of_z, w64, ◌≡◌}
 use Rattle.naive_plans.proofs.OccasionWalk.{hour_skipped, minute_skipped, period_skipped, second_skipped}
 use Rattle.naive_plans.proofs.occasions.Occasions.skipped.Goals as goal
@@ -23,11 +24,4 @@ returns-in-Some c =
     c.later_in_day.ensures.start k in_day after (rw (same, to_z-of_z {w = w64} (record { sfits = c.seconds_of.type_inv }), midnight) le))
 
 pub returns : goal.returns
-returns c =
-    let at = simp (to_z-of_z, c.ranges.day) at c.second_at.ensures in
-    record {
-      counts = rw at at (rw (to_z-of_z {w = w64} (record { sfits = c.second_at.type_inv })) at c.in_default.ensures);
-      hour = c.if-not-has_hour.ensures.0 refl;
-      minute = c.if-not-has_minute.ensures.0 refl;
-      at_second = c.if-not-has_second.ensures.0 refl;
-    }
+returns c = grind (arith, to_z-of_z)

@@ -1,3 +1,4 @@
+use Rattle.naive_base.proofs.Words.{floors, ints, rules}
 use Rattle.naive_base.proofs.Words.{arith, to_z-of_z}
 use Rattle.naive_plans.proofs.RuleParts.{not_month, not_month_day, not_weekday, on_date}
 use Rattle.naive_plans.proofs.rule.RecurrenceRule.has_date.Goals as goal
@@ -15,5 +16,4 @@ pub returns-then-has_week : goal.returns-then-has_week
 returns-then-has_week c = grind (arith, to_z-of_z, on_date)
 
 pub returns-else-has_week : goal.returns-else-has_week
-returns-else-has_week c =
-    (λ yes. absurd (grind (arith, yes, c.if-has_week.false)), λ on. (simp (to_z-of_z, c.ranges.day) at c.has_week.ensures).1 on.week)
+returns-else-has_week c = grind (arith, to_z-of_z)
