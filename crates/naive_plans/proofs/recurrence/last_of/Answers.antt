@@ -1,11 +1,12 @@
 use Rattle.naive_base.proofs.Words.{arith, of_z, refl, rules, to_z, to_z-of_z, w64, ◌≡◌}
+use Rattle.naive_plans.proofs.Bits.{read_back}
 use Rattle.naive_plans.proofs.Counted.{all_counted, one_more_counted, whole_count}
 use Rattle.naive_plans.proofs.recurrence.last_of.Goals as goal
 
 pub times-preserved : goal.times-preserved
 times-preserved c =
-    let first = rw (to_z-of_z {w = w64} (record { sfits = c.second_after.type_inv })) at c.in-Some.ensures in
-    let same : to_z w64 (of_z w64 c.in-Some.next) ≡ c.in-Some.next = search rules in
+    let first = rw (read_back (record { sfits = c.second_after.type_inv })) at c.in-Some.ensures in
+    let same = read_back {z = c.in-Some.next} (search rules) in
     rw same (
       omega arith,
       one_more_counted _ c.times.invariant.1 c.second_after.ensures first refl,
@@ -13,7 +14,7 @@ times-preserved c =
 
 pub returns-in-None-clause-last : goal.returns-in-None-clause-last
 returns-in-None-clause-last c =
-    all_counted _ c.times.invariant.1 c.args.count c.times.invariant.0 c.second_after.ensures refl (λ l one. one.in_years) (rw (to_z-of_z {w = w64} (record { sfits = c.second_after.type_inv })) at c.in-None.ensures)
+    all_counted _ c.times.invariant.1 c.args.count c.times.invariant.0 c.second_after.ensures refl (λ l one. one.in_years) (rw (read_back (record { sfits = c.second_after.type_inv })) at c.in-None.ensures)
 
 pub returns-clause-last : goal.returns-clause-last
 returns-clause-last c =

@@ -1,5 +1,6 @@
 use Rattle.naive_base.proofs.Words.{arith}
 use Rattle.naive_base.proofs.Words.{to_z-of_z, w64}
+use Rattle.naive_plans.proofs.Bits.{read_back}
 use Rattle.naive_plans.proofs.RuleTimes.{count_last, never_last, until_last}
 use Rattle.naive_plans.proofs.recurrence.last_second.Goals as goal
 
@@ -10,5 +11,5 @@ pub returns-in-Until : goal.returns-in-Until
 returns-in-Until c = grind (arith, to_z-of_z, until_last)
 
 pub returns-in-Count : goal.returns-in-Count
-returns-in-Count c = rw (c.in-Count.is, to_z-of_z {w = w64} (record { sfits = c.last_of.type_inv }))
+returns-in-Count c = rw (c.in-Count.is, read_back (record { sfits = c.last_of.type_inv }))
     (count_last c.last_of.ensures.last c.last_of.ensures.bound)

@@ -1,4 +1,5 @@
 use Rattle.naive_base.proofs.Words.{of_z, rules, to_z, to_z-of_z, w64, ◌≡◌}
+use Rattle.naive_plans.proofs.Bits.{read_back}
 use Rattle.naive_plans.proofs.RuleTimes.{bounded_to, none_to, none_up, same_to}
 use Rattle.naive_plans.proofs.recurrence.shortened.Goals as goal
 
@@ -7,9 +8,9 @@ returns-in-None-clause-same c = search (rules, to_z-of_z, none_to, none_up)
 
 pub returns-in-Some-clause-same : goal.returns-in-Some-clause-same
 returns-in-Some-clause-same c =
-    let own = rw (to_z-of_z {w = w64} c.ranges.last) at c.in-Some.ensures in
+    let own = rw (read_back c.ranges.last) at c.in-Some.ensures in
     let bound = bounded_to c.args.of.now.started.2 own in
-    let same : to_z w64 (of_z w64 c.in-Some.time) ≡ c.in-Some.time = search rules in
+    let same = read_back {z = c.in-Some.time} (search rules) in
     rw same (same_to c.args.of.now.started.2 own)
 
 pub returns-in-Some-clause-bound : goal.returns-in-Some-clause-bound

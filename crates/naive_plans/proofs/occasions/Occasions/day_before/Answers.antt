@@ -1,5 +1,6 @@
 use Rattle.naive_base.proofs.Words.{arith, floors, ints, of_z, rules, to_z, to_z-of_z, w64, ◌≡◌}
 use Rattle.std.proofs.lemmas.Int.{clamps}
+use Rattle.naive_plans.proofs.Bits.{read_back}
 use Rattle.naive_plans.proofs.OccasionsBack.{day_to, days_up_to}
 use Rattle.naive_plans.proofs.occasions.Occasions.day_before.Goals as goal
 
@@ -11,18 +12,16 @@ returns-in-Some-clause-bound c = search (rules, to_z-of_z)
 
 pub returns-in-Some-clause-none : goal.returns-in-Some-clause-none
 returns-in-Some-clause-none c =
-    let same : to_z w64 (of_z w64 c.in-Some.end) ≡ c.in-Some.end = search rules in
-    let is_last : to_z w64 (of_z w64 c.previous_day-last.result) ≡ c.previous_day-last.result = to_z-of_z {w = w64} (record {
-      sfits = c.previous_day-last.type_inv;
-    }) in
-    let is_day : to_z w64 (of_z w64 c.day_of.result) ≡ c.day_of.result = to_z-of_z {w = w64} (record { sfits = c.day_of.type_inv }) in
+    let same = read_back {z = c.in-Some.end} (search rules) in
+    let is_last = read_back {z = c.previous_day-last.result} (record { sfits = c.previous_day-last.type_inv }) in
+    let is_day = read_back {z = c.day_of.result} (record { sfits = c.day_of.type_inv }) in
     λ d second on short less.
-    let le = (rw (to_z-of_z {w = w64} c.ranges.day) at c.previous_day-last.ensures.none) d on.date less in
+    let le = (rw (read_back c.ranges.day) at c.previous_day-last.ensures.none) d on.date less in
     let at = rw is_last at c.second_at.ensures in
-    let own = rw at at (rw (to_z-of_z {w = w64} (record { sfits = c.second_at.type_inv })) at c.in-Some.ensures) in
+    let own = rw at at (rw (read_back (record { sfits = c.second_at.type_inv })) at c.in-Some.ensures) in
     let before = own.none _ on.counts (days_up_to _ d second le short) in
     let is_end = rw same at c.second_before.ensures in
-    let day = rw is_end at (rw (to_z-of_z {w = w64} (record { sfits = c.second_before.type_inv })) at c.day_of.ensures) in
+    let day = rw is_end at (rw (read_back (record { sfits = c.second_before.type_inv })) at c.day_of.ensures) in
     let up = day_to c.in-Some.end c.day_of.result d second day short before in
     let is_min = rw (is_last, is_day) at c.min.ensures.value in
-    rw (to_z-of_z {w = w64} (record { sfits = c.min.type_inv })) (omega (arith, ints, clamps))
+    rw (read_back (record { sfits = c.min.type_inv })) (omega (arith, ints, clamps))

@@ -1,4 +1,5 @@
 use Rattle.naive_base.proofs.Words.{ap, arith, of_z, refl, to_z-of_z, w64}
+use Rattle.naive_plans.proofs.Bits.{read_back}
 use Rattle.naive_plans.proofs.OccasionWalk.{ends_earlier}
 use Rattle.naive_plans.proofs.OccasionsBack.{none_counted}
 use Rattle.naive_plans.proofs.occasions.Occasions.end_of_last.Goals as goal
@@ -8,21 +9,21 @@ last_period-last-requires-clause-later c = c.if-not-is_from.ensures.0 refl
 
 pub returns-then-not-is_from : goal.returns-then-not-is_from
 returns-then-not-is_from c =
-    let from = rw (to_z-of_z {w = w64} (record { sfits = c.first_period-first.type_inv }), to_z-of_z {w = w64} (record { sfits = c.period_at-period.type_inv }))
+    let from = rw (read_back (record { sfits = c.first_period-first.type_inv }), read_back (record { sfits = c.period_at-period.type_inv }))
     at c.is_from.ensures in
-    rw (to_z-of_z {w = w64} (record { sfits = c.second_before_all.type_inv }))
+    rw (read_back (record { sfits = c.second_before_all.type_inv }))
     (none_counted c.args.self.now.rule c.args.self.now.start c.args.second _ _ _ c.first_period-first.ensures.value
     (simp (to_z-of_z, c.ranges.second) at c.period_at-period.ensures.value) (λ late. grind (arith, from.1 late, c.if-not-is_from.true))
     c.args.self.now.started.3 c.second_before_all.ensures)
 
 pub returns : goal.returns
 returns c =
-    rw (to_z-of_z {w = w64} (record { sfits = c.start_of.type_inv }))
+    rw (read_back (record { sfits = c.start_of.type_inv }))
     (ends_earlier c.args.self.now.rule c.args.self.now.start c.args.second c.first_period-first.ensures.value (simp (to_z-of_z, c.ranges.second) at c.period_at-period.ensures.value)
-    (rw (to_z-of_z {w = w64} (record { sfits = c.first_period-first.type_inv }), to_z-of_z {w = w64} (record { sfits = c.period_at-period.type_inv }))
+    (rw (read_back (record { sfits = c.first_period-first.type_inv }), read_back (record { sfits = c.period_at-period.type_inv }))
     at c.last_period-last.ensures)
     (λ same. c.if-last-period.false (ap (of_z w64) same))
-    (rw (to_z-of_z {w = w64} (record { sfits = c.last_period-last.type_inv })) at c.period_after.ensures) c.requires.1
-    (rw (to_z-of_z {w = w64} (record { sfits = c.period_after.type_inv })) at c.start_of.ensures.earlier)
-    (rw (to_z-of_z {w = w64} (record { sfits = c.period_after.type_inv })) at c.start_of.ensures.later)
+    (rw (read_back (record { sfits = c.last_period-last.type_inv })) at c.period_after.ensures) c.requires.1
+    (rw (read_back (record { sfits = c.period_after.type_inv })) at c.start_of.ensures.earlier)
+    (rw (read_back (record { sfits = c.period_after.type_inv })) at c.start_of.ensures.later)
     c.args.self.now.started.3)

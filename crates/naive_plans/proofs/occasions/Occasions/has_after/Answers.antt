@@ -1,24 +1,25 @@
 use Rattle.naive_base.proofs.Words.{arith, ints, of_z, rules, to_z, to_z-of_z, w64, ◌≡◌}
+use Rattle.naive_plans.proofs.Bits.{read_back}
 use Rattle.naive_plans.proofs.NthTimes.{all_passed, near_on, none_so_far, one_step}
 use Rattle.naive_plans.proofs.occasions.Occasions.has_after.Goals as goal
 
 pub times-preserved : goal.times-preserved
 times-preserved c =
-    let step = one_step (rw (to_z-of_z {w = w64} c.ranges.time) at c.times.invariant) c.times-test.true c.in-Some.ensures in
-    let near = near_on step in let after_is : to_z w64 (of_z w64 c.in-Some.after) ≡ c.in-Some.after = search rules in
-    rw (after_is, to_z-of_z {w = w64} c.ranges.time) step
+    let step = one_step (rw (read_back c.ranges.time) at c.times.invariant) c.times-test.true c.in-Some.ensures in
+    let near = near_on step in let after_is = read_back {z = c.in-Some.after} (search rules) in
+    rw (after_is, read_back c.ranges.time) step
 
 pub returns-in-None : goal.returns-in-None
 returns-in-None c = (
   λ no. absurd (search rules),
-  λ has. absurd (none_so_far (rw (to_z-of_z {w = w64} c.ranges.time) at c.times.invariant) c.times-test.true c.in-None.ensures has),
+  λ has. absurd (none_so_far (rw (read_back c.ranges.time) at c.times.invariant) c.times-test.true c.in-None.ensures has),
 )
 
 pub returns : goal.returns
-returns c = all_passed _ _ (rw (to_z-of_z {w = w64} c.ranges.time) at c.times.invariant) (omega arith) c.is_none.ensures c.time_after-2.ensures
+returns c = all_passed _ _ (rw (read_back c.ranges.time) at c.times.invariant) (omega arith) c.is_none.ensures c.time_after-2.ensures
 
 pub time_after-requires-clause-in_years : goal.time_after-requires-clause-in_years
-time_after-requires-clause-in_years c = let near = near_on (rw (to_z-of_z {w = w64} c.ranges.time) at c.times.invariant) in omega (arith, ints)
+time_after-requires-clause-in_years c = let near = near_on (rw (read_back c.ranges.time) at c.times.invariant) in omega (arith, ints)
 
 pub time_after-requires-2-clause-in_years : goal.time_after-requires-2-clause-in_years
-time_after-requires-2-clause-in_years c = let near = near_on (rw (to_z-of_z {w = w64} c.ranges.time) at c.times.invariant) in omega (arith, ints)
+time_after-requires-2-clause-in_years c = let near = near_on (rw (read_back c.ranges.time) at c.times.invariant) in omega (arith, ints)

@@ -1,5 +1,6 @@
 use Rattle.naive_base.proofs.Words.{floors, ints}
 use Rattle.naive_base.proofs.Words.{arith, of_z, refl, rules, to_z, to_z-of_z, w64, ◌≡◌}
+use Rattle.naive_plans.proofs.Bits.{read_back}
 use Rattle.naive_plans.proofs.OccasionWalk.{hour_skipped, minute_skipped, period_skipped, second_skipped}
 use Rattle.naive_plans.proofs.occasions.Occasions.skipped.Goals as goal
 
@@ -17,11 +18,11 @@ pub returns-in-Some : goal.returns-in-Some
 returns-in-Some c =
     let at = simp (to_z-of_z, c.ranges.day) at c.second_at.ensures in
     period_skipped c.args.self.now.rule c.args.self.now.start c.args.day c.args.second at
-    (rw (to_z-of_z {w = w64} (record { sfits = c.second_at.type_inv })) at c.in-Some.ensures) c.later_in_day.ensures.later
+    (rw (read_back (record { sfits = c.second_at.type_inv })) at c.in-Some.ensures) c.later_in_day.ensures.later
     (λ k in_day after le.
-    let same : to_z w64 (of_z w64 c.in-Some.start) ≡ c.in-Some.start = search rules in
+    let same = read_back {z = c.in-Some.start} (search rules) in
     let midnight = simp (to_z-of_z, c.ranges.day) at c.seconds_of.ensures in
-    c.later_in_day.ensures.start k in_day after (rw (same, to_z-of_z {w = w64} (record { sfits = c.seconds_of.type_inv }), midnight) le))
+    c.later_in_day.ensures.start k in_day after (rw (same, read_back (record { sfits = c.seconds_of.type_inv }), midnight) le))
 
 pub returns : goal.returns
 returns c = grind (arith, to_z-of_z)

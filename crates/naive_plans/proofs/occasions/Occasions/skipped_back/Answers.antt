@@ -1,5 +1,6 @@
 use Rattle.naive_base.proofs.Words.{floors, ints}
 use Rattle.naive_base.proofs.Words.{arith, of_z, refl, rules, to_z, to_z-of_z, w64, ◌≡◌}
+use Rattle.naive_plans.proofs.Bits.{read_back}
 use Rattle.naive_plans.proofs.OccasionsBack.{hour_back, minute_back, one_back, period_back}
 use Rattle.naive_plans.proofs.occasions.Occasions.skipped_back.Goals as goal
 
@@ -17,11 +18,11 @@ pub returns-in-Some : goal.returns-in-Some
 returns-in-Some c =
     let at = simp (to_z-of_z, c.ranges.day) at c.second_at.ensures in
     period_back c.args.self.now.rule c.args.self.now.start c.args.day c.args.second at
-    (rw (to_z-of_z {w = w64} (record { sfits = c.second_at.type_inv })) at c.in-Some.ensures) c.earlier_in_day.ensures.earlier
+    (rw (read_back (record { sfits = c.second_at.type_inv })) at c.in-Some.ensures) c.earlier_in_day.ensures.earlier
     (λ k before less.
-    let same : to_z w64 (of_z w64 c.in-Some.end) ≡ c.in-Some.end = search rules in
+    let same = read_back {z = c.in-Some.end} (search rules) in
     let midnight = simp (to_z-of_z, c.ranges.day) at c.seconds_of.ensures in
-    c.earlier_in_day.ensures.end k before (rw (same, to_z-of_z {w = w64} (record { sfits = c.seconds_of.type_inv }), midnight) less))
+    c.earlier_in_day.ensures.end k before (rw (same, read_back (record { sfits = c.seconds_of.type_inv }), midnight) less))
 
 pub returns : goal.returns
 returns c = grind (arith, to_z-of_z)

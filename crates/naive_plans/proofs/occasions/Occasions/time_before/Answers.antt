@@ -1,4 +1,5 @@
 use Rattle.naive_base.proofs.Words.{arith, ints, of_z, rules, to_z, to_z-of_z, w64, ◌≡◌}
+use Rattle.naive_plans.proofs.Bits.{read_back}
 use Rattle.naive_plans.proofs.NthTimes.{before_in_period, none_before}
 use Rattle.naive_plans.proofs.OccasionsBack.{after_all}
 use Rattle.naive_plans.proofs.occasions.Occasions.time_before.Goals as goal
@@ -15,26 +16,26 @@ last_until-requires c =
 
 pub in_period_of-requires-clause-second : goal.in_period_of-requires-clause-second
 in_period_of-requires-clause-second c =
-    let is = rw (to_z-of_z {w = w64} c.ranges.time) at c.second_before.ensures in
-    let own = rw (to_z-of_z {w = w64} (record { sfits = c.second_before.type_inv }), is) at c.in-Some.ensures in
-    let low = after_all c.args.self.now.rule c.args.self.now.start c.in-Some.before own.planned in let before_is : to_z w64 (of_z w64 c.in-Some.before) ≡ c.in-Some.before = search rules in
+    let is = rw (read_back c.ranges.time) at c.second_before.ensures in
+    let own = rw (read_back (record { sfits = c.second_before.type_inv }), is) at c.in-Some.ensures in
+    let low = after_all c.args.self.now.rule c.args.self.now.start c.in-Some.before own.planned in let before_is = read_back {z = c.in-Some.before} (search rules) in
     rw before_is (omega (arith, ints), omega (arith, ints))
 
 pub in_period_of-requires-clause-time : goal.in_period_of-requires-clause-time
 in_period_of-requires-clause-time c =
     let low = after_all c.args.self.now.rule c.args.self.now.start c.args.time c.requires.one in
-    rw (to_z-of_z {w = w64} c.ranges.time) (omega (arith, ints), omega (arith, ints))
+    rw (read_back c.ranges.time) (omega (arith, ints), omega (arith, ints))
 
 pub returns-in-None : goal.returns-in-None
 returns-in-None c =
-    let is = rw (to_z-of_z {w = w64} c.ranges.time) at c.second_before.ensures in
+    let is = rw (read_back c.ranges.time) at c.second_before.ensures in
     none_before c.args.self.now.started.2 c.requires.in_years
-    (rw (to_z-of_z {w = w64} (record { sfits = c.second_before.type_inv }), is) at c.in-None.ensures)
+    (rw (read_back (record { sfits = c.second_before.type_inv }), is) at c.in-None.ensures)
 
 pub returns-in-Some : goal.returns-in-Some
 returns-in-Some c =
-    let is = rw (to_z-of_z {w = w64} c.ranges.time) at c.second_before.ensures in
-    let own = rw (to_z-of_z {w = w64} (record { sfits = c.second_before.type_inv }), is) at c.in-Some.ensures in
-    let low = after_all c.args.self.now.rule c.args.self.now.start c.in-Some.before own.planned in let before_is : to_z w64 (of_z w64 c.in-Some.before) ≡ c.in-Some.before = search rules in
+    let is = rw (read_back c.ranges.time) at c.second_before.ensures in
+    let own = rw (read_back (record { sfits = c.second_before.type_inv }), is) at c.in-Some.ensures in
+    let low = after_all c.args.self.now.rule c.args.self.now.start c.in-Some.before own.planned in let before_is = read_back {z = c.in-Some.before} (search rules) in
     before_in_period _ c.args.self.now.started.2 c.requires.in_years own
-    (rw (before_is, to_z-of_z {w = w64} c.ranges.time) at c.in_period_of.ensures)
+    (rw (before_is, read_back c.ranges.time) at c.in_period_of.ensures)

@@ -1,5 +1,6 @@
 use Rattle.naive_base.proofs.Words.{arith}
 use Rattle.naive_base.proofs.Words.{of_z, rules, to_z, to_z-of_z, w64, ◌∙◌, ◌≡◌}
+use Rattle.naive_plans.proofs.Bits.{read_back}
 use Rattle.naive_plans.proofs.RuleTimes.{last_planned, none_planned}
 use Rattle.naive_plans.proofs.recurrence.RecurrenceReversiblePlan.last_until.Goals as goal
 
@@ -8,10 +9,10 @@ returns-in-None c = grind (arith, to_z-of_z, none_planned)
 
 pub returns-in-Some : goal.returns-in-Some
 returns-in-Some c =
-    let own = c.args.self.now in let last_is : to_z w64 (of_z w64 own.last) ≡ own.last = search rules in
-    let most = rw (to_z-of_z {w = w64} (record { sfits = c.secs_since_epoch.type_inv }), last_is, c.secs_since_epoch.ensures) at c.earlier_second.ensures.most in
-    let both = rw (to_z-of_z {w = w64} (record { sfits = c.secs_since_epoch.type_inv }), last_is, c.secs_since_epoch.ensures) at c.earlier_second.ensures.not_after in
-    let last = last_planned both most (rw (to_z-of_z {w = w64}
+    let own = c.args.self.now in let last_is = read_back {z = own.last} (search rules) in
+    let most = rw (read_back (record { sfits = c.secs_since_epoch.type_inv }), last_is, c.secs_since_epoch.ensures) at c.earlier_second.ensures.most in
+    let both = rw (read_back (record { sfits = c.secs_since_epoch.type_inv }), last_is, c.secs_since_epoch.ensures) at c.earlier_second.ensures.not_after in
+    let last = last_planned both most (rw (read_back
     (record { sfits = c.earlier_second.type_inv })) at c.in-Some.ensures) in
-    let same : to_z w64 (of_z w64 c.in-Some.second) ≡ c.in-Some.second = search rules in
+    let same = read_back {z = c.in-Some.second} (search rules) in
     let is = c.local_at.ensures ∙ same in rw is last

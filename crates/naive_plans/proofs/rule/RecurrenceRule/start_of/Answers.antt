@@ -1,5 +1,6 @@
 use Rattle.std.proofs.Common.{SFits}
 use Rattle.naive_base.proofs.Words.{arith, floor_div, ints, neg_ℤ, of_z, pos, to_z, to_z-of_z, w64, ◌*ℤ◌, ◌≡◌, ◌≤ℤ◌}
+use Rattle.naive_plans.proofs.Bits.{read_back}
 use Rattle.naive_plans.proofs.Periods.{year_by_month}
 use Rattle.naive_plans.proofs.rule.RecurrenceRule.start_of.Goals as goal
 
@@ -11,10 +12,10 @@ months c =
 
 pub returns-in-Yearly-clause-later : goal.returns-in-Yearly-clause-later
 returns-in-Yearly-clause-later c = λ l from.
-    rw (to_z-of_z {w = w64} (record { sfits = c.start_of_month.type_inv }))
+    rw (read_back (record { sfits = c.start_of_month.type_inv }))
     (c.start_of_month.ensures.later l (rw (months c) ((year_by_month c.args.period (floor_div l 86_400)).0 (rw c.in-Yearly.is at from))))
 
 pub returns-in-Yearly-clause-earlier : goal.returns-in-Yearly-clause-earlier
 returns-in-Yearly-clause-earlier c = λ l in_years before.
-    rw (to_z-of_z {w = w64} (record { sfits = c.start_of_month.type_inv }))
+    rw (read_back (record { sfits = c.start_of_month.type_inv }))
     (c.start_of_month.ensures.earlier l in_years (rw (months c) ((year_by_month c.args.period (floor_div l 86_400)).1 (rw c.in-Yearly.is at before))))
