@@ -11,7 +11,7 @@ returns-in_default c = grind (arith, to_z-of_z, none_of_them)
 pub returns-then-not-is_from : goal.returns-then-not-is_from
 returns-then-not-is_from c =
     let inv = rw (read_back c.ranges.until) at c.times.invariant in let own = c.in-Some.ensures in
-    let low = after_all c.args.of.now.rule c.args.of.now.start c.in-Some.last own.planned in let start_is = read_back {z = c.args.of.now.start} (search rules) in
+    let low = after_all _ _ _ own.planned in let start_is = read_back {z = c.args.of.now.start} (search rules) in
     let last_is = read_back {z = c.in-Some.last} (search rules) in
     let from = rw (last_is, start_is) at c.is_from-in-times.ensures in
     all_early inv own
@@ -20,7 +20,7 @@ returns-then-not-is_from c =
 pub returns-then-is_at_position : goal.returns-then-is_at_position
 returns-then-is_at_position c =
     let inv = rw (read_back c.ranges.until) at c.times.invariant in let own = c.in-Some.ensures in
-    let low = after_all c.args.of.now.rule c.args.of.now.start c.in-Some.last own.planned in let start_is = read_back {z = c.args.of.now.start} (search rules) in
+    let low = after_all _ _ _ own.planned in let start_is = read_back {z = c.args.of.now.start} (search rules) in
     let last_is = read_back {z = c.in-Some.last} (search rules) in
     rw last_is (last_found c.requires inv own
     (rw (last_is, start_is) at (c.if-not-is_from.ensures.0 refl)) (rw last_is at (c.if-is_at_position.ensures.0 refl)))
@@ -28,7 +28,7 @@ returns-then-is_at_position c =
 pub times-preserved : goal.times-preserved
 times-preserved c =
     let inv = rw (read_back c.ranges.until) at c.times.invariant in let own = c.in-Some.ensures in
-    let low = after_all c.args.of.now.rule c.args.of.now.start c.in-Some.last own.planned in let last_is = read_back {z = c.in-Some.last} (search rules) in
+    let low = after_all _ _ c.in-Some.last own.planned in let last_is = read_back {z = c.in-Some.last} (search rules) in
     let next = rw last_is at c.second_before-to.ensures in let at = rw last_is at c.if-is_at_position.ensures in
     rw (read_back (record { sfits = c.second_before-to.type_inv }), read_back c.ranges.until)
     (more_to c.args.of.now.started.2 inv own (λ own_at. grind (arith, at.1 own_at, c.if-is_at_position.false)) next)
@@ -42,13 +42,13 @@ is_at_position-requires-clause-from_start c = grind (arith, to_z-of_z)
 pub second_before-to-requires : goal.second_before-to-requires
 second_before-to-requires c =
     let fits = c.ranges.until in let inv = rw (read_back fits) at c.times.invariant in let own = c.in-Some.ensures in
-    let low = after_all c.args.of.now.rule c.args.of.now.start c.in-Some.last own.planned in let last_is = read_back {z = c.in-Some.last} (search rules) in
+    let low = after_all _ _ _ own.planned in let last_is = read_back {z = c.in-Some.last} (search rules) in
     rw last_is (omega (arith, ints), omega (arith, ints))
 
 pub times-smaller : goal.times-smaller
 times-smaller c =
     let fits = c.ranges.until in let inv = rw (read_back fits) at c.times.invariant in let own = c.in-Some.ensures in
-    let low = after_all c.args.of.now.rule c.args.of.now.start c.in-Some.last own.planned in let start_is = read_back {z = c.args.of.now.start} (search rules) in
+    let low = after_all _ _ _ own.planned in let start_is = read_back {z = c.args.of.now.start} (search rules) in
     let last_is = read_back {z = c.in-Some.last} (search rules) in
     let from = rw (last_is, start_is) at (c.if-not-is_from.ensures.0 refl) in
     let next = rw last_is at c.second_before-to.ensures in

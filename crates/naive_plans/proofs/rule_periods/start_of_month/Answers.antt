@@ -6,13 +6,13 @@ use Rattle.naive_plans.proofs.rule_periods.start_of_month.Goals as goal
 
 pub returns-clause-later : goal.returns-clause-later
 returns-clause-later c = λ l come.
-    rw (read_back (record { sfits = c.start_of_month_up.type_inv })) (month_later l _ c.min.result c.args.number (rw (read_back
+    rw (read_back (record { sfits = c.start_of_month_up.type_inv })) (month_later l _ _ _ (rw (read_back
     (record { sfits = c.min.type_inv })) at c.start_of_month_up.ensures.value)
     (simp (to_z-of_z, c.ranges.number) at c.min.ensures.self_bound) come)
 
 pub returns-clause-earlier : goal.returns-clause-earlier
 returns-clause-earlier c = λ l in_years before.
     let is = simp (to_z-of_z, c.ranges.number) at c.min.ensures.value in
-    rw (read_back (record { sfits = c.start_of_month_up.type_inv })) (month_earlier c.args.number c.min.result l _ (rw (read_back
+    rw (read_back (record { sfits = c.start_of_month_up.type_inv })) (month_earlier _ _ l _ (rw (read_back
     (record { sfits = c.min.type_inv })) at c.start_of_month_up.ensures.value)
     (λ k less short. omega (arith, ints, clamps)) in_years before)

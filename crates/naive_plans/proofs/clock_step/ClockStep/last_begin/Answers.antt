@@ -7,7 +7,7 @@ pub returns-clause-value : goal.returns-clause-value
 returns-clause-value c =
     let fits_day = read_back {z = c.day_of-day.result} (record { sfits = c.day_of-day.type_inv }) in
     rw (read_back (record { sfits = c.second_at.type_inv })) (
-    last_is c.args.self.now
+    last_is _
     (rw (read_back c.ranges.second) at c.day_of-day.ensures) (rw (read_back c.ranges.second) at c.second_of.ensures.value)
     c.seconds_in_day.ensures.value c.seconds_in_day.ensures.bound (rw fits_day at c.place-around.ensures.place)
     (rw fits_day at c.days_back.ensures.value) c.begin_in_day-begin.ensures.value

@@ -16,5 +16,5 @@ returns-in-Some-clause-none c =
     let own = rw midnight at (rw (read_back (record { sfits = c.seconds_of.type_inv })) at c.in-Some.ensures) in
     let most = rw (read_back (record { sfits = c.next_day-next.type_inv }), read_back (record { sfits = c.day_of.type_inv })) at
     c.later_day.ensures.most in
-    rw (read_back (record { sfits = c.later_day.type_inv })) (most d next (day_from c.in-Some.start _ d second (rw same at c.day_of.ensures) short
+    rw (read_back (record { sfits = c.later_day.type_inv })) (most d next (day_from _ _ d second (rw same at c.day_of.ensures) short
     (own.none _ on.counts (days_between _ d second next))))

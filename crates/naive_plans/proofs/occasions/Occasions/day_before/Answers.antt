@@ -22,6 +22,6 @@ returns-in-Some-clause-none c =
     let before = own.none _ on.counts (days_up_to _ d second le short) in
     let is_end = rw same at c.second_before.ensures in
     let day = rw is_end at (rw (read_back (record { sfits = c.second_before.type_inv })) at c.day_of.ensures) in
-    let up = day_to c.in-Some.end c.day_of.result d second day short before in
+    let up = day_to _ _ d second day short before in
     let is_min = rw (is_last, is_day) at c.min.ensures.value in
     rw (read_back (record { sfits = c.min.type_inv })) (omega (arith, ints, clamps))

@@ -12,14 +12,14 @@ returns-then-not-is_from c =
     let from = rw (read_back (record { sfits = c.first_period-first.type_inv }), read_back (record { sfits = c.period_at-period.type_inv }))
     at c.is_from.ensures in
     rw (read_back (record { sfits = c.second_before_all.type_inv }))
-    (none_counted c.args.self.now.rule c.args.self.now.start c.args.second _ _ _ c.first_period-first.ensures.value
+    (none_counted _ _ _ _ _ _ c.first_period-first.ensures.value
     (simp (to_z-of_z, c.ranges.second) at c.period_at-period.ensures.value) (λ late. grind (arith, from.1 late, c.if-not-is_from.true))
     c.args.self.now.started.3 c.second_before_all.ensures)
 
 pub returns : goal.returns
 returns c =
     rw (read_back (record { sfits = c.start_of.type_inv }))
-    (ends_earlier c.args.self.now.rule c.args.self.now.start c.args.second c.first_period-first.ensures.value (simp (to_z-of_z, c.ranges.second) at c.period_at-period.ensures.value)
+    (ends_earlier _ _ _ c.first_period-first.ensures.value (simp (to_z-of_z, c.ranges.second) at c.period_at-period.ensures.value)
     (rw (read_back (record { sfits = c.first_period-first.type_inv }), read_back (record { sfits = c.period_at-period.type_inv }))
     at c.last_period-last.ensures)
     (λ same. c.if-last-period.false (ap (of_z w64) same))

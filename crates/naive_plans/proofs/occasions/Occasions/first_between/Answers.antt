@@ -11,7 +11,7 @@ days-init c =
     rw (read_back (record { sfits = c.day_of-day.type_inv }), read_back c.ranges.from) (
       omega (arith, ints, floors),
       omega (arith, ints, floors),
-      left_at_start _ c.args.from _ _ day (rw (read_back c.ranges.from) at c.second_of-second.ensures.value),
+      left_at_start _ _ _ _ day (rw (read_back c.ranges.from) at c.second_of-second.ensures.value),
       c.second_of-second.ensures.bound,
     )
 
@@ -29,7 +29,7 @@ pub returns-in-Some : goal.returns-in-Some
 returns-in-Some c =
     let on = IsOccasionOn c.args.self.now.rule c.args.self.now.start in let inv = rw (read_back c.ranges.from) at c.days.invariant in
     let over = rw (read_back c.ranges.end, read_back (record { sfits = c.second_at.type_inv })) at c.before_end.ensures in
-    first_found on c.args.from c.args.end _ inv.2
+    first_found on _ _ _ inv.2
     c.in-Some.ensures c.second_at.ensures over
 
 pub returns : goal.returns

@@ -4,7 +4,7 @@ use Rattle.naive_plans.proofs.OccasionWalk.{with_date}
 use Rattle.naive_plans.proofs.occasions.Occasions.first_on.Goals as goal
 
 pub returns : goal.returns
-returns c = with_date c.args.self.now.rule c.args.self.now.start c.args.day c.args.from _ (search rules)
+returns c = with_date _ _ _ _ _ (search rules)
     (simp (to_z-of_z, c.ranges.day) at c.first_time.ensures)
 
 pub returns-then-not-has_date : goal.returns-then-not-has_date

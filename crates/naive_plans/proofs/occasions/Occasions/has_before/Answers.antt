@@ -7,7 +7,7 @@ use Rattle.naive_plans.proofs.occasions.Occasions.has_before.Goals as goal
 pub times-preserved : goal.times-preserved
 times-preserved c =
     let inv = rw (read_back c.ranges.time) at c.times.invariant in let own = c.in-Some.ensures in
-    let low = after_all c.args.self.now.rule c.args.self.now.start c.in-Some.before own.one.occasion in let before_is = read_back {z = c.in-Some.before} (search rules) in
+    let low = after_all _ _ _ own.one.occasion in let before_is = read_back {z = c.in-Some.before} (search rules) in
     rw (before_is, read_back c.ranges.time) (one_step inv c.times-test.true own)
 
 pub returns-in-None : goal.returns-in-None

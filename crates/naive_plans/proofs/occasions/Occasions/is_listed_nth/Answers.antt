@@ -16,7 +16,7 @@ returns c = (
   λ no. absurd (search rules),
   λ own. absurd (
       let is : get_or c.args.self.now.rule.by_set_position.now own.listed.0 (pos 0) ≡ own.position =
-      any_default c.args.self.now.rule.by_set_position.now own.listed.0 (pos 0) own.position own.listed.1 ∙ own.listed.2 in
+      any_default _ own.listed.0 (pos 0) own.position own.listed.1 ∙ own.listed.2 in
       c.loop-position.invariant own.listed.0 (omega arith) (rw is own.nth)
       ),
 )

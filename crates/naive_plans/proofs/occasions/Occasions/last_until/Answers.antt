@@ -11,7 +11,7 @@ days-init c =
     rw (read_back (record { sfits = c.day_of-day.type_inv }), read_back fits) (
       omega (arith, ints, floors),
       omega (arith, ints, floors),
-      all_until _ c.args.until _ _ day (rw (read_back fits) at c.second_of-second.ensures.value),
+      all_until _ _ _ _ day (rw (read_back fits) at c.second_of-second.ensures.value),
     )
 
 pub day_before-day-requires : goal.day_before-day-requires
@@ -24,7 +24,7 @@ days-preserved c =
     let on = IsOccasionOn c.args.self.now.rule c.args.self.now.start in rw (read_back (record { sfits = c.day_before-day.type_inv })) (
       c.day_before-day.ensures.bound,
       omega (arith, ints),
-      left_earlier on _ (to_z w64 c.days.day-bits) c.day_before-day.result (none_back on c.days.invariant.2
+      left_earlier on _ _ _ (none_back on c.days.invariant.2
           c.in_default.ensures) c.day_before-day.ensures.earlier
           c.day_before-day.ensures.none,
     )
@@ -39,6 +39,6 @@ returns c =
     let inv = rw (read_back c.ranges.until) at c.days.invariant in
     let ends = rw (read_back (record { sfits = c.second_before_all-earliest.type_inv }), c.second_before_all-earliest.ensures) at
     c.ends_after.ensures in
-    none_until c.args.self.now.rule c.args.self.now.start c.args.until (to_z w64 c.days.day-bits) c.days.second inv.2
+    none_until _ _ _ _ _ inv.2
     (by_lt_z (c.args.self.now.start -ℤ pos 31_708_800) (to_z w64 c.days.day-bits *ℤ pos 86_400 +ℤ pos 86_400) (λ less. grind (arith, ends.1 less, c.days-test.false))
     (λ not. not))

@@ -8,7 +8,7 @@ pub returns-then-not-has_hour : goal.returns-then-not-has_hour
 returns-then-not-has_hour c = grind (arith, to_z-of_z, hour_skipped)
 
 pub returns-then-not-has_minute : goal.returns-then-not-has_minute
-returns-then-not-has_minute c = minute_skipped c.args.self.now.rule c.args.self.now.start c.args.day c.args.second c.requires.second
+returns-then-not-has_minute c = minute_skipped _ _ c.args.day c.args.second c.requires.second
     (λ has. grind (arith, c.has_minute.ensures.1 has, c.if-not-has_minute.true))
 
 pub returns-then-not-has_second : goal.returns-then-not-has_second
@@ -17,7 +17,7 @@ returns-then-not-has_second c = grind (arith, to_z-of_z, second_skipped)
 pub returns-in-Some : goal.returns-in-Some
 returns-in-Some c =
     let at = simp (to_z-of_z, c.ranges.day) at c.second_at.ensures in
-    period_skipped c.args.self.now.rule c.args.self.now.start c.args.day c.args.second at
+    period_skipped _ _ _ _ at
     (rw (read_back (record { sfits = c.second_at.type_inv })) at c.in-Some.ensures) c.later_in_day.ensures.later
     (λ k in_day after le.
     let same = read_back {z = c.in-Some.start} (search rules) in

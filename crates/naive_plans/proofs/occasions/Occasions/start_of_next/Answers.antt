@@ -6,7 +6,7 @@ use Rattle.naive_plans.proofs.occasions.Occasions.start_of_next.Goals as goal
 pub returns : goal.returns
 returns c =
     rw (read_back (record { sfits = c.start_of.type_inv }))
-    (starts_later c.args.self.now.rule c.args.self.now.start c.args.second c.first_period.ensures.value (simp (to_z-of_z, c.ranges.second) at c.period_at-period.ensures.value)
+    (starts_later _ _ _ c.first_period.ensures.value (simp (to_z-of_z, c.ranges.second) at c.period_at-period.ensures.value)
     (rw (read_back (record { sfits = c.first_period.type_inv }), read_back (record { sfits = c.period_at-period.type_inv }))
     at c.last_period-last.ensures)
     (λ same. c.if-last-period.false (ap (of_z w64) same))

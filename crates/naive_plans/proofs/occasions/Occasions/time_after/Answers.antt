@@ -18,5 +18,5 @@ returns-in-Some c =
     let own = rw (read_back (record { sfits = c.second_after.type_inv }), read_back (record { sfits = c.year_after.type_inv })) at
     c.in-Some.ensures in
     let after_is = read_back {z = c.in-Some.after} (search rules) in
-    after_in_period c.args.time _ from own
+    after_in_period _ _ from own
     (rw (after_is, read_back c.ranges.time) at c.in_period_of.ensures)

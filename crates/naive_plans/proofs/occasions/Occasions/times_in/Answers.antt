@@ -8,12 +8,12 @@ loop-second-preserved c =
     elim c.if-has_second_at.branch [
       | then-has_second_at w ↦ rw w.counted-is (
         omega arith,
-        one_counted c.args.self.now.rule c.args.self.now.start c.args.length c.requires c.loop-second.second c.loop-second.counted
+        one_counted _ _ _ c.requires _ _
             c.loop-second.invariant.1,
       )
       | else-has_second_at w ↦ rw w.counted-is (
         omega arith,
-        none_counted c.args.self.now.rule c.args.self.now.start c.args.length c.requires c.loop-second.second c.loop-second.counted
+        none_counted _ _ _ c.requires _ _
             (λ has. grind (arith, c.has_second_at.ensures.1 has, w.if-has_second_at)) c.loop-second.invariant.1,
       )
     ]

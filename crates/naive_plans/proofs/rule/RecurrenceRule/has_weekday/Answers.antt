@@ -5,7 +5,7 @@ use Rattle.naive_plans.proofs.rule.RecurrenceRule.has_weekday.Goals as goal
 
 pub returns-then-not-counts_in_year : goal.returns-then-not-counts_in_year
 returns-then-not-counts_in_year c =
-    weekday_in_month c.args.self.now c.args.start c.args.day c.args.before c.args.after _ _ (search rules) (search rules)
+    weekday_in_month _ _ _ _ _ _ _ (search rules) (search rules)
     (simp (to_z-of_z, c.ranges.day) at c.weekday_of-weekday.ensures.value) c.lists_weekday.ensures
 
 pub returns : goal.returns

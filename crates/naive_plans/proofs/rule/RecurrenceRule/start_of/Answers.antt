@@ -13,9 +13,9 @@ months c =
 pub returns-in-Yearly-clause-later : goal.returns-in-Yearly-clause-later
 returns-in-Yearly-clause-later c = λ l from.
     rw (read_back (record { sfits = c.start_of_month.type_inv }))
-    (c.start_of_month.ensures.later l (rw (months c) ((year_by_month c.args.period (floor_div l 86_400)).0 (rw c.in-Yearly.is at from))))
+    (c.start_of_month.ensures.later l (rw (months c) ((year_by_month _ (floor_div l 86_400)).0 (rw c.in-Yearly.is at from))))
 
 pub returns-in-Yearly-clause-earlier : goal.returns-in-Yearly-clause-earlier
 returns-in-Yearly-clause-earlier c = λ l in_years before.
     rw (read_back (record { sfits = c.start_of_month.type_inv }))
-    (c.start_of_month.ensures.earlier l in_years (rw (months c) ((year_by_month c.args.period (floor_div l 86_400)).1 (rw c.in-Yearly.is at before))))
+    (c.start_of_month.ensures.earlier l in_years (rw (months c) ((year_by_month _ (floor_div l 86_400)).1 (rw c.in-Yearly.is at before))))
