@@ -1,12 +1,8 @@
 -- How many times a day, an hour, a minute or a second of a rule has.
-use Rattle.naive_base.proofs.Words.{arith, floor_mod, floors, inl, inr, ints, refl, suc, zero}
-use Rattle.naive_base.proofs.Words.{ℕ, ℤ, ◌%◌, ◌+◌, ◌/◌, ◌<ℤ◌, ◌<◌, ◌≡◌}
-use Rattle.std.proofs.Common.{Contains}
-use Rattle.std.proofs.lemmas.Bool.{cases_order}
-use Rattle.naive_plans.specs.RecurrenceRules.{IsAbsent, IsOccasion}
-use Rattle.naive_plans.specs.RecurrenceSets.{HasAfter, HasBefore, IsAtPosition, IsInPeriod, IsNth}
-use Rattle.naive_plans.specs.Steps.PositionSteps.{HasSecondAt, IsBeyond, IsChain, IsLength}
-use Rattle.naive_plans.specs.Steps.RuleSteps.{own_period}
+use Rattle.std.proofs.{Common.{Contains}, lemmas.Bool.{cases_order}}
+use Rattle.naive_base.proofs.Words.{arith, floor_mod, floors, inl, inr, ints, refl, suc, zero, ℕ, ℤ, ◌%◌, ◌+◌, ◌/◌, ◌<ℤ◌, ◌<◌, ◌≡◌}
+use Rattle.naive_plans.specs.{RecurrenceRules.{IsAbsent, IsOccasion}, RecurrenceSets.{HasAfter, HasBefore, IsAtPosition, IsInPeriod, IsNth}}
+use Rattle.naive_plans.specs.Steps.{PositionSteps.{HasSecondAt, IsBeyond, IsChain, IsLength}, RuleSteps.{own_period}}
 use Rattle.naive_plans.specs.declared.rule.RecurrenceRule.{RecurrenceRule}
 
 -- ---- the members before one and after it

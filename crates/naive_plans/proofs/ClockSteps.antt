@@ -1,19 +1,14 @@
 -- Steps of the local clock: how many days and seconds come before the next one begins.
-use Rattle.naive_base.proofs.Words.{arith, by_lt_z, date_is, date_only, day_of_month, day_of_year, day_of_year_is, days_in_month, days_in_year, floor_div}
-use Rattle.naive_base.proofs.Words.{floor_mod, floors, inl, inr, ints, is_leap, lies_in, month_of, one_year, pos, refl, starts_rise, subst, sym}
-use Rattle.naive_base.proofs.Words.{weekday_number, year_of, year_start, year_step, ℕ, ℤ, ◌%◌, ◌*◌, ◌*ℤ◌, ◌+ℤ◌, ◌+◌, ◌-ℤ◌, ◌-◌, ◌/◌, ◌<ℤ◌, ◌<◌}
-use Rattle.naive_base.proofs.Words.{◌≡◌, ◌≤ℤ◌, ◌≤◌, ◌⊎◌}
-use Rattle.naive_base.proofs.Words.{day_number, days_at_least, days_of_months, number_at}
-use Rattle.naive_base.specs.declared.weekday.Weekday.{Weekday}
+use Rattle.std.proofs.{Math.Nat.{div-add-mod', mod-lt, mul-mod_left, zero-mod}, lemmas.Bool.{cases_order}}
 use Rattle.gregorian.proofs.ForCallers.{months_all, months_step}
-use Rattle.std.proofs.Math.Nat.{div-add-mod', mod-lt, mul-mod_left, zero-mod}
-use Rattle.std.proofs.lemmas.Bool.{cases_order}
-use Rattle.naive_base.proofs.Named.{number_below}
+use Rattle.naive_base.proofs.{Named.{number_below}, Words.{arith, by_lt_z, date_is, date_only, day_of_month, day_of_year, day_of_year_is, days_in_month}}
+use Rattle.naive_base.proofs.Words.{days_in_year, floor_div, floor_mod, floors, inl, inr, ints, is_leap, lies_in, month_of, one_year, pos, refl, starts_rise}
+use Rattle.naive_base.proofs.Words.{subst, sym, weekday_number, year_of, year_start, year_step, ℕ, ℤ, ◌%◌, ◌*◌, ◌*ℤ◌, ◌+ℤ◌, ◌+◌, ◌-ℤ◌, ◌-◌, ◌/◌, ◌<ℤ◌, ◌<◌, ◌≡◌}
+use Rattle.naive_base.proofs.Words.{◌≤ℤ◌, ◌≤◌, ◌⊎◌, day_number, days_at_least, days_of_months, number_at}
+use Rattle.naive_base.specs.declared.weekday.Weekday.{Weekday}
 use Rattle.naive_plans.proofs.Periods.{in_same_month, least_days, multiples_apart}
-use Rattle.naive_plans.specs.{ClockSteps.{BeginsOnDay, BeginsStep, seconds_of_step}, PartsOfDay.{IsPartOfDay}}
-use Rattle.naive_plans.specs.Steps.{Members.{IsFirstAfter, IsLastUpTo}, StepPlaces.{IsPlace}}
-use Rattle.naive_plans.specs.declared.clock_step.ClockStep.{ClockStep}
-use Rattle.naive_plans.specs.declared.clock_step.ClockStep.TheVariants.{Day, Month, Part, Week, Year}
+use Rattle.naive_plans.specs.{ClockSteps.{BeginsOnDay, BeginsStep, seconds_of_step}, PartsOfDay.{IsPartOfDay}, Steps.Members.{IsFirstAfter, IsLastUpTo}}
+use Rattle.naive_plans.specs.{Steps.StepPlaces.{IsPlace}, declared.clock_step.ClockStep.{ClockStep, TheVariants.{Day, Month, Part, Week, Year}}}
 
 -- ---- multiples of a number of seconds
 -- of n seconds, up to the second a of the day or after it

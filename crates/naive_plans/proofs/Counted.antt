@@ -1,9 +1,7 @@
 -- The first n members of a set.
+use Rattle.std.proofs.{Common.{◌↔◌}, lemmas.Bool.{cases_order}}
 use Rattle.naive_base.proofs.Words.{arith, by_lt_z, inl, inr, ints, pos, refl, suc, zero, ℕ, ℤ, ◌+ℤ◌, ◌+◌, ◌-ℤ◌, ◌<ℤ◌, ◌<◌, ◌≡◌, ◌≤ℤ◌, ◌≤◌, ◌⊎◌}
-use Rattle.std.proofs.Common.{◌↔◌}
-use Rattle.std.proofs.lemmas.Bool.{cases_order}
-use Rattle.naive_plans.specs.Steps.OccasionSteps.{HasNoneBetween, IsFirstBetween}
-use Rattle.naive_plans.specs.RecurrenceSets.{HasBefore}
+use Rattle.naive_plans.specs.{RecurrenceSets.{HasBefore}, Steps.OccasionSteps.{HasNoneBetween, IsFirstBetween}}
 
 -- fewer than n members come before it
 abbrev pub IsAmong : (ℤ → Type 0) → ℕ → ℤ → Type 0

@@ -1,12 +1,9 @@
 -- The minutes of a date, one after another.
-use Rattle.std.proofs.Common.{arith, false, true, ℕ, ℤ, ◌*◌, ◌+◌, ◌/◌, ◌<◌, ◌≡◌, ◌≤◌}
-use Rattle.std.proofs.{Common.{Bool}}
-use Rattle.std.proofs.Common.{IsTrue, get_or}
+use Rattle.std.proofs.Common.{Bool, IsTrue}
 use Rattle.gregorian.specs.Weekdays.{weekday_of}
-use Rattle.gregorian.proofs.ForCallers.{date_is}
-use Rattle.gregorian.specs.{Month.{days_in_month}}
-use Rattle.naive_plans.specs.{Steps.CronDates.{ListsNoDateBefore}, Cron.{IsCronDay, IsCronMinute, IsCronTime}}
-use Rattle.naive_plans.specs.{DayPlans.{HasNoSecondFrom, HasNoSecondUntil, IsFirstSecondFrom, IsLastSecondUntil}, declared.cron.Cron.{Cron}}
+use Rattle.naive_base.proofs.Words.{arith, false, true, ℕ, ℤ, ◌*◌, ◌+◌, ◌/◌, ◌<◌, ◌≡◌, ◌≤◌, get_or, date_is, days_in_month}
+use Rattle.naive_plans.specs.{Cron.{IsCronDay, IsCronMinute, IsCronTime}, DayPlans.{HasNoSecondFrom, HasNoSecondUntil, IsFirstSecondFrom, IsLastSecondUntil}}
+use Rattle.naive_plans.specs.{Steps.CronDates.{ListsNoDateBefore}, declared.cron.Cron.{Cron}}
 
 -- all that it has on that day from a second on comes from a minute on
 pub record IsLeft (c : Cron) (day : ℤ) (second minute : ℕ) : Type 0 where

@@ -1,17 +1,12 @@
 -- Places among the times of a period.
-use Rattle.naive_base.proofs.Words.{IsWide, MatchOption, None, Option, Some, arith, by_lt_z, inl, inr, ints, neg_ℤ, pos, refl, suc, weekday_number, zero}
-use Rattle.naive_base.proofs.Words.{ℕ, ℤ, ◌+ℤ◌, ◌+◌, ◌-ℤ◌, ◌-◌, ◌<ℤ◌, ◌<◌, ◌≡◌, ◌≤ℤ◌}
-use Rattle.std.proofs.Common.{Bool, IsTrue, List, [], false, get_or, length, not, true, ◌↔◌, ◌∷◌}
+use Rattle.std.proofs.Common.{Bool, IsTrue, not, ◌↔◌}
 use Rattle.std.specs.Prelude.{is_some}
-use Rattle.naive_plans.proofs.OccasionsBack.{after_all}
-use Rattle.naive_plans.proofs.Periods.{long_before, period_rises}
-use Rattle.naive_plans.specs.Plans.{HasNoneUntil, IsLastUntil}
-use Rattle.naive_plans.specs.RecurrenceRules.{IsOccasion}
-use Rattle.naive_plans.specs.RecurrenceSets.{HasAfter, HasBefore, IsInPeriod, IsNth}
-use Rattle.naive_plans.specs.Steps.Members.{HasNoneLeft, HasNoneUpTo, IsFirstAfter, IsLastUpTo}
-use Rattle.naive_plans.specs.Steps.OccasionSteps.{HasNoneBetween, IsFirstBetween}
-use Rattle.naive_plans.specs.Steps.RuleSteps.{own_period}
-use Rattle.naive_plans.specs.declared.rule.RecurrenceRule.{RecurrenceRule}
+use Rattle.naive_base.proofs.Words.{IsWide, MatchOption, None, Option, Some, arith, by_lt_z, inl, inr, ints, neg_ℤ, pos, refl, suc, weekday_number, zero, ℕ, ℤ}
+use Rattle.naive_base.proofs.Words.{◌+ℤ◌, ◌+◌, ◌-ℤ◌, ◌-◌, ◌<ℤ◌, ◌<◌, ◌≡◌, ◌≤ℤ◌, List, [], false, get_or, length, true, ◌∷◌}
+use Rattle.naive_plans.proofs.{OccasionsBack.{after_all}, Periods.{long_before, period_rises}}
+use Rattle.naive_plans.specs.{Plans.{HasNoneUntil, IsLastUntil}, RecurrenceRules.{IsOccasion}, RecurrenceSets.{HasAfter, HasBefore, IsInPeriod, IsNth}}
+use Rattle.naive_plans.specs.Steps.{Members.{HasNoneLeft, HasNoneUpTo, IsFirstAfter, IsLastUpTo}, OccasionSteps.{HasNoneBetween, IsFirstBetween}}
+use Rattle.naive_plans.specs.{Steps.RuleSteps.{own_period}, declared.rule.RecurrenceRule.{RecurrenceRule}}
 
 -- the times of the period of one of them
 abbrev pub around : RecurrenceRule → ℤ → ℤ → ℤ → Type 0

@@ -1,14 +1,11 @@
 -- The walk over the times that a rule's parts let through.
-use Rattle.naive_base.proofs.Words.{MatchOption, None, Option, Some, arith, by_lt_z, floor_div, floor_mod, floors, ints, neg_ℤ, pos, refl, sym, to_z-of_z}
-use Rattle.naive_base.proofs.Words.{ℕ, ℤ, ◌*◌, ◌*ℤ◌, ◌+ℤ◌, ◌+◌, ◌-ℤ◌, ◌-◌, ◌/◌, ◌<ℤ◌, ◌<◌, ◌≡◌, ◌≤ℤ◌, ◌≤◌}
-use Rattle.naive_base.specs.Weekday.{weekday_number}
-use Rattle.naive_base.proofs.Words.{day_of_month, days_in_month, is_leap, month_of, year_of}
-use Rattle.naive_plans.proofs.DayWalk.{IsLeft, least_found, on_day}
-use Rattle.naive_plans.proofs.Periods.{in_same_month, period_rises}
-use Rattle.naive_plans.specs.DayPlans.{HasNoSecondFrom, IsFirstSecondFrom, IsPlannedOnItsDay}
-use Rattle.naive_plans.specs.Steps.OccasionSteps.{HasNoneBetween, IsCounted, IsEndOfLast, IsFirstBetween, IsSkipped, IsStartOfNext, IsTimeOn}
-use Rattle.naive_plans.specs.Steps.RuleSteps.{IsLastPeriod, IsPeriod, own_period}
-use Rattle.naive_plans.specs.RecurrenceRules.{HasHour, HasMinute, HasMonth, HasSecond, IsOccasionOn, IsOnDate}
+use Rattle.naive_base.proofs.Words.{MatchOption, None, Option, Some, arith, by_lt_z, floor_div, floor_mod, floors, ints, neg_ℤ, pos, refl, sym, to_z-of_z, ℕ, ℤ}
+use Rattle.naive_base.proofs.Words.{◌*◌, ◌*ℤ◌, ◌+ℤ◌, ◌+◌, ◌-ℤ◌, ◌-◌, ◌/◌, ◌<ℤ◌, ◌<◌, ◌≡◌, ◌≤ℤ◌, ◌≤◌, day_of_month, days_in_month, is_leap, month_of, year_of}
+use Rattle.naive_base.proofs.Words.{weekday_number}
+use Rattle.naive_plans.proofs.{DayWalk.{IsLeft, least_found, on_day}, Periods.{in_same_month, period_rises}}
+use Rattle.naive_plans.specs.{DayPlans.{HasNoSecondFrom, IsFirstSecondFrom, IsPlannedOnItsDay}, RecurrenceRules.{HasHour, HasMinute, HasMonth, HasSecond}}
+use Rattle.naive_plans.specs.{RecurrenceRules.{IsOccasionOn, IsOnDate}, Steps.OccasionSteps.{HasNoneBetween, IsCounted, IsEndOfLast, IsFirstBetween, IsSkipped}}
+use Rattle.naive_plans.specs.Steps.{OccasionSteps.{IsStartOfNext, IsTimeOn}, RuleSteps.{IsLastPeriod, IsPeriod, own_period}}
 use Rattle.naive_plans.specs.declared.rule.RecurrenceRule.{RecurrenceRule}
 
 -- ---- periods that count

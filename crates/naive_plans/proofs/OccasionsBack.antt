@@ -1,18 +1,10 @@
 -- The walk back over the times that a rule's parts let through.
-use Rattle.naive_base.proofs.Words.{MatchOption, None, Option, Some, arith, by_lt_z, date_is, floor_div, floor_mod, floors}
-use Rattle.naive_base.proofs.Words.{ints, pos, ℕ, ℤ, ◌*◌, ◌*ℤ◌, ◌+ℤ◌, ◌+◌, ◌-ℤ◌, ◌-◌, ◌/◌, ◌<ℤ◌, ◌<◌, ◌≡◌, ◌≤ℤ◌, ◌≤◌}
-use Rattle.naive_base.proofs.Words.{day_of_month, is_leap, month_of, year_of}
-use Rattle.naive_base.proofs.Words.{month_bounds}
-use Rattle.naive_plans.proofs.DayWalk.{IsLeftBefore}
-use Rattle.naive_plans.specs.DayPlans.{HasNoSecondUntil, IsLastSecondUntil, IsPlannedOnItsDay}
-use Rattle.naive_plans.specs.Plans.{HasNoneUntil}
-use Rattle.naive_base.proofs.Words.{weekday_number}
-use Rattle.naive_plans.proofs.OccasionWalk.{on_date, time_of}
-use Rattle.naive_plans.proofs.Periods.{in_same_month, long_before, period_rises}
-use Rattle.naive_plans.specs.Steps.OccasionSteps.{IsEndOfLast, IsSkippedBack, IsTimeOn}
-use Rattle.naive_plans.specs.Steps.RuleSteps.{own_period}
-use Rattle.naive_plans.specs.RecurrenceRules.{HasHour, HasMinute, HasMonth, IsOccasion, IsOccasionOn, IsOnDate}
-use Rattle.naive_plans.specs.declared.rule.RecurrenceRule.{RecurrenceRule}
+use Rattle.naive_base.proofs.Words.{MatchOption, None, Option, Some, arith, by_lt_z, date_is, floor_div, floor_mod, floors, ints, pos, ℕ, ℤ, ◌*◌, ◌*ℤ◌, ◌+ℤ◌}
+use Rattle.naive_base.proofs.Words.{◌+◌, ◌-ℤ◌, ◌-◌, ◌/◌, ◌<ℤ◌, ◌<◌, ◌≡◌, ◌≤ℤ◌, ◌≤◌, day_of_month, is_leap, month_of, year_of, month_bounds, weekday_number}
+use Rattle.naive_plans.proofs.{DayWalk.{IsLeftBefore}, OccasionWalk.{on_date, time_of}, Periods.{in_same_month, long_before, period_rises}}
+use Rattle.naive_plans.specs.{DayPlans.{HasNoSecondUntil, IsLastSecondUntil, IsPlannedOnItsDay}, Plans.{HasNoneUntil}, RecurrenceRules.{HasHour, HasMinute}}
+use Rattle.naive_plans.specs.{RecurrenceRules.{HasMonth, IsOccasion, IsOccasionOn, IsOnDate}, Steps.OccasionSteps.{IsEndOfLast, IsSkippedBack, IsTimeOn}}
+use Rattle.naive_plans.specs.{Steps.RuleSteps.{own_period}, declared.rule.RecurrenceRule.{RecurrenceRule}}
 
 -- ---- seconds of a day
 -- the rule r with that start, up to a second of `day`

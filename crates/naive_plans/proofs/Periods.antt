@@ -1,17 +1,10 @@
 -- The periods of rules.
-use Rattle.naive_base.proofs.Words.{arith, ints, floors, neg_ℤ, pos, ℕ, ℤ, ◌*◌, ◌*ℤ◌, ◌+ℤ◌, ◌+◌, ◌-ℤ◌, ◌-◌, ◌/◌, ◌<◌, ◌≡◌, ◌≤ℤ◌, ◌≤◌, ◌<ℤ◌}
-use Rattle.naive_base.proofs.Words.{date_is, date_only, day_number, floor_mod, number_at, unsigned_abs, day_of_month, floor_div, is_leap, lies_in}
-use Rattle.naive_base.proofs.Words.{month_of, starts_rise, year_of, year_start}
-use Rattle.naive_base.proofs.Words.{refl}
-use Rattle.naive_base.proofs.Words.{days_in_month, inl, inr, nat_tests, sym, ◌⊎◌}
-use Rattle.std.proofs.{Common.{Bool}}
-use Rattle.std.proofs.Math.Nat.{div-add-mod', mod-lt, mul-le-mul_right}
-use Rattle.std.proofs.lemmas.Bool.{cases_order}
-use Rattle.std.proofs.lemmas.Int.{by_lt_z}
-use Rattle.gregorian.proofs.ForCallers.{date_lies, day_of_year_is, days_at_most, months_rise, months_step}
-use Rattle.naive_plans.specs.Steps.RuleSteps.{IsLastPeriod, least_period}
-use Rattle.naive_plans.specs.RecurrenceRules.{month_number, period_of}
-use Rattle.naive_plans.specs.declared.rule.Frequency.{Frequency}
+use Rattle.std.proofs.{Common.{Bool}, Math.Nat.{div-add-mod', mod-lt, mul-le-mul_right}, lemmas.Bool.{cases_order}}
+use Rattle.gregorian.proofs.ForCallers.{date_lies, days_at_most, months_rise, months_step}
+use Rattle.naive_base.proofs.Words.{arith, ints, floors, neg_ℤ, pos, ℕ, ℤ, ◌*◌, ◌*ℤ◌, ◌+ℤ◌, ◌+◌, ◌-ℤ◌, ◌-◌, ◌/◌, ◌<◌, ◌≡◌, ◌≤ℤ◌, ◌≤◌, ◌<ℤ◌, date_is, date_only}
+use Rattle.naive_base.proofs.Words.{day_number, floor_mod, number_at, unsigned_abs, day_of_month, floor_div, is_leap, lies_in, month_of, starts_rise, year_of}
+use Rattle.naive_base.proofs.Words.{year_start, refl, days_in_month, inl, inr, nat_tests, sym, ◌⊎◌, by_lt_z, day_of_year_is}
+use Rattle.naive_plans.specs.{RecurrenceRules.{month_number, period_of}, Steps.RuleSteps.{IsLastPeriod, least_period}, declared.rule.Frequency.{Frequency}}
 use Rattle.naive_plans.specs.declared.rule.Frequency.TheVariants.{Monthly, Yearly}
 
 pub least_days : (b : Bool) (m : ℕ) → 1 ≤ days_in_month b m

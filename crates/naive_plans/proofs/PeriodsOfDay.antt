@@ -1,10 +1,8 @@
 -- The periods of a day that a rule by hours, minutes or seconds meets.
-use Rattle.naive_base.proofs.Words.{arith, floor_div, floor_mod, floors, inl, inr, ints, pos, sym, unsigned_abs}
-use Rattle.naive_base.proofs.Words.{ℕ, ℤ, ◌%◌, ◌*◌, ◌*ℤ◌, ◌+ℤ◌, ◌+◌, ◌-ℤ◌, ◌/◌, ◌<◌, ◌≡◌}
-use Rattle.std.proofs.Math.Nat.{add-mul-mod_self_right, div-add-mod', zero-mod}
-use Rattle.std.proofs.lemmas.Nat.{mul-mod_second}
-use Rattle.naive_plans.specs.RecurrenceRules.{HasSecond}
-use Rattle.naive_plans.specs.Steps.OccasionSteps.{HasPeriodOfDay, IsCounted, IsPartOfHours, IsTimeOn}
+use Rattle.std.proofs.{Math.Nat.{add-mul-mod_self_right, div-add-mod', zero-mod}, lemmas.Nat.{mul-mod_second}}
+use Rattle.naive_base.proofs.Words.{arith, floor_div, floor_mod, floors, inl, inr, ints, pos, sym, unsigned_abs, ℕ, ℤ, ◌%◌, ◌*◌, ◌*ℤ◌, ◌+ℤ◌, ◌+◌, ◌-ℤ◌, ◌/◌}
+use Rattle.naive_base.proofs.Words.{◌<◌, ◌≡◌}
+use Rattle.naive_plans.specs.{RecurrenceRules.{HasSecond}, Steps.OccasionSteps.{HasPeriodOfDay, IsCounted, IsPartOfHours, IsTimeOn}}
 use Rattle.naive_plans.specs.declared.rule.RecurrenceRule.{RecurrenceRule}
 
 times_none : (t n : ℕ) → n ≡ 0 → t * n ≡ 0

@@ -1,16 +1,10 @@
 -- The parts of a rule.
-use Rattle.std.proofs.Common.{IsTrue, to_z-of_z, inl, inr, arith, pos, Bool, ℕ, ℤ, ◌≡◌, ◌/◌, ◌%◌, ◌+◌, ◌-◌, ◌<◌, ◌≤◌, ◌+ℤ◌, ◌-ℤ◌, ◌↔◌, subst}
-use Rattle.std.proofs.lemmas.Int.{ints}
-use Rattle.gregorian.proofs.ForCallers.{day_of_year_is, floors}
-use Rattle.gregorian.specs.DateOf.{day_of_month, day_of_year, month_of, year_of}
-use Rattle.gregorian.specs.Month.{days_in_month}
+use Rattle.std.proofs.Common.{IsTrue, Bool, ◌↔◌}
 use Rattle.gregorian.specs.Weekdays.{weekday_of}
-use Rattle.gregorian.specs.Year.{days_in_year, floor_mod, is_leap}
-use Rattle.naive_base.specs.Weekday.{weekday_number}
+use Rattle.naive_base.proofs.Words.{to_z-of_z, inl, inr, arith, pos, ℕ, ℤ, ◌≡◌, ◌/◌, ◌%◌, ◌+◌, ◌-◌, ◌<◌, ◌≤◌, ◌+ℤ◌, ◌-ℤ◌, subst, ints, day_of_year_is, floors}
+use Rattle.naive_base.proofs.Words.{day_of_month, day_of_year, month_of, year_of, days_in_month, days_in_year, floor_mod, is_leap, weekday_number}
 use Rattle.naive_plans.specs.RecurrenceRules.{CountsInYear, HasMonth, HasMonthDay, HasWeekday, IsAbsent, IsInWeek, IsOnDate, IsOnYearDay, ListsPlace}
-use Rattle.naive_plans.specs.RecurrenceRules.{ListsWeekday}
-use Rattle.naive_plans.specs.RecurrenceRules.{fourth_of_week}
-use Rattle.naive_plans.specs.declared.rule.RecurrenceRule.{RecurrenceRule}
+use Rattle.naive_plans.specs.{RecurrenceRules.{ListsWeekday, fourth_of_week}, declared.rule.RecurrenceRule.{RecurrenceRule}}
 
 pub weekday_in_month : (r : RecurrenceRule) (start day : ℤ) (before after w : ℕ) (b : Bool) → (CountsInYear r → ⊥) → (IsAbsent r.by_weekday.now → ⊥)
     → w ≡ weekday_of day → (IsTrue b ↔ ListsWeekday r.by_weekday.now w (before / 7) (after / 7)) → IsTrue b ↔ HasWeekday r start day before after

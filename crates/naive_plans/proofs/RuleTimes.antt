@@ -1,23 +1,12 @@
 -- The times of a rule, and those after a second.
-use Rattle.naive_base.proofs.Words.{IsWide, MatchOption, None, Option, Some, arith, ints, pos, ℤ, ◌+ℤ◌, ◌-ℤ◌, ◌<ℤ◌, ◌≡◌, ◌≤ℤ◌}
 use Rattle.std.proofs.Common.{◌↔◌}
-use Rattle.naive_plans.specs.Steps.OccasionSteps.{HasNoneBetween, IsFirstBetween}
-use Rattle.naive_plans.specs.Plans.{HasNoneUntil, IsLastUntil, IsNextAfter}
-use Rattle.naive_plans.specs.RecurrenceSets.{IsAtPosition, IsRecurrenceTime, IsRuleTime, IsWithinCount}
-use Rattle.naive_plans.specs.declared.recurrence.RecurrenceEnd.TheVariants.{Count, Never, Until}
-use Rattle.naive_base.specs.NaiveDateTime.{reading}
+use Rattle.naive_base.proofs.Words.{IsWide, MatchOption, None, Option, Some, arith, ints, pos, ℤ, ◌+ℤ◌, ◌-ℤ◌, ◌<ℤ◌, ◌≡◌, ◌≤ℤ◌, floors, neg_ℤ, ℕ, ◌<◌, reading}
 use Rattle.naive_base.specs.declared.datetime.NaiveDateTime.{NaiveDateTime}
-use Rattle.std.proofs.Common.{neg_ℤ, ℕ}
-use Rattle.naive_plans.specs.declared.recurrence.RecurrenceEnd.{RecurrenceEnd}
-use Rattle.naive_plans.specs.Steps.RecurrenceSteps.{HasNoneLater, IsFirstLater, IsLastSecond}
 use Rattle.naive_plans.proofs.OccasionWalk.{time_of}
-use Rattle.naive_plans.specs.RecurrenceRules.{IsOccasion}
-use Rattle.naive_plans.specs.RecurrenceSets.{IsPlannedUpTo, IsWithinEnd}
-use Rattle.naive_plans.specs.Steps.OccasionSteps.{IsTimeOn}
-use Rattle.naive_base.proofs.Words.{floors}
-use Rattle.std.proofs.Common.{◌<◌}
-use Rattle.naive_plans.specs.Steps.RuleSteps.{IsBounded}
-use Rattle.naive_plans.specs.declared.rule.RecurrenceRule.{RecurrenceRule}
+use Rattle.naive_plans.specs.{Plans.{HasNoneUntil, IsLastUntil, IsNextAfter}, RecurrenceRules.{IsOccasion}, RecurrenceSets.{IsAtPosition, IsRecurrenceTime}}
+use Rattle.naive_plans.specs.{RecurrenceSets.{IsRuleTime, IsWithinCount, IsPlannedUpTo, IsWithinEnd}, Steps.OccasionSteps.{HasNoneBetween, IsFirstBetween}}
+use Rattle.naive_plans.specs.Steps.{OccasionSteps.{IsTimeOn}, RecurrenceSteps.{HasNoneLater, IsFirstLater, IsLastSecond}, RuleSteps.{IsBounded}}
+use Rattle.naive_plans.specs.declared.{recurrence.RecurrenceEnd.{RecurrenceEnd, TheVariants.{Count, Never, Until}}, rule.RecurrenceRule.{RecurrenceRule}}
 
 strictly : (a b : ℤ) → a ≤ℤ b → (a ≡ b → ⊥) → a <ℤ b
 strictly a b le other = grind (arith, ints)

@@ -1,9 +1,8 @@
 -- Lists of local times, and plans without some.
-use Rattle.std.proofs.Common.{Contains, List, MatchOption, None, Option, Some, arith, get_or, length, refl, ℕ, ℤ, ◌<◌, ◌≤◌, ◌<ℤ◌, ◌≡◌, ◌≤ℤ◌}
-use Rattle.naive_base.specs.NaiveDateTime.{reading}
+use Rattle.std.proofs.Common.{Contains}
+use Rattle.naive_base.proofs.Words.{List, MatchOption, None, Option, Some, arith, get_or, length, refl, ℕ, ℤ, ◌<◌, ◌≤◌, ◌<ℤ◌, ◌≡◌, ◌≤ℤ◌, reading}
 use Rattle.naive_base.specs.declared.datetime.NaiveDateTime.{NaiveDateTime}
-use Rattle.naive_plans.specs.PlanSets.{HasLocalTime}
-use Rattle.naive_plans.specs.Plans.{HasNoneAfter, HasNoneUntil, IsLastUntil, IsNextAfter}
+use Rattle.naive_plans.specs.{PlanSets.{HasLocalTime}, Plans.{HasNoneAfter, HasNoneUntil, IsLastUntil, IsNextAfter}}
 
 -- of the first n local times of a list, the earliest one after a second
 abbrev pub IsFirstAmong : List NaiveDateTime → ℤ → ℕ → Option NaiveDateTime → Type 0

@@ -1,6 +1,5 @@
-use Rattle.naive_base.proofs.Words.{arith, ints, of_z, refl, rules, to_z, to_z-of_z, w64, ◌≡◌}
-use Rattle.naive_plans.proofs.Bits.{read_back}
-use Rattle.naive_plans.proofs.RuleTimes.{first_from, more_from, none_from}
+use Rattle.naive_base.proofs.Words.{arith, ints, refl, rules, to_z-of_z}
+use Rattle.naive_plans.proofs.{Bits.{read_back}, RuleTimes.{first_from, more_from, none_from}}
 use Rattle.naive_plans.proofs.recurrence.first_between.Goals as goal
 
 pub returns-in_default : goal.returns-in_default

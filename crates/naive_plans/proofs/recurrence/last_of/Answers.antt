@@ -1,6 +1,5 @@
-use Rattle.naive_base.proofs.Words.{arith, of_z, refl, rules, to_z, to_z-of_z, w64, ◌≡◌}
-use Rattle.naive_plans.proofs.Bits.{read_back}
-use Rattle.naive_plans.proofs.Counted.{all_counted, one_more_counted, whole_count}
+use Rattle.naive_base.proofs.Words.{arith, refl, rules}
+use Rattle.naive_plans.proofs.{Bits.{read_back}, Counted.{all_counted, one_more_counted, whole_count}}
 use Rattle.naive_plans.proofs.recurrence.last_of.Goals as goal
 
 pub times-preserved : goal.times-preserved

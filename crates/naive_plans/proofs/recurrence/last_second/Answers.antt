@@ -1,7 +1,5 @@
-use Rattle.naive_base.proofs.Words.{arith}
-use Rattle.naive_base.proofs.Words.{to_z-of_z, w64}
-use Rattle.naive_plans.proofs.Bits.{read_back}
-use Rattle.naive_plans.proofs.RuleTimes.{count_last, never_last, until_last}
+use Rattle.naive_base.proofs.Words.{arith, to_z-of_z}
+use Rattle.naive_plans.proofs.{Bits.{read_back}, RuleTimes.{count_last, never_last, until_last}}
 use Rattle.naive_plans.proofs.recurrence.last_second.Goals as goal
 
 pub returns-in-Never : goal.returns-in-Never

@@ -1,8 +1,5 @@
-use Rattle.naive_base.proofs.Words.{floors}
-use Rattle.naive_base.proofs.Words.{arith, ints, of_z, refl, rules, to_z, to_z-of_z, w64, ◌≡◌}
-use Rattle.naive_plans.proofs.Bits.{read_back}
-use Rattle.naive_plans.proofs.OccasionsBack.{after_all}
-use Rattle.naive_plans.proofs.RuleTimes.{all_early, last_found, more_to, none_of_them, none_to_start}
+use Rattle.naive_base.proofs.Words.{arith, ints, refl, rules, to_z-of_z}
+use Rattle.naive_plans.proofs.{Bits.{read_back}, OccasionsBack.{after_all}, RuleTimes.{all_early, last_found, more_to, none_of_them, none_to_start}}
 use Rattle.naive_plans.proofs.recurrence.last_to.Goals as goal
 
 pub returns-in_default : goal.returns-in_default

@@ -1,5 +1,4 @@
-use Rattle.naive_base.proofs.Words.{arith}
-use Rattle.naive_base.proofs.Words.{to_z-of_z}
+use Rattle.naive_base.proofs.Words.{arith, to_z-of_z}
 use Rattle.naive_plans.proofs.RuleTimes.{end_shortened, no_rule_time}
 use Rattle.naive_plans.proofs.recurrence.last_within.Goals as goal
 

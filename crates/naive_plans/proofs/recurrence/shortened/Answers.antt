@@ -1,6 +1,5 @@
-use Rattle.naive_base.proofs.Words.{of_z, rules, to_z, to_z-of_z, w64, ◌≡◌}
-use Rattle.naive_plans.proofs.Bits.{read_back}
-use Rattle.naive_plans.proofs.RuleTimes.{bounded_to, none_to, none_up, same_to}
+use Rattle.naive_base.proofs.Words.{rules, to_z-of_z}
+use Rattle.naive_plans.proofs.{Bits.{read_back}, RuleTimes.{bounded_to, none_to, none_up, same_to}}
 use Rattle.naive_plans.proofs.recurrence.shortened.Goals as goal
 
 pub returns-in-None-clause-same : goal.returns-in-None-clause-same

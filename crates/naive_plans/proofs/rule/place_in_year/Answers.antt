@@ -1,5 +1,4 @@
-use Rattle.naive_base.proofs.Words.{rules}
-use Rattle.naive_base.proofs.Words.{to_z-of_z}
+use Rattle.naive_base.proofs.Words.{rules, to_z-of_z}
 use Rattle.naive_plans.proofs.RuleParts.{before_end}
 use Rattle.naive_plans.proofs.rule.place_in_year.Goals as goal
 

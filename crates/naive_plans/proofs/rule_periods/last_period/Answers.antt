@@ -1,6 +1,5 @@
-use Rattle.naive_base.proofs.Words.{to_z-of_z, w64}
-use Rattle.naive_plans.proofs.Bits.{read_back}
-use Rattle.naive_plans.proofs.Periods.{last_one}
+use Rattle.naive_base.proofs.Words.{to_z-of_z}
+use Rattle.naive_plans.proofs.{Bits.{read_back}, Periods.{last_one}}
 use Rattle.naive_plans.proofs.rule_periods.last_period.Goals as goal
 
 pub returns : goal.returns

@@ -1,7 +1,6 @@
-use Rattle.naive_base.proofs.Words.{arith, ints, to_z-of_z, w64}
 use Rattle.std.proofs.lemmas.Int.{clamps}
-use Rattle.naive_plans.proofs.Bits.{read_back}
-use Rattle.naive_plans.proofs.Periods.{month_earlier, month_later}
+use Rattle.naive_base.proofs.Words.{arith, ints, to_z-of_z}
+use Rattle.naive_plans.proofs.{Bits.{read_back}, Periods.{month_earlier, month_later}}
 use Rattle.naive_plans.proofs.rule_periods.start_of_month.Goals as goal
 
 pub returns-clause-later : goal.returns-clause-later

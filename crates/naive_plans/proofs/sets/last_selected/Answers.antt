@@ -1,5 +1,4 @@
-use Rattle.naive_base.proofs.Words.{ints, rules, to_z-of_z}
-use Rattle.naive_base.proofs.Words.{arith}
+use Rattle.naive_base.proofs.Words.{ints, rules, to_z-of_z, arith}
 use Rattle.naive_plans.proofs.Selected.{last_kept, passed_back}
 use Rattle.naive_plans.proofs.sets.last_selected.Goals as goal
 

@@ -1,6 +1,4 @@
-use Rattle.naive_base.proofs.Words.{to_z-of_z, w64}
-use Rattle.naive_plans.proofs.Bits.{read_back}
-use Rattle.naive_plans.proofs.ClockSteps.{last_is}
+use Rattle.naive_plans.proofs.{Bits.{read_back}, ClockSteps.{last_is}}
 use Rattle.naive_plans.proofs.clock_step.ClockStep.last_begin.Goals as goal
 
 pub returns-clause-value : goal.returns-clause-value

@@ -1,7 +1,5 @@
-use Rattle.naive_base.proofs.Words.{arith, floors, ints}
-use Rattle.naive_base.proofs.Words.{of_z, rules, to_z, to_z-of_z, w64, ◌≡◌}
-use Rattle.naive_plans.proofs.Bits.{read_back}
-use Rattle.naive_plans.proofs.OccasionWalk.{day_from, days_between}
+use Rattle.naive_base.proofs.Words.{arith, rules, to_z-of_z}
+use Rattle.naive_plans.proofs.{Bits.{read_back}, OccasionWalk.{day_from, days_between}}
 use Rattle.naive_plans.proofs.occasions.Occasions.day_after.Goals as goal
 
 pub returns-in-None-clause-none : goal.returns-in-None-clause-none

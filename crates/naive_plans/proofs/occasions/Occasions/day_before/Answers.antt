@@ -1,7 +1,6 @@
-use Rattle.naive_base.proofs.Words.{arith, floors, ints, of_z, rules, to_z, to_z-of_z, w64, ◌≡◌}
 use Rattle.std.proofs.lemmas.Int.{clamps}
-use Rattle.naive_plans.proofs.Bits.{read_back}
-use Rattle.naive_plans.proofs.OccasionsBack.{day_to, days_up_to}
+use Rattle.naive_base.proofs.Words.{arith, ints, rules, to_z-of_z}
+use Rattle.naive_plans.proofs.{Bits.{read_back}, OccasionsBack.{day_to, days_up_to}}
 use Rattle.naive_plans.proofs.occasions.Occasions.day_before.Goals as goal
 
 pub returns-in-None-clause-none : goal.returns-in-None-clause-none

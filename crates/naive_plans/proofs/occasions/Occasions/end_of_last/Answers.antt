@@ -1,7 +1,5 @@
 use Rattle.naive_base.proofs.Words.{ap, arith, of_z, refl, to_z-of_z, w64}
-use Rattle.naive_plans.proofs.Bits.{read_back}
-use Rattle.naive_plans.proofs.OccasionWalk.{ends_earlier}
-use Rattle.naive_plans.proofs.OccasionsBack.{none_counted}
+use Rattle.naive_plans.proofs.{Bits.{read_back}, OccasionWalk.{ends_earlier}, OccasionsBack.{none_counted}}
 use Rattle.naive_plans.proofs.occasions.Occasions.end_of_last.Goals as goal
 
 pub last_period-last-requires-clause-later : goal.last_period-last-requires-clause-later

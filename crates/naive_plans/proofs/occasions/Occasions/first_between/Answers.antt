@@ -1,8 +1,6 @@
-use Rattle.naive_base.proofs.Words.{arith, by_lt_z, floor_div, floors, ints, pos, to_z, to_z-of_z, w64, ◌*ℤ◌, ◌≡◌}
+use Rattle.naive_base.proofs.Words.{arith, by_lt_z, floor_div, floors, ints, pos, to_z, w64, ◌*ℤ◌, ◌≡◌}
+use Rattle.naive_plans.proofs.{Bits.{read_back}, DayWalk.{none_on_day}, OccasionWalk.{first_found, left_at_start, left_later, none_between}}
 use Rattle.naive_plans.specs.RecurrenceRules.{IsOccasion, IsOccasionOn}
-use Rattle.naive_plans.proofs.Bits.{read_back}
-use Rattle.naive_plans.proofs.DayWalk.{none_on_day}
-use Rattle.naive_plans.proofs.OccasionWalk.{first_found, left_at_start, left_later, none_between}
 use Rattle.naive_plans.proofs.occasions.Occasions.first_between.Goals as goal
 
 pub days-init : goal.days-init

@@ -1,4 +1,3 @@
-use Rattle.naive_base.proofs.Words.{floors, ints}
 use Rattle.naive_base.proofs.Words.{arith, rules, to_z-of_z}
 use Rattle.naive_plans.proofs.OccasionWalk.{with_date}
 use Rattle.naive_plans.proofs.occasions.Occasions.first_on.Goals as goal

@@ -1,6 +1,5 @@
-use Rattle.naive_base.proofs.Words.{arith, ints, of_z, rules, to_z, to_z-of_z, w64, ◌≡◌}
-use Rattle.naive_plans.proofs.Bits.{read_back}
-use Rattle.naive_plans.proofs.NthTimes.{all_passed, near_on, none_so_far, one_step}
+use Rattle.naive_base.proofs.Words.{arith, ints, rules}
+use Rattle.naive_plans.proofs.{Bits.{read_back}, NthTimes.{all_passed, near_on, none_so_far, one_step}}
 use Rattle.naive_plans.proofs.occasions.Occasions.has_after.Goals as goal
 
 pub times-preserved : goal.times-preserved

@@ -1,7 +1,5 @@
-use Rattle.naive_base.proofs.Words.{arith, of_z, rules, to_z, to_z-of_z, w64, ◌≡◌}
-use Rattle.naive_plans.proofs.Bits.{read_back}
-use Rattle.naive_plans.proofs.NthTimes.{all_passed, none_so_far, one_step}
-use Rattle.naive_plans.proofs.OccasionsBack.{after_all}
+use Rattle.naive_base.proofs.Words.{arith, rules}
+use Rattle.naive_plans.proofs.{Bits.{read_back}, NthTimes.{all_passed, none_so_far, one_step}, OccasionsBack.{after_all}}
 use Rattle.naive_plans.proofs.occasions.Occasions.has_before.Goals as goal
 
 pub times-preserved : goal.times-preserved

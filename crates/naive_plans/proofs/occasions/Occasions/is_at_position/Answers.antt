@@ -1,5 +1,4 @@
-use Rattle.naive_base.proofs.Words.{arith, floors, ints}
-use Rattle.naive_base.proofs.Words.{inl, inr, rules, to_z-of_z, w64}
+use Rattle.naive_base.proofs.Words.{rules, to_z-of_z}
 use Rattle.naive_plans.proofs.occasions.Occasions.is_at_position.Goals as goal
 
 pub returns : goal.returns

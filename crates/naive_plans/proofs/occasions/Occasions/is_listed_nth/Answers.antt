@@ -1,6 +1,5 @@
-use Rattle.naive_base.proofs.Words.{arith, inl, inr, pos, rules, ◌≡◌, ◌∙◌}
-use Rattle.std.proofs.Common.{get_or}
 use Rattle.std.proofs.lemmas.Bool.{cases_order}
+use Rattle.naive_base.proofs.Words.{arith, inl, inr, pos, rules, ◌≡◌, ◌∙◌, get_or}
 use Rattle.naive_plans.proofs.NthTimes.{any_default}
 use Rattle.naive_plans.proofs.occasions.Occasions.is_listed_nth.Goals as goal
 

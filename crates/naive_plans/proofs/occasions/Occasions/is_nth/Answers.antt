@@ -1,5 +1,4 @@
-use Rattle.naive_base.proofs.Words.{to_z-of_z}
-use Rattle.naive_base.proofs.Words.{arith, refl, rules}
+use Rattle.naive_base.proofs.Words.{to_z-of_z, arith, refl, rules}
 use Rattle.naive_plans.proofs.NthTimes.{Front, not_zeroth, told_nth}
 use Rattle.naive_plans.proofs.occasions.Occasions.is_nth.Goals as goal
 

@@ -1,4 +1,3 @@
-use Rattle.naive_base.proofs.Words.{floors, ints, rules}
 use Rattle.naive_base.proofs.Words.{arith, to_z-of_z}
 use Rattle.naive_plans.proofs.OccasionsBack.{with_date_back}
 use Rattle.naive_plans.proofs.occasions.Occasions.last_on.Goals as goal

@@ -1,8 +1,6 @@
-use Rattle.naive_base.proofs.Words.{arith, by_lt_z, floor_div, floors, ints, pos, to_z, to_z-of_z, w64, ◌*ℤ◌, ◌+ℤ◌, ◌-ℤ◌, ◌≡◌}
+use Rattle.naive_base.proofs.Words.{arith, by_lt_z, floor_div, floors, ints, pos, to_z, w64, ◌*ℤ◌, ◌+ℤ◌, ◌-ℤ◌, ◌≡◌}
+use Rattle.naive_plans.proofs.{Bits.{read_back}, DayWalk.{last_on_day, none_back}, OccasionsBack.{all_until, left_earlier, none_until}}
 use Rattle.naive_plans.specs.RecurrenceRules.{IsOccasionOn}
-use Rattle.naive_plans.proofs.Bits.{read_back}
-use Rattle.naive_plans.proofs.DayWalk.{last_on_day, none_back}
-use Rattle.naive_plans.proofs.OccasionsBack.{all_until, left_earlier, none_until}
 use Rattle.naive_plans.proofs.occasions.Occasions.last_until.Goals as goal
 
 pub days-init : goal.days-init

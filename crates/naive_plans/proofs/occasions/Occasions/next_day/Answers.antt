@@ -1,6 +1,5 @@
-use Rattle.naive_base.proofs.Words.{arith, floor_div, rules, to_z-of_z, w64, ◌≡◌}
-use Rattle.naive_plans.proofs.Bits.{read_back}
-use Rattle.naive_plans.proofs.OccasionWalk.{after_month}
+use Rattle.naive_base.proofs.Words.{arith, floor_div, rules, to_z-of_z, ◌≡◌}
+use Rattle.naive_plans.proofs.{Bits.{read_back}, OccasionWalk.{after_month}}
 use Rattle.naive_plans.proofs.occasions.Occasions.next_day.Goals as goal
 
 pub returns-clause-none : goal.returns-clause-none

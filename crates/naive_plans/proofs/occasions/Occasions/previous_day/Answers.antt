@@ -1,6 +1,5 @@
-use Rattle.naive_base.proofs.Words.{arith, floor_div, ints, rules, to_z-of_z, w64, ◌≡◌}
-use Rattle.naive_plans.proofs.Bits.{read_back}
-use Rattle.naive_plans.proofs.OccasionsBack.{before_month, in_month}
+use Rattle.naive_base.proofs.Words.{arith, floor_div, ints, rules, to_z-of_z, ◌≡◌}
+use Rattle.naive_plans.proofs.{Bits.{read_back}, OccasionsBack.{before_month, in_month}}
 use Rattle.naive_plans.proofs.occasions.Occasions.previous_day.Goals as goal
 
 pub returns-clause-none : goal.returns-clause-none

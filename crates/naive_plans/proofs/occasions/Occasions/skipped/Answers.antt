@@ -1,7 +1,5 @@
-use Rattle.naive_base.proofs.Words.{floors, ints}
-use Rattle.naive_base.proofs.Words.{arith, of_z, refl, rules, to_z, to_z-of_z, w64, ◌≡◌}
-use Rattle.naive_plans.proofs.Bits.{read_back}
-use Rattle.naive_plans.proofs.OccasionWalk.{hour_skipped, minute_skipped, period_skipped, second_skipped}
+use Rattle.naive_base.proofs.Words.{arith, rules, to_z-of_z}
+use Rattle.naive_plans.proofs.{Bits.{read_back}, OccasionWalk.{hour_skipped, minute_skipped, period_skipped, second_skipped}}
 use Rattle.naive_plans.proofs.occasions.Occasions.skipped.Goals as goal
 
 pub returns-then-not-has_hour : goal.returns-then-not-has_hour

@@ -1,6 +1,5 @@
 use Rattle.naive_base.proofs.Words.{ap, of_z, to_z-of_z, w64}
-use Rattle.naive_plans.proofs.Bits.{read_back}
-use Rattle.naive_plans.proofs.OccasionWalk.{starts_later}
+use Rattle.naive_plans.proofs.{Bits.{read_back}, OccasionWalk.{starts_later}}
 use Rattle.naive_plans.proofs.occasions.Occasions.start_of_next.Goals as goal
 
 pub returns : goal.returns

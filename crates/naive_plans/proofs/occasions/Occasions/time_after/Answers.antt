@@ -1,6 +1,5 @@
-use Rattle.naive_base.proofs.Words.{of_z, rules, to_z, to_z-of_z, w64, ◌≡◌}
-use Rattle.naive_plans.proofs.Bits.{read_back}
-use Rattle.naive_plans.proofs.NthTimes.{after_in_period, none_after}
+use Rattle.naive_base.proofs.Words.{rules}
+use Rattle.naive_plans.proofs.{Bits.{read_back}, NthTimes.{after_in_period, none_after}}
 use Rattle.naive_plans.proofs.occasions.Occasions.time_after.Goals as goal
 
 pub returns-in-None : goal.returns-in-None

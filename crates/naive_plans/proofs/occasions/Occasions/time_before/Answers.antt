@@ -1,7 +1,5 @@
-use Rattle.naive_base.proofs.Words.{arith, ints, of_z, rules, to_z, to_z-of_z, w64, ◌≡◌}
-use Rattle.naive_plans.proofs.Bits.{read_back}
-use Rattle.naive_plans.proofs.NthTimes.{before_in_period, none_before}
-use Rattle.naive_plans.proofs.OccasionsBack.{after_all}
+use Rattle.naive_base.proofs.Words.{arith, ints, rules}
+use Rattle.naive_plans.proofs.{Bits.{read_back}, NthTimes.{before_in_period, none_before}, OccasionsBack.{after_all}}
 use Rattle.naive_plans.proofs.occasions.Occasions.time_before.Goals as goal
 
 pub second_before-requires : goal.second_before-requires

@@ -1,6 +1,5 @@
 use Rattle.naive_base.proofs.Words.{arith}
-use Rattle.naive_plans.proofs.Chains.{none_counted, one_counted}
-use Rattle.naive_plans.proofs.occasions.Occasions.times_in.Goals.{else-has_second_at, then-has_second_at}
+use Rattle.naive_plans.proofs.{Chains.{none_counted, one_counted}, occasions.Occasions.times_in.Goals.{else-has_second_at, then-has_second_at}}
 use Rattle.naive_plans.proofs.occasions.Occasions.times_in.Goals as goal
 
 pub loop-second-preserved : goal.loop-second-preserved

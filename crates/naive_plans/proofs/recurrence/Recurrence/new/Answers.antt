@@ -1,5 +1,4 @@
-use Rattle.naive_base.proofs.Words.{arith}
-use Rattle.naive_base.proofs.Words.{to_z-of_z}
+use Rattle.naive_base.proofs.Words.{arith, to_z-of_z}
 use Rattle.naive_plans.proofs.RuleTimes.{has_times}
 use Rattle.naive_plans.proofs.recurrence.Recurrence.new.Goals as goal
 

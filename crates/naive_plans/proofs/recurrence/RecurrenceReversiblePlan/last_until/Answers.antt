@@ -1,7 +1,5 @@
-use Rattle.naive_base.proofs.Words.{arith}
-use Rattle.naive_base.proofs.Words.{of_z, rules, to_z, to_z-of_z, w64, ◌∙◌, ◌≡◌}
-use Rattle.naive_plans.proofs.Bits.{read_back}
-use Rattle.naive_plans.proofs.RuleTimes.{last_planned, none_planned}
+use Rattle.naive_base.proofs.Words.{arith, rules, to_z-of_z, ◌∙◌}
+use Rattle.naive_plans.proofs.{Bits.{read_back}, RuleTimes.{last_planned, none_planned}}
 use Rattle.naive_plans.proofs.recurrence.RecurrenceReversiblePlan.last_until.Goals as goal
 
 pub returns-in-None : goal.returns-in-None

@@ -1,4 +1,3 @@
-use Rattle.naive_base.proofs.Words.{floors, ints, rules}
 use Rattle.naive_base.proofs.Words.{arith, to_z-of_z}
 use Rattle.naive_plans.proofs.RuleParts.{not_month, not_month_day, not_weekday, on_date}
 use Rattle.naive_plans.proofs.rule.RecurrenceRule.has_date.Goals as goal

@@ -1,5 +1,4 @@
-use Rattle.naive_base.proofs.Words.{arith}
-use Rattle.naive_base.proofs.Words.{rules, to_z-of_z}
+use Rattle.naive_base.proofs.Words.{arith, rules, to_z-of_z}
 use Rattle.naive_plans.proofs.RuleParts.{weekday_in_month, weekday_in_year}
 use Rattle.naive_plans.proofs.rule.RecurrenceRule.has_weekday.Goals as goal
 

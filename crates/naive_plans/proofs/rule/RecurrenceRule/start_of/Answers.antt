@@ -1,7 +1,6 @@
 use Rattle.std.proofs.Common.{SFits}
 use Rattle.naive_base.proofs.Words.{arith, floor_div, ints, neg_ℤ, of_z, pos, to_z, to_z-of_z, w64, ◌*ℤ◌, ◌≡◌, ◌≤ℤ◌}
-use Rattle.naive_plans.proofs.Bits.{read_back}
-use Rattle.naive_plans.proofs.Periods.{year_by_month}
+use Rattle.naive_plans.proofs.{Bits.{read_back}, Periods.{year_by_month}}
 use Rattle.naive_plans.proofs.rule.RecurrenceRule.start_of.Goals as goal
 
 months : (c : goal.After-start_of_month) → to_z w64 (of_z w64 (to_z w64 (of_z w64 c.args.period) *ℤ pos 12)) ≡ c.args.period *ℤ pos 12
