@@ -44,7 +44,8 @@ module _ {r : RecurrenceRule} {start time : ℤ} where
       by_lt_z m end (none m own.occasion (omega (arith, ints)))
       (λ not. omega (arith, ints, long_before r.frequency (weekday_number r.week_start) time m (omega (arith, ints)), own.same))
 
-pub after_in_period : {r : RecurrenceRule} {start from end next : ℤ} (time : ℤ) (found : Option ℤ) → from ≡ time +ℤ pos 1 → IsFirstBetween (IsOccasion r start) from end next
+pub after_in_period : {r : RecurrenceRule} {start from end next : ℤ} (time : ℤ) (found : Option ℤ) → from ≡ time +ℤ pos 1
+    → IsFirstBetween (IsOccasion r start) from end next
     → MatchOption found (own_period r next ≡ own_period r time → ⊥) (λ l. (l ≡ next) × (own_period r next ≡ own_period r time))
     → MatchOption found (HasNoneLeft (around r start time) time) (λ l. IsFirstAfter (around r start time) time l)
 after_in_period {r = r} {next = next} time None is_from own other = λ m one later.

@@ -31,8 +31,9 @@ first_of_month y m day low high h =
 
 pub month_later : (l r least number : ℤ) → r ≡ day_number (floor_div least 12) (floor_mod least 12 + 1) 1 *ℤ pos 86_400 → least ≤ℤ number
     → number ≤ℤ month_number (floor_div l 86_400) → r ≤ℤ l
-month_later l r least number is below h = omega (arith, ints, floors, first_of_month (floor_div least 12) (floor_mod least 12 + 1) (floor_div l 86_400)
-    (omega arith) (omega (arith, ints, floors)) (omega (arith, ints, floors)))
+month_later l r least number is below h =
+    let from = first_of_month (floor_div least 12) (floor_mod least 12 + 1) (floor_div l 86_400) (omega arith) (omega (arith, ints, floors))
+    (omega (arith, ints, floors)) in omega (arith, ints, floors)
 
 -- ---- and the seconds before them
 year_high : (day : ℤ) → day ≤ℤ pos 4_000_000 → year_of day <ℤ pos 13_000
@@ -71,20 +72,22 @@ period_rises Monthly first a b le = month_rises (floor_div a 86_400) (floor_div 
 period_rises _ first a b le = omega (arith, ints, floors)
 
 month_before : (y : ℤ) (m : ℕ) (day : ℤ) → 1 ≤ m → m ≤ 12 → month_number day <ℤ (y *ℤ pos 12 +ℤ pos m -ℤ pos 1) → day <ℤ day_number y m 1
-month_before y m day low high h = grind (arith, ints, month_rises (day_number y m 1) day,
-    date_only (day_number y m 1) y m 1 (low, high, omega arith, least_days (is_leap y) m) refl)
+month_before y m day low high h =
+    let own = date_only (day_number y m 1) y m 1 (low, high, omega arith, least_days (is_leap y) m) refl in
+    grind (arith, ints, month_rises (day_number y m 1) day)
 
 pub month_earlier : (number most l r : ℤ) → r ≡ day_number (floor_div most 12) (floor_mod most 12 + 1) 1 *ℤ pos 86_400
     → ((k : ℤ) → k <ℤ number → k <ℤ pos 240_000 → k <ℤ most) → l <ℤ pos 345_600_086_400 → month_number (floor_div l 86_400) <ℤ number → l <ℤ r
 month_earlier number most l r is above in_years h =
     let high = year_high (floor_div l 86_400) (omega (arith, ints, floors)) in let month = date_is (floor_div l 86_400) in
     let own = above (month_number (floor_div l 86_400)) h (omega (arith, ints)) in
-    omega (arith, ints, floors, month_before (floor_div most 12) (floor_mod most 12 + 1) (floor_div l 86_400) (omega arith) (omega (arith, ints, floors))
-    (omega (arith, ints, floors)))
+    let before = month_before (floor_div most 12) (floor_mod most 12 + 1) (floor_div l 86_400) (omega arith) (omega (arith, ints, floors))
+    (omega (arith, ints, floors)) in omega (arith, ints, floors)
 
 -- ---- the rest of a month
 -- a day in the month of another one
-pub in_same_month : (day d : ℤ) → (day -ℤ pos (day_of_month day)) <ℤ d → d ≤ℤ (day +ℤ pos (days_in_month (is_leap (year_of day)) (month_of day) - day_of_month day))
+pub in_same_month : (day d : ℤ) → (day -ℤ pos (day_of_month day)) <ℤ d
+    → d ≤ℤ (day +ℤ pos (days_in_month (is_leap (year_of day)) (month_of day) - day_of_month day))
     → (month_of d ≡ month_of day) × (pos (day_of_month d) ≡ d -ℤ day +ℤ pos (day_of_month day))
 in_same_month day d after come =
     let own = date_is day in let k : ℕ = unsigned_abs (d -ℤ (day -ℤ pos (day_of_month day))) in let first : 1 ≤ k = omega (arith, ints) in
@@ -122,6 +125,7 @@ earlier_year a b le = grind (arith, ints, (year_from (year_of b) a).0, day_of_ye
 
 pub long_before : (f : Frequency) (first : ℕ) (l start : ℤ) → (l +ℤ pos 31_708_800) ≤ℤ start → period_of f first l <ℤ period_of f first start
 long_before Yearly first l start le = earlier_year (floor_div l 86_400) (floor_div start 86_400) (omega (arith, ints, floors))
-long_before Monthly first l start le = omega (arith, ints,
-    earlier_year (floor_div l 86_400) (floor_div start 86_400) (omega (arith, ints, floors)), date_is (floor_div l 86_400), date_is (floor_div start 86_400))
+long_before Monthly first l start le =
+    let year = earlier_year (floor_div l 86_400) (floor_div start 86_400) (omega (arith, ints, floors)) in
+    omega (arith, ints, date_is (floor_div l 86_400), date_is (floor_div start 86_400))
 long_before _ first l start le = omega (arith, ints, floors)

@@ -82,8 +82,9 @@ module _ {r : RecurrenceRule} {start : ℤ} (low : neg_ℤ (pos 62_167_219_200) 
       → next ≡ last -ℤ pos 1 → AreTo r start until next
   more_to {last = last} h own not is_next = (
     omega (arith, ints),
-    λ m time come. omega (arith, ints, strictly m last (own.greatest m (time_is_wide time) time.occasion (h.1 m time come))
-        (λ same. not (rw same at time.position))),
+    λ m time come.
+        let less = strictly m last (own.greatest m (time_is_wide time) time.occasion (h.1 m time come)) (λ same. not (rw same at time.position)) in
+        omega (arith, ints),
   )
 
 -- the times of the rule r with that start
@@ -133,7 +134,8 @@ module _ {r : RecurrenceRule} {start : ℤ} where
   count_last same bound = grind (arith, ints, floors)
 
 -- the rule's times up to `last` are those within the recurrence's end
-module _ (r : RecurrenceRule) (start : ℤ) (end : RecurrenceEnd) {last : ℤ} (own : (l : ℤ) → IsRuleTime r start l → (l ≤ℤ last) ↔ IsWithinEnd r start end l) where
+module _ (r : RecurrenceRule) (start : ℤ) (end : RecurrenceEnd) {last : ℤ}
+    (own : (l : ℤ) → IsRuleTime r start l → (l ≤ℤ last) ↔ IsWithinEnd r start end l) where
   pub end_shortened : {short : ℤ} → ((l : ℤ) → IsRuleTime r start l → (l ≤ℤ short) ↔ (l ≤ℤ last)) → (l : ℤ) → IsRuleTime r start l
       → (l ≤ℤ short) ↔ IsWithinEnd r start end l
   end_shortened same l time = (λ le. (own l time).0 ((same l time).0 le), λ within. (same l time).1 ((own l time).1 within))

@@ -13,7 +13,8 @@ times-preserved c =
 
 pub returns-in-None-clause-last : goal.returns-in-None-clause-last
 returns-in-None-clause-last c =
-    all_counted _ c.times.invariant.1 _ c.times.invariant.0 c.second_after.ensures refl (λ l one. one.in_years) (rw (read_back (record { sfits = c.second_after.type_inv })) at c.in-None.ensures)
+    all_counted _ c.times.invariant.1 _ c.times.invariant.0 c.second_after.ensures refl (λ l one. one.in_years)
+    (rw (read_back (record { sfits = c.second_after.type_inv })) at c.in-None.ensures)
 
 pub returns-clause-last : goal.returns-clause-last
 returns-clause-last c =

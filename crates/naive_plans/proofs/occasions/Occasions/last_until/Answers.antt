@@ -38,5 +38,6 @@ returns c =
     let ends = rw (read_back (record { sfits = c.second_before_all-earliest.type_inv }), c.second_before_all-earliest.ensures) at
     c.ends_after.ensures in
     none_until _ _ _ _ _ inv.2
-    (by_lt_z (c.args.self.now.start -ℤ pos 31_708_800) (to_z w64 c.days.day-bits *ℤ pos 86_400 +ℤ pos 86_400) (λ less. grind (arith, ends.1 less, c.days-test.false))
+    (by_lt_z (c.args.self.now.start -ℤ pos 31_708_800) (to_z w64 c.days.day-bits *ℤ pos 86_400 +ℤ pos 86_400)
+    (λ less. grind (arith, ends.1 less, c.days-test.false))
     (λ not. not))
