@@ -20,7 +20,7 @@ module _ {c : Cron} {day : ℤ} {second : ℕ} where
 
   pub found : {minute : ℕ} → minute < 1440 → IsLeft c day second minute → IsCronDay c day → IsCronMinute c minute
       → IsFirstSecondFrom (IsCronTime c day) second (minute * 60)
-  found {minute = minute} short h on at = grind (arith)
+  found = grind (arith)
 
   pub passed : {minute : ℕ} → IsLeft c day second minute → (IsCronMinute c minute → ⊥) → IsLeft c day second (minute + 1)
   passed {minute = minute} h not = record {
@@ -31,18 +31,18 @@ module _ {c : Cron} {day : ℤ} {second : ℕ} where
   }
 
   pub none : IsLeft c day second 1440 → HasNoSecondFrom (IsCronTime c day) second
-  none h k short planned from = grind (arith)
+  none = grind (arith)
 
 -- ---- a line without a date
 longest : (b : Bool) (m : ℕ) → days_in_month b m ≤ days_in_month true m
-longest b m = grind (arith)
+longest = grind (arith)
 
 pub no_date : (c : Cron) (day : ℤ) → c.either ≡ false → ListsNoDateBefore c 13 → IsCronDay c day → ⊥
-no_date c day both none on = grind (arith, date_is, longest, none)
+no_date = grind (arith, date_is, longest, none)
 
 pub no_date_by_either : (c : Cron) (day : ℤ) → (c.either ≡ false → ⊥) → ListsNoDateBefore c 13 → (IsTrue (get_or c.weekdays (weekday_of day) false) → ⊥)
     → IsCronDay c day → ⊥
-no_date_by_either c day either none week on = grind (arith, date_is, longest, none)
+no_date_by_either = grind (arith, date_is, longest, none)
 
 -- ---- and back
 -- all that it has on that day up to a second comes before a minute

@@ -18,7 +18,7 @@ abbrev pub around : RecurrenceRule → ℤ → ℤ → ℤ → Type 0
 around r start time = IsInPeriod r start (own_period r time)
 
 rises : (r : RecurrenceRule) (a b : ℤ) → a ≤ℤ b → own_period r a ≤ℤ own_period r b
-rises r = grind (arith, ints, period_rises)
+rises = grind (arith, ints, period_rises)
 
 -- ---- the time before one, and the one after it
 -- the times of the rule r with that start, in the period of `time`
@@ -28,7 +28,7 @@ module _ {r : RecurrenceRule} {start time : ℤ} where
 
   pub none_before : neg_ℤ (pos 62_167_219_200) ≤ℤ start → time <ℤ pos 253_402_300_800
       → HasNoneUntil (IsOccasion r start) (time -ℤ pos 1) → HasNoneUpTo (around r start time) (time -ℤ pos 1)
-  none_before low short none m own come = grind (arith, ints, occasion_is_wide)
+  none_before = grind (arith, ints, occasion_is_wide)
 
   pub before_in_period : {last : ℤ} (found : Option ℤ) → neg_ℤ (pos 62_167_219_200) ≤ℤ start → time <ℤ pos 253_402_300_800
       → IsLastUntil (IsOccasion r start) (time -ℤ pos 1) last
@@ -192,7 +192,7 @@ module _ {set : ℤ → Type 0} {n l : ℤ} where
   )
 
   pub not_zeroth : (pos 1 ≤ℤ n → ⊥) → (n ≤ℤ neg_ℤ (pos 1) → ⊥) → IsNth set n l → ⊥
-  not_zeroth no_front no_end h = grind (arith, ints)
+  not_zeroth = grind (arith, ints)
 
   pub told_nth : (side : Side) (k : ℕ) {told : Bool} → n ≡ number side k → IsTrue told ↔ Has side set k l → IsTrue told ↔ IsNth set n l
   told_nth side k is own = let same = nth_is side k is in (λ yes. same.0 (own.0 yes), λ nth. own.1 (same.1 nth))
