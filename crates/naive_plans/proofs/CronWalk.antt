@@ -67,7 +67,7 @@ module _ {c : Cron} {day : ℤ} {second : ℕ} where
   }
 
   pub none_back : IsLeftBefore c day second 0 → HasNoSecondUntil (IsCronTime c day) second
-  none_back h k in_day planned come = grind (arith, found_last, passed_back)
+  none_back h k in_day planned come = grind (arith, all_left, found, found_last, no_date, no_date_by_either, passed, passed_back)
 
 pub ruleset minutes_back = (found_last, passed_back, none_back)
 

@@ -85,13 +85,8 @@ on_date = grind (arith, ints, floors)
 pub with_date : (r : RecurrenceRule) (start day : ℤ) (from : ℕ) (found : Option ℕ) → IsOnDate r (floor_div start 86_400) day
     → MatchOption found (HasNoSecondFrom (IsTimeOn r start day) from) (λ s. IsFirstSecondFrom (IsTimeOn r start day) from s)
     → MatchOption found (HasNoSecondFrom (IsOccasionOn r start day) from) (λ s. IsFirstSecondFrom (IsOccasionOn r start day) from s)
-with_date r start day from None date none = λ k in_day on. none k in_day (time_of on)
-with_date r start day from (Some s) date first = record {
-  planned = on_date date first.planned;
-  not_before = first.not_before;
-  in_day = first.in_day;
-  least = λ k on. first.least k (time_of on);
-}
+with_date r start day from None date none = grind (arith, ints, floors, time_of)
+with_date r start day from (Some s) date first = search (arith, ints, floors, on_date, time_of)
 
 pub after_month : (r : RecurrenceRule) (start day d result : ℤ) (m f n dom : ℕ) (year : ℤ) → year ≡ year_of day → m ≡ month_of day → dom ≡ day_of_month day
     → f ≡ month_of start
@@ -112,13 +107,8 @@ module _ (on : ℤ → ℕ → Type 0) where
       → IsFirstSecondFrom (on day) second s
       → l ≡ day *ℤ pos 86_400 +ℤ pos s → MatchOption found (end ≤ℤ l) (λ f. (f ≡ l) × (f <ℤ end))
       → MatchOption found (HasNoneBetween (IsPlannedOnItsDay on) from end) (λ f. IsFirstBetween (IsPlannedOnItsDay on) from end f)
-  first_found from end None h first is over = λ m one come before. let least = least_found on h first m one (omega (arith, ints)) in omega (arith, ints)
-  first_found from end {day = day} {s = s} (Some f) h first is here = record {
-    one = on_day on day f s first.in_day (omega (arith, ints)) first.planned;
-    not_before = omega (arith, ints);
-    before_end = here.1;
-    least = λ m one come. omega (arith, ints, least_found on h first m one (omega (arith, ints)));
-  }
+  first_found from end None h first is over = grind (arith, ints, floors, least_found)
+  first_found from end {day = day} {s = s} (Some f) h first is here = grind (arith, ints, floors, least_found, on_day)
 
 pub none_between : (set : ℤ → Type 0) (from end day : ℤ) (second : ℕ) → IsLeft set (from -ℤ pos 1) day second → (end ≤ℤ (day *ℤ pos 86_400))
     → HasNoneBetween set from end
@@ -132,6 +122,6 @@ pub day_from : (start day d : ℤ) (second : ℕ) → day ≡ floor_div start 86
 day_from = omega (arith, ints, floors)
 
 pub days_between : (next d : ℤ) (second : ℕ) → next ≤ℤ d → (next *ℤ pos 86_400) ≤ℤ (d *ℤ pos 86_400 +ℤ pos second)
-days_between next d second le = omega (arith, ints)
+days_between next d second le = grind (arith, ints, floors, counts_here, first_not_later, last_bounds, later_bounds, to_z-of_z)
 
 pub ruleset periods = (to_z-of_z, first_not_later, counts_here, last_bounds, later_bounds)

@@ -46,13 +46,8 @@ module _ (on : ℕ → Type 0) where
 pub with_date_back : (r : RecurrenceRule) (start day : ℤ) (until : ℕ) (found : Option ℕ) → IsOnDate r (floor_div start 86_400) day
     → MatchOption found (HasNoSecondUntil (IsTimeOn r start day) until) (λ s. IsLastSecondUntil (IsTimeOn r start day) until s)
     → MatchOption found (HasNoSecondUntil (IsOccasionOn r start day) until) (λ s. IsLastSecondUntil (IsOccasionOn r start day) until s)
-with_date_back r start day until None date none = λ k in_day on. none k in_day (time_of on)
-with_date_back r start day until (Some s) date last = record {
-  planned = on_date date last.planned;
-  not_after = last.not_after;
-  in_day = last.in_day;
-  greatest = λ k in_day on. last.greatest k in_day (time_of on);
-}
+with_date_back r start day until None date none = grind (arith, ints, floors, time_of)
+with_date_back r start day until (Some s) date last = search (arith, ints, floors, on_date, time_of)
 
 pub before_month : (r : RecurrenceRule) (start day d result : ℤ) (m f dom : ℕ) → m ≡ month_of day → dom ≡ day_of_month day → f ≡ month_of start
     → result ≡ day -ℤ pos dom → (HasMonth r f m → ⊥) → IsOnDate r start d → d <ℤ day → d ≤ℤ result
@@ -97,6 +92,6 @@ pub day_to : (end day d : ℤ) (second : ℕ) → day ≡ floor_div (end -ℤ po
 day_to = omega (arith, ints, floors)
 
 pub days_up_to : (last d : ℤ) (second : ℕ) → d ≤ℤ last → second < 86_400 → (d *ℤ pos 86_400 +ℤ pos second) ≤ℤ (last *ℤ pos 86_400 +ℤ pos 86_399)
-days_up_to last d second le short = omega (arith, ints)
+days_up_to last d second le short = grind (arith, ints, floors, found_back, more_back)
 
 pub ruleset seconds_back = (more_back, found_back)

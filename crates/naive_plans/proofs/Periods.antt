@@ -73,8 +73,8 @@ month_rises a b le =
     ])
 
 pub period_rises : (f : Frequency) (first : ℕ) (a b : ℤ) → a ≤ℤ b → period_of f first a ≤ℤ period_of f first b
-period_rises Yearly first a b le = year_rises (floor_div a 86_400) (floor_div b 86_400) (omega (arith, ints, floors))
-period_rises Monthly first a b le = month_rises (floor_div a 86_400) (floor_div b 86_400) (omega (arith, ints, floors))
+period_rises Yearly first a b le = grind (arith, ints, floors, year_rises)
+period_rises Monthly first a b le = grind (arith, ints, floors, month_rises)
 period_rises _ first a b le = omega (arith, ints, floors)
 
 month_before : (y : ℤ) (m : ℕ) (day : ℤ) → 1 ≤ m → m ≤ 12 → month_number day <ℤ (y *ℤ pos 12 +ℤ pos m -ℤ pos 1) → day <ℤ day_number y m 1
@@ -128,7 +128,7 @@ earlier_year : (a b : ℤ) → (a +ℤ pos 366) ≤ℤ b → year_of a <ℤ year
 earlier_year a b le = grind (arith, ints, (year_from (year_of b) a).0, day_of_year_is b, days_at_most (year_of b))
 
 pub long_before : (f : Frequency) (first : ℕ) (l start : ℤ) → (l +ℤ pos 31_708_800) ≤ℤ start → period_of f first l <ℤ period_of f first start
-long_before Yearly first l start le = earlier_year (floor_div l 86_400) (floor_div start 86_400) (omega (arith, ints, floors))
+long_before Yearly first l start le = grind (arith, ints, floors, earlier_year)
 long_before Monthly first l start le = omega (arith, ints,
     earlier_year (floor_div l 86_400) (floor_div start 86_400) (omega (arith, ints, floors)), date_is (floor_div l 86_400), date_is (floor_div start 86_400))
 long_before _ first l start le = omega (arith, ints, floors)

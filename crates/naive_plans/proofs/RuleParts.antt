@@ -55,6 +55,6 @@ pub on_date : (r : RecurrenceRule) (start day year : ℤ) (m d fm fd n : ℕ) �
     → fm ≡ month_of start → fd ≡ day_of_month start
     → n ≡ days_in_month (is_leap year) m → HasMonth r fm m → HasMonthDay r fd (d - 1) (n - d) d → HasWeekday r start day (d - 1) (n - d) → IsInWeek r day
     → IsOnYearDay r day → IsOnDate r start day
-on_date r start day year m d fm fd n is_year is_month is first_month first days month month_day weekday week year_day = grind (arith, ints, floors)
+on_date r start day year m d fm fd n is_year is_month is first_month first days month month_day weekday week year_day = grind (arith, ints, floors, fourth_is, to_z-of_z)
 
 pub ruleset fourth = (to_z-of_z, fourth_is)

@@ -29,7 +29,7 @@ AreFrom r start from left = (from ≤ℤ left) × ((m : ℤ) → IsRuleTime r st
 -- the times of the rule r with that start
 module _ {r : RecurrenceRule} {start : ℤ} where
   pub none_from : {from left end : ℤ} → AreFrom r start from left → HasNoneBetween (IsOccasion r start) left end → HasNoneBetween (IsRuleTime r start) from end
-  none_from h none m time come = none m time.occasion (h.1 m time come)
+  none_from h none m time come = search (arith, ints, floors)
 
   pub first_from : {from left end l : ℤ} → start ≤ℤ from → end ≤ℤ pos 253_402_300_800 → AreFrom r start from left
       → IsFirstBetween (IsOccasion r start) left end l → IsAtPosition r start l → IsFirstBetween (IsRuleTime r start) from end l
@@ -62,7 +62,7 @@ pub from_later : (r : RecurrenceRule) (start after last from end : ℤ) (found :
     → end ≡ last +ℤ pos 1
     → MatchOption found (HasNoneBetween (IsRuleTime r start) from end) (λ l. IsFirstBetween (IsRuleTime r start) from end l)
     → MatchOption found (HasNoneLater (IsRuleTime r start) after last) (λ l. IsFirstLater (IsRuleTime r start) after last l)
-from_later r start after last from end None later least is none = λ m time come le. none m time (least m come time.from_start) (omega (arith, ints))
+from_later r start after last from end None later least is none = search (arith, ints, floors)
 from_later r start after last from end (Some l) later least is first = record {
   one = first.one;
   later = let come = first.not_before in omega (arith, ints);
