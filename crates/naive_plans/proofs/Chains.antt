@@ -35,7 +35,7 @@ AreFew r start length second counted = (p from to : ℤ) (n : ℕ) → IsChain (
 -- the rule r, whose periods have `length` seconds
 module _ (r : RecurrenceRule) (start : ℤ) (length : ℕ) (kind : IsLength r length) where
   falls : (a b p : ℤ) → own_period r a ≡ p → own_period r b ≡ p → a <ℤ b → floor_mod a length < floor_mod b length
-  falls = grind (arith, ints, floors)
+  falls = grind (arith, ints)
 
   has_its_second : (l : ℤ) → IsOccasion r start l → HasSecondAt r (floor_mod start 86_400) length (floor_mod l length)
   has_its_second l one = elim kind [
@@ -68,7 +68,7 @@ module _ (r : RecurrenceRule) (start : ℤ) (length : ℕ) (kind : IsLength r le
 module _ (r : RecurrenceRule) (start : ℤ) where
   pub never_nth : (count : ℕ) → ((p from to : ℤ) (n : ℕ) → IsChain (IsInPeriod r start p) from n to → n < count) → (p l n : ℤ) → IsBeyond count n
       → IsNth (IsInPeriod r start p) n l → ⊥
-  never_nth = grind (arith, ints, floors, chain_after, chain_before)
+  never_nth = grind (arith, ints, chain_after, chain_before)
 
   pub never_placed : (IsAbsent r.by_set_position.now → ⊥) → ((p l n : ℤ) → Contains r.by_set_position.now n → IsNth (IsInPeriod r start p) n l → ⊥) → (l : ℤ)
       → IsAtPosition r start l → ⊥

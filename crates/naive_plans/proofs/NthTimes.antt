@@ -105,7 +105,7 @@ module _ (set : ℤ → Type 0) where
 
   outermost : (side : Side) (l : ℤ) → set l → HasNoNext side set l → Has side set zero l
   outermost Front l one none = grind (arith, ints, one)
-  outermost End l one none = grind (arith, ints, one)
+  outermost End l one none = grind (arith, ints)
 
   not_further : (side : Side) (n : ℕ) (l : ℤ) → HasNoNext side set l → Has side set (suc n) l → ⊥
   not_further Front n l none h = none h.0 (member Front n h.0 h.1) (omega (arith, ints))

@@ -18,14 +18,14 @@ use Rattle.naive_plans.specs.declared.rule.RecurrenceRule.{RecurrenceRule}
 -- the rule r with that start, up to a second of `day`
 module _ (r : RecurrenceRule) (start day : ℤ) (second : ℕ) where
   pub hour_back : (HasHour r (floor_mod start 86_400) second → ⊥) → IsSkippedBack (IsTimeOn r start day) second (second / 3600 * 3600)
-  hour_back = grind (arith, ints, floors)
+  hour_back = grind (arith, ints)
 
   pub minute_back : (HasMinute r (floor_mod start 86_400) second → ⊥) → IsSkippedBack (IsTimeOn r start day) second (second / 60 * 60)
-  minute_back = grind (arith, ints, floors)
+  minute_back = grind (arith, ints)
 
   pub period_back : {l e : ℤ} {end : ℕ} → l ≡ day *ℤ pos 86_400 +ℤ pos second → IsEndOfLast r start l e → end ≤ second
       → ((k : ℕ) → k < second → (day *ℤ pos 86_400 +ℤ pos k) <ℤ e → k < end) → IsSkippedBack (IsTimeOn r start day) second end
-  period_back = grind (arith, ints, floors)
+  period_back = grind (arith, ints)
 
 -- none comes from a second of the day on and up to another one
 abbrev pub IsPassedBack : (ℕ → Type 0) → ℕ → ℕ → Type 0
@@ -34,13 +34,13 @@ IsPassedBack on until left = (left ≤ until + 1) × ((k : ℕ) → k < 86_400 �
 -- the seconds of a day that `on` lists
 module _ (on : ℕ → Type 0) where
   pub one_back : (second : ℕ) → (on second → ⊥) → IsSkippedBack on second second
-  one_back = grind (arith, ints, floors)
+  one_back = grind (arith, ints)
 
   pub more_back : (until left end : ℕ) → IsPassedBack on until left → 0 < left → IsSkippedBack on (left - 1) end → IsPassedBack on until end
-  more_back = grind (arith, ints, floors)
+  more_back = grind (arith, ints)
 
   pub found_back : (until left : ℕ) → until < 86_400 → IsPassedBack on until left → 0 < left → on (left - 1) → IsLastSecondUntil on until (left - 1)
-  found_back = grind (arith, ints, floors)
+  found_back = grind (arith, ints)
 
 -- ---- days
 pub with_date_back : (r : RecurrenceRule) (start day : ℤ) (until : ℕ) (found : Option ℕ) → IsOnDate r (floor_div start 86_400) day
@@ -60,7 +60,7 @@ in_month day dom is = omega (arith, date_is day, month_bounds (is_leap (year_of 
 -- an earlier day with none after it
 pub left_earlier : (on : ℤ → ℕ → Type 0) (until day last : ℤ) → IsLeftBefore (IsPlannedOnItsDay on) until (day -ℤ pos 1) 86_399 → last <ℤ day
     → ((d : ℤ) (second : ℕ) → on d second → second < 86_400 → d <ℤ day → d ≤ℤ last) → IsLeftBefore (IsPlannedOnItsDay on) until last 86_399
-left_earlier = grind (arith, ints, floors)
+left_earlier = grind (arith, ints)
 
 -- no occasion comes 367 days before the start
 pub after_all : (r : RecurrenceRule) (start l : ℤ) → IsOccasion r start l → (start -ℤ pos 31_708_800) <ℤ l
@@ -92,6 +92,6 @@ pub day_to : (end day d : ℤ) (second : ℕ) → day ≡ floor_div (end -ℤ po
 day_to = omega (arith, ints, floors)
 
 pub days_up_to : (last d : ℤ) (second : ℕ) → d ≤ℤ last → second < 86_400 → (d *ℤ pos 86_400 +ℤ pos second) ≤ℤ (last *ℤ pos 86_400 +ℤ pos 86_399)
-days_up_to last d second le short = grind (arith, ints, floors, found_back, more_back)
+days_up_to last d second le short = omega (arith, ints)
 
 pub ruleset seconds_back = (more_back, found_back)

@@ -19,7 +19,7 @@ least_days = grind (arith, nat_tests)
 
 same_year : (y : ℤ) (m k d : ℕ) → m ≤ k → 1 ≤ d → day_number y m 1 ≤ℤ day_number y k d
 unfolding day_number
-same_year = grind (arith, ints, floors, months_rise)
+same_year = grind (arith, ints, months_rise)
 
 -- a day is in a year or a later one if and only if it isn't before the year
 year_from : (y day : ℤ) → (y ≤ℤ year_of day → year_start y ≤ℤ day) × (year_of day <ℤ y → day <ℤ year_start y)
@@ -48,7 +48,7 @@ year_high day le = let start : year_start (pos 13_000) ≡ pos 4_028_625 = refl 
 
 -- a year begins with its first month
 pub year_by_month : (y day : ℤ) → (y ≤ℤ year_of day → (y *ℤ pos 12) ≤ℤ month_number day) × (year_of day <ℤ y → month_number day <ℤ (y *ℤ pos 12))
-year_by_month = grind (arith, ints, floors, date_is)
+year_by_month = grind (arith, ints, date_is)
 
 -- ---- later seconds have later periods
 year_rises : (a b : ℤ) → a ≤ℤ b → year_of a ≤ℤ year_of b
@@ -101,7 +101,7 @@ in_same_month day d after come =
 
 -- ---- the periods that count
 pub multiples_apart : (n t k : ℕ) → (k * n ≤ t * n) ⊎ ((t + 1) * n ≤ k * n)
-multiples_apart = grind (arith, ints, floors, mul-le-mul_right)
+multiples_apart = grind (arith, ints, mul-le-mul_right)
 
 pub last_one : (n : ℕ) (first period last : ℤ) (passed : ℕ) → 1 ≤ n → period ≡ first +ℤ pos passed → last ≡ first +ℤ pos (passed / n * n)
     → IsLastPeriod n first period last

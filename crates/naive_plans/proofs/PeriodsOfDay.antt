@@ -53,7 +53,7 @@ has_period r start day second length kind on = elim kind [
 ]
 
 period_under : (r : RecurrenceRule) (second length : ℕ) → IsPartOfHours r length → second < 86_400 → second / length < 86_400 / length
-period_under = grind (arith, ints, floors)
+period_under = grind (arith, ints)
 
 pub never_met : (r : RecurrenceRule) (start : ℤ) (length step : ℕ) → IsPartOfHours r length → 86_400 / length % step ≡ 0 → r.interval % step ≡ 0
     → ((k : ℕ) → k < 86_400 / length → k % step ≡ floor_mod start 86_400 / length % step

@@ -48,7 +48,7 @@ module _ {r : RecurrenceRule} {start : ℤ} where
   )
 
   pub none_left : {after last from : ℤ} → ((m : ℤ) → after <ℤ m → start ≤ℤ m → from ≤ℤ m) → last <ℤ from → HasNoneLater (IsRuleTime r start) after last
-  none_left = grind (arith, ints, floors)
+  none_left = grind (arith, ints)
 
   pub next_later : {last local l : ℤ} → IsFirstLater (IsRuleTime r start) local last l → IsNextAfter (IsPlannedUpTo r start last) local l
   next_later first = record { planned = (first.one, first.not_after); after = first.later; least = λ m wide own come. first.least m own.0 come }
@@ -56,7 +56,7 @@ module _ {r : RecurrenceRule} {start : ℤ} where
   -- ---- ends
   pub none_up : {last s : ℤ} → ((l : ℤ) → IsRuleTime r start l → l ≤ℤ last → ⊥) → s ≡ start -ℤ pos 1
       → (l : ℤ) → IsRuleTime r start l → (l ≤ℤ s) ↔ (l ≤ℤ last)
-  none_up = grind (arith, ints, floors)
+  none_up = grind (arith, ints)
 
 pub from_later : (r : RecurrenceRule) (start after last from end : ℤ) (found : Option ℤ) → after <ℤ from → ((m : ℤ) → after <ℤ m → start ≤ℤ m → from ≤ℤ m)
     → end ≡ last +ℤ pos 1
@@ -78,7 +78,7 @@ AreTo r start until to = (to ≤ℤ until) × ((m : ℤ) → IsRuleTime r start 
 -- the times of the rule r, with a start from the year 0 on
 module _ {r : RecurrenceRule} {start : ℤ} (low : neg_ℤ (pos 62_167_219_200) ≤ℤ start) where
   time_is_wide : {l : ℤ} → IsRuleTime r start l → IsWide l
-  time_is_wide = omega (arith, ints, floors)
+  time_is_wide = omega (arith, ints)
 
   pub none_to : {last : ℤ} → HasNoneUntil (IsRuleTime r start) last → (l : ℤ) → IsRuleTime r start l → l ≤ℤ last → ⊥
   none_to none l time = none l (time_is_wide time) time
@@ -87,7 +87,7 @@ module _ {r : RecurrenceRule} {start : ℤ} (low : neg_ℤ (pos 62_167_219_200) 
   same_to own l time = (λ le. omega (arith, ints), own.greatest l (time_is_wide time) time)
 
   pub bounded_to : {last s : ℤ} → IsLastUntil (IsRuleTime r start) last s → IsBounded s
-  bounded_to = omega (arith, ints, floors)
+  bounded_to = omega (arith, ints)
 
   pub more_to : {until to last next : ℤ} → AreTo r start until to → IsLastUntil (IsOccasion r start) to last → (IsAtPosition r start last → ⊥)
       → next ≡ last -ℤ pos 1 → AreTo r start until next
@@ -100,7 +100,7 @@ module _ {r : RecurrenceRule} {start : ℤ} (low : neg_ℤ (pos 62_167_219_200) 
 -- the times of the rule r with that start
 module _ {r : RecurrenceRule} {start : ℤ} where
   pub none_to_start : {until to : ℤ} → AreTo r start until to → (start ≤ℤ to → ⊥) → HasNoneUntil (IsRuleTime r start) until
-  none_to_start = grind (arith, ints, floors)
+  none_to_start = grind (arith, ints)
 
   pub none_of_them : {until to : ℤ} → AreTo r start until to → HasNoneUntil (IsOccasion r start) to → HasNoneUntil (IsRuleTime r start) until
   none_of_them h none m wide time come = none m wide time.occasion (h.1 m time come)
@@ -127,13 +127,13 @@ module _ {r : RecurrenceRule} {start : ℤ} where
 
   pub none_planned : {local last until : ℤ} → ((m : ℤ) → m ≤ℤ local → m ≤ℤ last → m ≤ℤ until)
       → HasNoneUntil (IsRuleTime r start) until → HasNoneUntil (IsPlannedUpTo r start last) local
-  none_planned most none m wide time come = grind (arith, ints, floors)
+  none_planned most none m wide time come = grind (arith, ints)
 
   pub no_rule_time : ((day : ℤ) (second : ℕ) → second < 86_400 → IsTimeOn r start day second → ⊥) → (l : ℤ) → IsRuleTime r start l → ⊥
   no_rule_time = grind (arith, ints, floors, time_of)
 
   pub never_last : IsLastSecond r start Never (pos 253_402_300_799)
-  never_last = omega (arith, ints, floors)
+  never_last = omega (arith, ints)
 
   pub until_last : {last : ℤ} {until : NaiveDateTime} → ((l : ℤ) → l <ℤ pos 253_402_300_800 → (l ≤ℤ last) ↔ (l ≤ℤ (reading until).s))
       → (neg_ℤ (pos 10_000_000_000_000) ≤ℤ last) × (last <ℤ pos 253_402_300_800) → IsLastSecond r start (Until until) last
@@ -141,7 +141,7 @@ module _ {r : RecurrenceRule} {start : ℤ} where
 
   pub count_last : {last : ℤ} {count : ℕ} → ((l : ℤ) → IsRuleTime r start l → (l ≤ℤ last) ↔ IsWithinCount r start count l)
       → (neg_ℤ (pos 10_000_000_000_000) ≤ℤ last) × (last <ℤ pos 253_402_300_800) → IsLastSecond r start (Count count) last
-  count_last = grind (arith, ints, floors)
+  count_last = grind (arith, ints)
 
 -- the rule's times up to `last` are those within the recurrence's end
 module _ (r : RecurrenceRule) (start : ℤ) (end : RecurrenceEnd) {last : ℤ} (own : (l : ℤ) → IsRuleTime r start l → (l ≤ℤ last) ↔ IsWithinEnd r start end l) where

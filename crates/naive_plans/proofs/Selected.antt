@@ -28,6 +28,6 @@ last_kept = grind (arith, ints)
 
 pub passed_back : (plan kept : ℤ → Type 0) (local until last before : ℤ) → AreUpTo plan kept local until → IsLastUntil plan until last → (kept last → ⊥)
     → before ≡ last -ℤ pos 1 → AreUpTo plan kept local before
-passed_back plan kept local until last before left own not is = grind (arith, ints, next_kept, passed_one)
+passed_back plan kept local until last before left own not is = grind (arith, ints)
 
 pub ruleset kept_later = (next_kept, passed_one)

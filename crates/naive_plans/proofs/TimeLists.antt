@@ -20,7 +20,7 @@ IsLastAmong xs until n (Some d) = Contains xs d × ((reading d).s ≤ℤ until)
 -- the list, of which the first n local times are all
 module _ (xs : List NaiveDateTime) (n : ℕ) (all : length xs ≤ n) where
   place : {m : ℤ} (has : HasLocalTime xs m) → (has.listed.0 < n) × ((reading (get_or xs has.listed.0 has.local)).s ≡ m)
-  place = grind (arith)
+  place = grind arith
 
   pub first_done : (after : ℤ) (found : Option NaiveDateTime) → IsFirstAmong xs after n found
       → MatchOption found (HasNoneAfter (HasLocalTime xs) after) (λ l. IsNextAfter (HasLocalTime xs) after (reading l).s)
