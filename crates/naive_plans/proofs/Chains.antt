@@ -12,7 +12,7 @@ module _ (set : ℤ → Type 0) where
   last_one from (suc n) to h = h.2
 
   one_more : (from k : ℤ) (n : ℕ) (to : ℤ) → set from → from <ℤ k → IsChain set k n to → IsChain set from (suc n) to
-  one_more from k zero to one less h = (from, (one, refl), h.0, omega (arith, ints))
+  one_more from k zero to one less h = grind (arith, ints, floors)
   one_more from k (suc n) to one less h = (h.0, one_more from k n h.0 one less h.1, h.2, h.3)
 
   chain_before : (n : ℕ) (l : ℤ) → HasBefore set n l → (from : ℤ) × IsChain set from n l
@@ -31,7 +31,7 @@ AreFew r start length second counted = (p from to : ℤ) (n : ℕ) → IsChain (
 -- the rule r, whose periods have `length` seconds
 module _ (r : RecurrenceRule) (start : ℤ) (length : ℕ) (kind : IsLength r length) where
   falls : (a b p : ℤ) → own_period r a ≡ p → own_period r b ≡ p → a <ℤ b → floor_mod a length < floor_mod b length
-  falls a b p first last less = grind (arith, ints, floors)
+  falls = grind (arith, ints)
 
   has_its_second : (l : ℤ) → IsOccasion r start l → HasSecondAt r (floor_mod start 86_400) length (floor_mod l length)
   has_its_second l one = elim kind [
@@ -49,9 +49,7 @@ module _ (r : RecurrenceRule) (start : ℤ) (length : ℕ) (kind : IsLength r le
 
   pub one_counted : (second counted : ℕ) → AreFew r start length second counted → AreFew r start length (second + 1) (counted + 1)
   one_counted second counted few p from to zero h less = omega arith
-  one_counted second counted few p from to (suc n) h less =
-      let rise = falls h.0 to p (last_one (IsInPeriod r start p) from n h.0 h.1).same h.2.same h.3 in
-      omega (arith, few p from h.0 n h.1 (omega arith))
+  one_counted second counted few p from to (suc n) h less = search (arith, ints, floors, falls, last_one)
 
   pub none_counted : (second counted : ℕ) → (HasSecondAt r (floor_mod start 86_400) length second → ⊥) → AreFew r start length second counted
       → AreFew r start length (second + 1) counted
@@ -66,7 +64,7 @@ module _ (r : RecurrenceRule) (start : ℤ) (length : ℕ) (kind : IsLength r le
 module _ (r : RecurrenceRule) (start : ℤ) where
   pub never_nth : (count : ℕ) → ((p from to : ℤ) (n : ℕ) → IsChain (IsInPeriod r start p) from n to → n < count) → (p l n : ℤ) → IsBeyond count n
       → IsNth (IsInPeriod r start p) n l → ⊥
-  never_nth count few p l n beyond nth = grind (arith, ints, floors, chain_after, chain_before)
+  never_nth = grind (arith, ints, chain_after, chain_before)
 
   pub never_placed : (IsAbsent r.by_set_position.now → ⊥) → ((p l n : ℤ) → Contains r.by_set_position.now n → IsNth (IsInPeriod r start p) n l → ⊥) → (l : ℤ)
       → IsAtPosition r start l → ⊥

@@ -20,13 +20,13 @@ module _ (n a : ℕ) where
   next_multiple k none less = omega (arith, multiples_apart n (a / n) (k / n), div-add-mod' a n, div-add-mod' k n)
 
   whole : a - a % n ≡ a / n * n
-  whole = omega (arith, ints, floors)
+  whole = omega (arith, ints)
 
   is_multiple : (a - a % n) % n ≡ 0
   is_multiple = rw whole (mul-mod_left (a / n) n)
 
   next_is_multiple : (a - a % n + n) % n ≡ 0
-  next_is_multiple = grind (arith, ints, floors, mul-mod_left, whole)
+  next_is_multiple = grind (arith, ints, mul-mod_left, whole)
 
 -- ---- places of days
 -- steps that begin at midnight, or on each day
@@ -54,16 +54,16 @@ around step day before after h = elim (midnights_or_each_day step) [
 -- ---- the last second at which a step begins, and the next one
 at_second : (step : ClockStep) (day : ℤ) (second : ℕ) (l : ℤ) → l ≡ day *ℤ pos 86_400 +ℤ pos second → second < 86_400 → BeginsOnDay step day
     → second % seconds_of_step step ≡ 0 → BeginsStep step l
-at_second step day second l is short on none = grind (arith, ints, floors)
+at_second = grind (arith, ints)
 
 -- a member of the day d, at its second k, up to second `at` of `day`
 last_member : (day d : ℤ) (before k b n : ℕ) → (n ≡ 86_400) ⊎ (before ≡ 0) → (n ≡ 86_400 → k ≡ 0) → ((d ≡ day) → k ≤ b) → k < 86_400 → b < 86_400
     → d ≤ℤ (day -ℤ pos before) → (d *ℤ pos 86_400 +ℤ pos k) ≤ℤ ((day -ℤ pos before) *ℤ pos 86_400 +ℤ pos b)
-last_member day d before k b n kind whole_days same short below le = grind (arith, ints, floors)
+last_member = grind (arith, ints)
 
 next_member : (day d : ℤ) (after e k : ℕ) → (d ≡ day → (after ≡ 0) × (e ≤ k)) → day ≤ℤ d → (day <ℤ d → (day +ℤ pos after) <ℤ d) → e ≤ 86_400
     → ((day +ℤ pos after) *ℤ pos 86_400 +ℤ pos e) ≤ℤ (d *ℤ pos 86_400 +ℤ pos k)
-next_member day d after e k here from later most = grind (arith, ints, floors)
+next_member = grind (arith, ints)
 
 -- the second s, which is the second `at` of `day`, in a step of days that begins `before` days earlier and ends after `after` more;
 -- each of its days begins a step of n seconds
@@ -117,7 +117,7 @@ module _ (step : ClockStep) {s day : ℤ} {at before after n : ℕ} (is_day : da
 -- ---- weeks, months and years
 pub in_week : (first : Weekday) (day : ℤ) (before : ℕ) → before ≡ floor_mod (day +ℤ pos 4 -ℤ pos (weekday_number first)) 7
     → IsPlace (BeginsOnDay (Week first)) day before (6 - before)
-in_week first day before is = grind (arith, ints, floors, number_below)
+in_week = grind (arith, ints, floors, number_below)
 
 next_number : (y : ℤ) (m d : ℕ) (day : ℤ) → 1 ≤ m → 1 ≤ d → d ≤ days_in_month (is_leap y) m → day_number y m d ≡ day
     → day_number y (m + 1) 1 ≡ day +ℤ pos (days_in_month (is_leap y) m - d) +ℤ pos 1

@@ -15,7 +15,7 @@ pub record IsCountedTo (set : ℤ → Type 0) (start : ℤ) (n : ℕ) (last : �
   pub in_years : last <ℤ pos 253_402_300_800
 
 count_is : (n count : ℕ) → n ≤ count → count ≤ n → n ≡ count
-count_is n count le ge = omega arith
+count_is = omega arith
 
 -- the members of a set, counted from `start` on
 module _ (set : ℤ → Type 0) where
@@ -67,7 +67,7 @@ module _ (set : ℤ → Type 0) where
 
     pub all_counted : {from end : ℤ} (count : ℕ) → n ≤ count → from ≡ last +ℤ pos 1 → end ≡ pos 253_402_300_800
         → ((l : ℤ) → set l → l <ℤ pos 253_402_300_800) → HasNoneBetween set from end → (l : ℤ) → set l → (l ≤ℤ last) ↔ IsAmong set count l
-    all_counted count le is is_end short none l one = grind (arith, ints)
+    all_counted = grind (arith, ints)
 
     pub whole_count : (count : ℕ) → n ≤ count → count ≤ n → (l : ℤ) → set l → (l ≤ℤ last) ↔ IsAmong set count l
-    whole_count count le ge = grind (arith, ints, count_is)
+    whole_count = grind (arith, ints, count_is)

@@ -17,7 +17,7 @@ module _ {c : Cron} {day : ℤ} {second : ℕ} where
 
   pub found : {minute : ℕ} → minute < 1440 → IsLeft c day second minute → IsCronDay c day → IsCronMinute c minute
       → IsFirstSecondFrom (IsCronTime c day) second (minute * 60)
-  found {minute = minute} short h on at = grind (arith)
+  found = grind arith
 
   pub passed : {minute : ℕ} → IsLeft c day second minute → (IsCronMinute c minute → ⊥) → IsLeft c day second (minute + 1)
   passed {minute = minute} h not = record {
@@ -28,18 +28,18 @@ module _ {c : Cron} {day : ℤ} {second : ℕ} where
   }
 
   pub none : IsLeft c day second 1440 → HasNoSecondFrom (IsCronTime c day) second
-  none h k short planned from = grind (arith)
+  none = grind arith
 
 -- ---- a line without a date
 longest : (b : Bool) (m : ℕ) → days_in_month b m ≤ days_in_month true m
-longest b m = grind (arith)
+longest = grind arith
 
 pub no_date : (c : Cron) (day : ℤ) → c.either ≡ false → ListsNoDateBefore c 13 → IsCronDay c day → ⊥
-no_date c day both none on = grind (arith, date_is, longest, none)
+no_date = grind (arith, date_is, longest, none)
 
 pub no_date_by_either : (c : Cron) (day : ℤ) → (c.either ≡ false → ⊥) → ListsNoDateBefore c 13 → (IsTrue (get_or c.weekdays (weekday_of day) false) → ⊥)
     → IsCronDay c day → ⊥
-no_date_by_either c day either none week on = grind (arith, date_is, longest, none)
+no_date_by_either = grind (arith, date_is, longest, none)
 
 -- ---- and back
 -- all that it has on that day up to a second comes before a minute
@@ -52,7 +52,7 @@ pub record IsLeftBefore (c : Cron) (day : ℤ) (second left : ℕ) : Type 0 wher
 module _ {c : Cron} {day : ℤ} {second : ℕ} where
   pub found_last : {left : ℕ} → IsLeftBefore c day second (left + 1) → IsCronDay c day → IsCronMinute c left
       → IsLastSecondUntil (IsCronTime c day) second (left * 60)
-  found_last {left = left} h on at = grind (arith, left)
+  found_last {left = left} h on at = grind arith
 
   pub passed_back : {left : ℕ} → IsLeftBefore c day second (left + 1) → (IsCronMinute c left → ⊥) → IsLeftBefore c day second left
   passed_back {left = left} h not = record {
@@ -64,7 +64,7 @@ module _ {c : Cron} {day : ℤ} {second : ℕ} where
   }
 
   pub none_back : IsLeftBefore c day second 0 → HasNoSecondUntil (IsCronTime c day) second
-  none_back h k in_day planned come = grind (arith, found_last, passed_back)
+  none_back h k in_day planned come = grind arith
 
 pub ruleset minutes_back = (found_last, passed_back, none_back)
 

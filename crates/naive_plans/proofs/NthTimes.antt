@@ -13,7 +13,7 @@ abbrev pub around : RecurrenceRule → ℤ → ℤ → ℤ → Type 0
 around r start time = IsInPeriod r start (own_period r time)
 
 rises : (r : RecurrenceRule) (a b : ℤ) → a ≤ℤ b → own_period r a ≤ℤ own_period r b
-rises r = grind (arith, ints, period_rises)
+rises = grind (arith, ints, period_rises)
 
 -- ---- the time before one, and the one after it
 -- the times of the rule r with that start, in the period of `time`
@@ -23,7 +23,7 @@ module _ {r : RecurrenceRule} {start time : ℤ} where
 
   pub none_before : neg_ℤ (pos 62_167_219_200) ≤ℤ start → time <ℤ pos 253_402_300_800
       → HasNoneUntil (IsOccasion r start) (time -ℤ pos 1) → HasNoneUpTo (around r start time) (time -ℤ pos 1)
-  none_before low short none m own come = grind (arith, ints, occasion_is_wide)
+  none_before = grind (arith, ints, occasion_is_wide)
 
   pub before_in_period : {last : ℤ} (found : Option ℤ) → neg_ℤ (pos 62_167_219_200) ≤ℤ start → time <ℤ pos 253_402_300_800
       → IsLastUntil (IsOccasion r start) (time -ℤ pos 1) last
@@ -100,8 +100,8 @@ module _ (set : ℤ → Type 0) where
   )
 
   outermost : (side : Side) (l : ℤ) → set l → HasNoNext side set l → Has side set zero l
-  outermost Front l one none = (one, λ m own. grind (arith, ints, none m own))
-  outermost End l one none = (one, λ m own. grind (arith, ints, none m own))
+  outermost Front l one none = grind (arith, ints, one)
+  outermost End l one none = grind (arith, ints)
 
   not_further : (side : Side) (n : ℕ) (l : ℤ) → HasNoNext side set l → Has side set (suc n) l → ⊥
   not_further Front n l none h = none h.0 (member Front n h.0 h.1) (omega (arith, ints))
@@ -157,14 +157,10 @@ module _ {side : Side} {r : RecurrenceRule} {start time : ℤ} {count : ℕ} whe
   pub all_passed : {left : ℕ} {last : ℤ} (found : Option ℤ) (none : Bool) → IsAsFar side r start time count left last → left ≡ 0 → is_some found ≡ not none
       → MatchOption found (HasNoNext side (around r start last) last) (λ l. IsNext side (around r start last) last l)
       → IsTrue none ↔ Has side (around r start time) count time
-  all_passed {last = last} None true h zero_left is own =
-      let none : HasNoNext side (around r start time) last = rw h.one.same at own in
-      (λ _. h.same.1 (rw zero_left (outermost (around r start time) side last h.one none)), λ _. refl)
-  all_passed {last = last} (Some l) false h zero_left is own =
-      let next : IsNext side (around r start time) last l = rw h.one.same at own in
-      (λ yes. absurd (grind (arith, yes)), λ has. absurd (not_outermost (around r start time) side last l next (rw zero_left at (h.same.0 has))))
-  all_passed None false h zero_left is own = absurd (grind (arith, is))
-  all_passed (Some l) true h zero_left is own = absurd (grind (arith, is))
+  all_passed {last = last} None true h zero_left is own = grind (arith, ints, outermost)
+  all_passed {last = last} (Some l) false h zero_left is own = grind (arith, ints, not_outermost)
+  all_passed None false h zero_left is own = grind (arith, ints)
+  all_passed (Some l) true h zero_left is own = grind (arith, ints)
 
 pub near_on : {r : RecurrenceRule} {start time : ℤ} {count left : ℕ} {last : ℤ} → IsAsFar End r start time count left last → last <ℤ (time +ℤ pos 31_708_800)
 near_on {r = r} {time = time} {last = last} h = by_lt_z last (time +ℤ pos 31_708_800) (λ less. less)
@@ -188,12 +184,12 @@ module _ {set : ℤ → Type 0} {n l : ℤ} where
   )
 
   pub not_zeroth : (pos 1 ≤ℤ n → ⊥) → (n ≤ℤ neg_ℤ (pos 1) → ⊥) → IsNth set n l → ⊥
-  not_zeroth no_front no_end h = grind (arith, ints)
+  not_zeroth = grind (arith, ints)
 
   pub told_nth : (side : Side) (k : ℕ) {told : Bool} → n ≡ number side k → IsTrue told ↔ Has side set k l → IsTrue told ↔ IsNth set n l
   told_nth side k is own = let same = nth_is side k is in (λ yes. same.0 (own.0 yes), λ nth. own.1 (same.1 nth))
 
 pub any_default : (xs : List ℤ) (i : ℕ) (d e : ℤ) → i < length xs → get_or xs i d ≡ get_or xs i e
-any_default [] i d e less = absurd (omega arith)
+any_default [] i d e less = grind (arith, ints)
 any_default (x ∷ xs) zero d e less = refl
 any_default (x ∷ xs) (suc i) d e less = any_default xs i d e (omega arith)

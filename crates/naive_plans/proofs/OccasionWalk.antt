@@ -11,17 +11,17 @@ use Rattle.naive_plans.specs.declared.rule.RecurrenceRule.{RecurrenceRule}
 -- ---- periods that count
 pub first_not_later : (r : RecurrenceRule) (start second first period : ℤ) → first ≡ own_period r start → period ≡ own_period r second → start ≤ℤ second
     → first ≤ℤ period
-first_not_later r start second first period is_first is_period le = grind (arith, ints, floors, period_rises)
+first_not_later = grind (arith, ints, period_rises)
 
 -- the rule's first period, the period of a second, and the last one up to that which counts
 module _ (r : RecurrenceRule) (start second : ℤ) {first period last : ℤ} (is_first : first ≡ own_period r start) (is_period : period ≡ own_period r second)
     (own : IsLastPeriod r.interval first period last) where
   pub counts_here : last ≡ period → IsCounted r start second
-  counts_here same = grind (arith, ints, floors)
+  counts_here = grind (arith, ints)
 
   -- if the last period that counts is an earlier one, its own doesn't
   not_counted : (last ≡ period → ⊥) → IsCounted r start second → ⊥
-  not_counted other counted = grind (arith, ints, floors)
+  not_counted = grind (arith, ints)
 
   pub starts_later : {next s : ℤ} → (last ≡ period → ⊥) → next ≡ last +ℤ pos r.interval → ((l : ℤ) → next ≤ℤ own_period r l → s ≤ℤ l)
       → (neg_ℤ (pos 1_000_000_000_000_000_000) ≤ℤ s) × (s ≤ℤ pos 1_000_000_000_000_000_000) → IsStartOfNext r start second s
@@ -49,46 +49,41 @@ module _ (r : RecurrenceRule) (start second : ℤ) {first period last : ℤ} (is
   }
 
 pub last_bounds : (n : ℕ) (first period last : ℤ) → IsLastPeriod n first period last → IsPeriod first → IsPeriod period → IsPeriod last
-last_bounds n first period last own low high = omega (arith, ints, floors)
+last_bounds = omega (arith, ints)
 
 pub later_bounds : (n by : ℕ) (least first period last next : ℤ) → IsLastPeriod n first period last → least ≤ℤ first → IsPeriod period
     → next ≡ last +ℤ pos by → by < 4_294_967_296 → (least ≤ℤ next) × (next ≤ℤ pos 400_000_000_000)
-later_bounds n by least first period last next own low high is_next small = omega (arith, ints, floors)
+later_bounds = omega (arith, ints)
 
 -- ---- within a day
 -- the rule r with that start, from a second of `day` on
 module _ (r : RecurrenceRule) (start day : ℤ) (second : ℕ) where
   pub hour_skipped : second < 86_400 → (HasHour r (floor_mod start 86_400) second → ⊥) → IsSkipped (IsTimeOn r start day) second ((second / 3600 + 1) * 3600)
-  hour_skipped short not = grind (arith, ints, floors)
+  hour_skipped = grind (arith, ints)
 
   pub minute_skipped : second < 86_400 → (HasMinute r (floor_mod start 86_400) second → ⊥) → IsSkipped (IsTimeOn r start day) second ((second / 60 + 1) * 60)
-  minute_skipped short not = grind (arith, ints, floors)
+  minute_skipped = grind (arith, ints)
 
   pub second_skipped : second < 86_400 → (HasSecond r (floor_mod start 86_400) second → ⊥) → IsSkipped (IsTimeOn r start day) second (second + 1)
-  second_skipped short not = grind (arith, ints, floors)
+  second_skipped = grind (arith, ints)
 
   pub period_skipped : {l s : ℤ} {next : ℕ} → l ≡ day *ℤ pos 86_400 +ℤ pos second → IsStartOfNext r start l s → (second < next) × (next ≤ 86_400)
       → ((k : ℕ) → k < 86_400 → second < k → s ≤ℤ (day *ℤ pos 86_400 +ℤ pos k) → next ≤ k) → IsSkipped (IsTimeOn r start day) second next
-  period_skipped is own later from = grind (arith, ints, floors)
+  period_skipped is own later from = grind (arith, ints)
 
 -- ---- days
 pub time_of : {r : RecurrenceRule} {start day : ℤ} {second : ℕ} → IsOccasionOn r start day second → IsTimeOn r start day second
-time_of on = grind (arith, ints, floors)
+time_of = grind (arith, ints)
 
 pub on_date : {r : RecurrenceRule} {start day : ℤ} {second : ℕ} → IsOnDate r (floor_div start 86_400) day → IsTimeOn r start day second
     → IsOccasionOn r start day second
-on_date date on = grind (arith, ints, floors)
+on_date = grind (arith, ints)
 
 pub with_date : (r : RecurrenceRule) (start day : ℤ) (from : ℕ) (found : Option ℕ) → IsOnDate r (floor_div start 86_400) day
     → MatchOption found (HasNoSecondFrom (IsTimeOn r start day) from) (λ s. IsFirstSecondFrom (IsTimeOn r start day) from s)
     → MatchOption found (HasNoSecondFrom (IsOccasionOn r start day) from) (λ s. IsFirstSecondFrom (IsOccasionOn r start day) from s)
-with_date r start day from None date none = λ k in_day on. none k in_day (time_of on)
-with_date r start day from (Some s) date first = record {
-  planned = on_date date first.planned;
-  not_before = first.not_before;
-  in_day = first.in_day;
-  least = λ k on. first.least k (time_of on);
-}
+with_date r start day from None date none = grind (arith, ints, floors, time_of)
+with_date r start day from (Some s) date first = search (arith, ints, floors, on_date, time_of)
 
 pub after_month : (r : RecurrenceRule) (start day d result : ℤ) (m f n dom : ℕ) (year : ℤ) → year ≡ year_of day → m ≡ month_of day → dom ≡ day_of_month day
     → f ≡ month_of start
@@ -103,30 +98,25 @@ module _ (on : ℤ → ℕ → Type 0) where
   -- a later day with none before it
   pub left_later : {before day next : ℤ} → IsLeft (IsPlannedOnItsDay on) before (day +ℤ pos 1) 0 → day <ℤ next
       → ((d : ℤ) (second : ℕ) → on d second → second < 86_400 → day <ℤ d → next ≤ℤ d) → IsLeft (IsPlannedOnItsDay on) before next 0
-  left_later h later none = grind (arith, ints, floors)
+  left_later = grind (arith, ints)
 
   pub first_found : (from end : ℤ) {day l : ℤ} {second s : ℕ} (found : Option ℤ) → IsLeft (IsPlannedOnItsDay on) (from -ℤ pos 1) day second
       → IsFirstSecondFrom (on day) second s
       → l ≡ day *ℤ pos 86_400 +ℤ pos s → MatchOption found (end ≤ℤ l) (λ f. (f ≡ l) × (f <ℤ end))
       → MatchOption found (HasNoneBetween (IsPlannedOnItsDay on) from end) (λ f. IsFirstBetween (IsPlannedOnItsDay on) from end f)
-  first_found from end None h first is over = λ m one come before. let least = least_found on h first m one (omega (arith, ints)) in omega (arith, ints)
-  first_found from end {day = day} {s = s} (Some f) h first is here = record {
-    one = on_day on day f s first.in_day (omega (arith, ints)) first.planned;
-    not_before = omega (arith, ints);
-    before_end = here.1;
-    least = λ m one come. omega (arith, ints, least_found on h first m one (omega (arith, ints)));
-  }
+  first_found from end None h first is over = grind (arith, ints, floors, least_found)
+  first_found from end {day = day} {s = s} (Some f) h first is here = grind (arith, ints, least_found, on_day)
 
 pub none_between : (set : ℤ → Type 0) (from end day : ℤ) (second : ℕ) → IsLeft set (from -ℤ pos 1) day second → (end ≤ℤ (day *ℤ pos 86_400))
     → HasNoneBetween set from end
-none_between set from end day second h over m one come before = grind (arith, ints, floors)
+none_between = grind (arith, ints)
 
 pub left_at_start : (set : ℤ → Type 0) (from day : ℤ) (second : ℕ) → day ≡ floor_div from 86_400 → second ≡ floor_mod from 86_400
     → IsLeft set (from -ℤ pos 1) day second
-left_at_start set from day second is_day is_second = omega (arith, ints, floors)
+left_at_start = omega (arith, ints, floors)
 
 pub day_from : (start day d : ℤ) (second : ℕ) → day ≡ floor_div start 86_400 → second < 86_400 → start ≤ℤ (d *ℤ pos 86_400 +ℤ pos second) → day ≤ℤ d
-day_from start day d second is short le = omega (arith, ints, floors)
+day_from = omega (arith, ints, floors)
 
 pub days_between : (next d : ℤ) (second : ℕ) → next ≤ℤ d → (next *ℤ pos 86_400) ≤ℤ (d *ℤ pos 86_400 +ℤ pos second)
 days_between next d second le = omega (arith, ints)

@@ -10,14 +10,14 @@ use Rattle.naive_plans.specs.{Steps.RuleSteps.{own_period}, declared.rule.Recurr
 -- the rule r with that start, up to a second of `day`
 module _ (r : RecurrenceRule) (start day : ℤ) (second : ℕ) where
   pub hour_back : (HasHour r (floor_mod start 86_400) second → ⊥) → IsSkippedBack (IsTimeOn r start day) second (second / 3600 * 3600)
-  hour_back not = grind (arith, ints, floors)
+  hour_back = grind (arith, ints)
 
   pub minute_back : (HasMinute r (floor_mod start 86_400) second → ⊥) → IsSkippedBack (IsTimeOn r start day) second (second / 60 * 60)
-  minute_back not = grind (arith, ints, floors)
+  minute_back = grind (arith, ints)
 
   pub period_back : {l e : ℤ} {end : ℕ} → l ≡ day *ℤ pos 86_400 +ℤ pos second → IsEndOfLast r start l e → end ≤ second
       → ((k : ℕ) → k < second → (day *ℤ pos 86_400 +ℤ pos k) <ℤ e → k < end) → IsSkippedBack (IsTimeOn r start day) second end
-  period_back is own earlier to = grind (arith, ints, floors)
+  period_back = grind (arith, ints)
 
 -- none comes from a second of the day on and up to another one
 abbrev pub IsPassedBack : (ℕ → Type 0) → ℕ → ℕ → Type 0
@@ -26,25 +26,20 @@ IsPassedBack on until left = (left ≤ until + 1) × ((k : ℕ) → k < 86_400 �
 -- the seconds of a day that `on` lists
 module _ (on : ℕ → Type 0) where
   pub one_back : (second : ℕ) → (on second → ⊥) → IsSkippedBack on second second
-  one_back second not = grind (arith, ints, floors)
+  one_back = grind (arith, ints)
 
   pub more_back : (until left end : ℕ) → IsPassedBack on until left → 0 < left → IsSkippedBack on (left - 1) end → IsPassedBack on until end
-  more_back until left end h some skip = grind (arith, ints, floors)
+  more_back = grind (arith, ints)
 
   pub found_back : (until left : ℕ) → until < 86_400 → IsPassedBack on until left → 0 < left → on (left - 1) → IsLastSecondUntil on until (left - 1)
-  found_back until left short h some one = grind (arith, ints, floors)
+  found_back = grind (arith, ints)
 
 -- ---- days
 pub with_date_back : (r : RecurrenceRule) (start day : ℤ) (until : ℕ) (found : Option ℕ) → IsOnDate r (floor_div start 86_400) day
     → MatchOption found (HasNoSecondUntil (IsTimeOn r start day) until) (λ s. IsLastSecondUntil (IsTimeOn r start day) until s)
     → MatchOption found (HasNoSecondUntil (IsOccasionOn r start day) until) (λ s. IsLastSecondUntil (IsOccasionOn r start day) until s)
-with_date_back r start day until None date none = λ k in_day on. none k in_day (time_of on)
-with_date_back r start day until (Some s) date last = record {
-  planned = on_date date last.planned;
-  not_after = last.not_after;
-  in_day = last.in_day;
-  greatest = λ k in_day on. last.greatest k in_day (time_of on);
-}
+with_date_back r start day until None date none = grind (arith, ints, floors, time_of)
+with_date_back r start day until (Some s) date last = search (arith, ints, floors, on_date, time_of)
 
 pub before_month : (r : RecurrenceRule) (start day d result : ℤ) (m f dom : ℕ) → m ≡ month_of day → dom ≡ day_of_month day → f ≡ month_of start
     → result ≡ day -ℤ pos dom → (HasMonth r f m → ⊥) → IsOnDate r start d → d <ℤ day → d ≤ℤ result
@@ -57,7 +52,7 @@ in_month day dom is = omega (arith, date_is day, month_bounds (is_leap (year_of 
 -- an earlier day with none after it
 pub left_earlier : (on : ℤ → ℕ → Type 0) (until day last : ℤ) → IsLeftBefore (IsPlannedOnItsDay on) until (day -ℤ pos 1) 86_399 → last <ℤ day
     → ((d : ℤ) (second : ℕ) → on d second → second < 86_400 → d <ℤ day → d ≤ℤ last) → IsLeftBefore (IsPlannedOnItsDay on) until last 86_399
-left_earlier on until day last h earlier none = grind (arith, ints, floors)
+left_earlier = grind (arith, ints)
 
 -- no occasion comes 367 days before the start
 pub after_all : (r : RecurrenceRule) (start l : ℤ) → IsOccasion r start l → (start -ℤ pos 31_708_800) <ℤ l
@@ -73,7 +68,7 @@ none_until r start until day to h over m wide one come =
 
 pub all_until : (set : ℤ → Type 0) (until day : ℤ) (second : ℕ) → day ≡ floor_div until 86_400 → second ≡ floor_mod until 86_400
     → IsLeftBefore set until day second
-all_until set until day second is_day is_second = omega (arith, ints, floors)
+all_until = omega (arith, ints, floors)
 
 -- ---- periods that count
 pub none_counted : (r : RecurrenceRule) (start second first period end : ℤ) → first ≡ own_period r start → period ≡ own_period r second
@@ -86,7 +81,7 @@ none_counted r start second first period end is_first is_period early in_years i
 
 -- a day of a second that counts, up to one that none counts after
 pub day_to : (end day d : ℤ) (second : ℕ) → day ≡ floor_div (end -ℤ pos 1) 86_400 → second < 86_400 → (d *ℤ pos 86_400 +ℤ pos second) <ℤ end → d ≤ℤ day
-day_to end day d second is short less = omega (arith, ints, floors)
+day_to = omega (arith, ints, floors)
 
 pub days_up_to : (last d : ℤ) (second : ℕ) → d ≤ℤ last → second < 86_400 → (d *ℤ pos 86_400 +ℤ pos second) ≤ℤ (last *ℤ pos 86_400 +ℤ pos 86_399)
 days_up_to last d second le short = omega (arith, ints)

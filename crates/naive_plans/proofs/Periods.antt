@@ -8,11 +8,11 @@ use Rattle.naive_plans.specs.{RecurrenceRules.{month_number, period_of}, Steps.R
 use Rattle.naive_plans.specs.declared.rule.Frequency.TheVariants.{Monthly, Yearly}
 
 pub least_days : (b : Bool) (m : ℕ) → 1 ≤ days_in_month b m
-least_days b m = grind (arith, nat_tests)
+least_days = grind (arith, nat_tests)
 
 same_year : (y : ℤ) (m k d : ℕ) → m ≤ k → 1 ≤ d → day_number y m 1 ≤ℤ day_number y k d
 unfolding day_number
-same_year y m k d least low = grind (arith, ints, floors, months_rise)
+same_year = grind (arith, ints, months_rise)
 
 -- a day is in a year or a later one if and only if it isn't before the year
 year_from : (y day : ℤ) → (y ≤ℤ year_of day → year_start y ≤ℤ day) × (year_of day <ℤ y → day <ℤ year_start y)
@@ -42,7 +42,7 @@ year_high day le = let start : year_start (pos 13_000) ≡ pos 4_028_625 = refl 
 
 -- a year begins with its first month
 pub year_by_month : (y day : ℤ) → (y ≤ℤ year_of day → (y *ℤ pos 12) ≤ℤ month_number day) × (year_of day <ℤ y → month_number day <ℤ (y *ℤ pos 12))
-year_by_month y day = grind (arith, ints, floors, date_is)
+year_by_month = grind (arith, ints, date_is)
 
 -- ---- later seconds have later periods
 year_rises : (a b : ℤ) → a ≤ℤ b → year_of a ≤ℤ year_of b
@@ -67,8 +67,8 @@ month_rises a b le =
     ])
 
 pub period_rises : (f : Frequency) (first : ℕ) (a b : ℤ) → a ≤ℤ b → period_of f first a ≤ℤ period_of f first b
-period_rises Yearly first a b le = year_rises (floor_div a 86_400) (floor_div b 86_400) (omega (arith, ints, floors))
-period_rises Monthly first a b le = month_rises (floor_div a 86_400) (floor_div b 86_400) (omega (arith, ints, floors))
+period_rises Yearly first a b le = grind (arith, ints, floors, year_rises)
+period_rises Monthly first a b le = grind (arith, ints, floors, month_rises)
 period_rises _ first a b le = omega (arith, ints, floors)
 
 month_before : (y : ℤ) (m : ℕ) (day : ℤ) → 1 ≤ m → m ≤ 12 → month_number day <ℤ (y *ℤ pos 12 +ℤ pos m -ℤ pos 1) → day <ℤ day_number y m 1
@@ -97,7 +97,7 @@ in_same_month day d after come =
 
 -- ---- the periods that count
 pub multiples_apart : (n t k : ℕ) → (k * n ≤ t * n) ⊎ ((t + 1) * n ≤ k * n)
-multiples_apart n t k = grind (arith, ints, floors, mul-le-mul_right)
+multiples_apart = grind (arith, ints, mul-le-mul_right)
 
 pub last_one : (n : ℕ) (first period last : ℤ) (passed : ℕ) → 1 ≤ n → period ≡ first +ℤ pos passed → last ≡ first +ℤ pos (passed / n * n)
     → IsLastPeriod n first period last
@@ -124,7 +124,7 @@ earlier_year : (a b : ℤ) → (a +ℤ pos 366) ≤ℤ b → year_of a <ℤ year
 earlier_year a b le = grind (arith, ints, (year_from (year_of b) a).0, day_of_year_is b, days_at_most (year_of b))
 
 pub long_before : (f : Frequency) (first : ℕ) (l start : ℤ) → (l +ℤ pos 31_708_800) ≤ℤ start → period_of f first l <ℤ period_of f first start
-long_before Yearly first l start le = earlier_year (floor_div l 86_400) (floor_div start 86_400) (omega (arith, ints, floors))
+long_before Yearly first l start le = grind (arith, ints, floors, earlier_year)
 long_before Monthly first l start le =
     let year = earlier_year (floor_div l 86_400) (floor_div start 86_400) (omega (arith, ints, floors)) in
     omega (arith, ints, date_is (floor_div l 86_400), date_is (floor_div start 86_400))

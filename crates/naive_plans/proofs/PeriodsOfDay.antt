@@ -12,7 +12,7 @@ multiple_of : (t n step : ℕ) → n % step ≡ 0 → t * n % step ≡ 0
 multiple_of t n step none = rw (sym (mul-mod_second t n step)) (rw (times_none t (n % step) none) (zero-mod step))
 
 whole_steps : (passed steps rest : ℕ) → steps + rest ≡ passed → rest ≡ 0 → steps ≡ passed
-whole_steps passed steps rest is none = omega arith
+whole_steps = omega arith
 
 same_rest : (n whole step : ℕ) → whole % step ≡ 0 → (n + whole) % step ≡ n % step
 same_rest n whole step none =
@@ -51,7 +51,7 @@ has_period r start day second length kind on = elim kind [
 ]
 
 period_under : (r : RecurrenceRule) (second length : ℕ) → IsPartOfHours r length → second < 86_400 → second / length < 86_400 / length
-period_under r second length kind short = grind (arith, ints, floors)
+period_under = grind (arith, ints)
 
 pub never_met : (r : RecurrenceRule) (start : ℤ) (length step : ℕ) → IsPartOfHours r length → 86_400 / length % step ≡ 0 → r.interval % step ≡ 0
     → ((k : ℕ) → k < 86_400 / length → k % step ≡ floor_mod start 86_400 / length % step

@@ -8,25 +8,25 @@ use Rattle.naive_plans.specs.{RecurrenceRules.{ListsWeekday, fourth_of_week}, de
 
 pub weekday_in_month : (r : RecurrenceRule) (start day : ℤ) (before after w : ℕ) (b : Bool) → (CountsInYear r → ⊥) → (IsAbsent r.by_weekday.now → ⊥)
     → w ≡ weekday_of day → (IsTrue b ↔ ListsWeekday r.by_weekday.now w (before / 7) (after / 7)) → IsTrue b ↔ HasWeekday r start day before after
-weekday_in_month r start day before after w b month some is lists = grind (arith, ints, floors)
+weekday_in_month = grind (arith, ints)
 
 pub weekday_in_year : (r : RecurrenceRule) (start day : ℤ) (before after w b a : ℕ) (t : Bool) → CountsInYear r → (IsAbsent r.by_weekday.now → ⊥)
     → w ≡ weekday_of day → b ≡ day_of_year day → a ≡ days_in_year (year_of day) - 1 - day_of_year day
     → (IsTrue t ↔ ListsWeekday r.by_weekday.now w (b / 7) (a / 7)) → IsTrue t ↔ HasWeekday r start day before after
-weekday_in_year r start day before after w b a t year some is is_b is_a lists = grind (arith, ints, floors)
+weekday_in_year = grind (arith, ints)
 
 pub in_week : (r : RecurrenceRule) (day f : ℤ) (b a : ℕ) (t : Bool) → (IsAbsent r.by_week_number.now → ⊥)
     → f ≡ fourth_of_week (weekday_number r.week_start) day → b ≡ day_of_year f → a ≡ days_in_year (year_of f) - 1 - day_of_year f
     → (IsTrue t ↔ ListsPlace r.by_week_number.now (b / 7) (a / 7)) → IsTrue t ↔ IsInWeek r day
-in_week r day f b a t some is is_b is_a lists = grind (arith, ints, floors)
+in_week = grind (arith, ints)
 
 pub passed_of_week : (day : ℤ) (weekday number first : ℕ) → weekday ≡ weekday_of day → number ≡ first → number < 7
     → (weekday + 7 - number) % 7 ≡ floor_mod (day +ℤ pos 4 -ℤ pos first) 7
-passed_of_week day weekday number first is same bound = omega (arith, floors, ints)
+passed_of_week = omega (arith, floors, ints)
 
 pub fourth_is : (day fourth : ℤ) (passed first : ℕ) → passed ≡ floor_mod (day +ℤ pos 4 -ℤ pos first) 7 → fourth ≡ day -ℤ pos passed +ℤ pos 3
     → fourth ≡ fourth_of_week first day
-fourth_is day fourth passed first is same = omega (arith, floors, ints)
+fourth_is = omega (arith, floors, ints)
 
 pub before_end : (day year : ℤ) (before days : ℕ) → year ≡ year_of day → before ≡ day_of_year day → days ≡ days_in_year year → before ≤ days - 1
 before_end day year before days is same all = let within = (day_of_year_is day).1 in let of_year : days ≡ days_in_year (year_of day) = rw is at all in
@@ -34,16 +34,16 @@ before_end day year before days is same all = let within = (day_of_year_is day).
 
 -- ---- a date
 pub not_month : (r : RecurrenceRule) (start day : ℤ) (m f : ℕ) → m ≡ month_of day → f ≡ month_of start → (HasMonth r f m → ⊥) → IsOnDate r start day → ⊥
-not_month r start day m f is first none on = grind (arith, ints, floors)
+not_month = grind (arith, ints)
 
 pub not_month_day : (r : RecurrenceRule) (start day year : ℤ) (m d f n : ℕ) → year ≡ year_of day → m ≡ month_of day → d ≡ day_of_month day
     → f ≡ day_of_month start
     → n ≡ days_in_month (is_leap year) m → (HasMonthDay r f (d - 1) (n - d) d → ⊥) → IsOnDate r start day → ⊥
-not_month_day r start day year m d f n is_year is_month is first days none on = grind (arith, ints, floors)
+not_month_day = grind (arith, ints)
 
 pub not_weekday : (r : RecurrenceRule) (start day year : ℤ) (m d n : ℕ) → year ≡ year_of day → m ≡ month_of day → d ≡ day_of_month day
     → n ≡ days_in_month (is_leap year) m → (HasWeekday r start day (d - 1) (n - d) → ⊥) → IsOnDate r start day → ⊥
-not_weekday r start day year m d n is_year is_month is days none on = grind (arith, ints, floors)
+not_weekday = grind (arith, ints)
 
 pub on_date : (r : RecurrenceRule) (start day year : ℤ) (m d fm fd n : ℕ) → year ≡ year_of day → m ≡ month_of day → d ≡ day_of_month day
     → fm ≡ month_of start → fd ≡ day_of_month start

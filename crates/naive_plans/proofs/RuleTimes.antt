@@ -9,7 +9,7 @@ use Rattle.naive_plans.specs.Steps.{OccasionSteps.{IsTimeOn}, RecurrenceSteps.{H
 use Rattle.naive_plans.specs.declared.{recurrence.RecurrenceEnd.{RecurrenceEnd, TheVariants.{Count, Never, Until}}, rule.RecurrenceRule.{RecurrenceRule}}
 
 strictly : (a b : ℤ) → a ≤ℤ b → (a ≡ b → ⊥) → a <ℤ b
-strictly a b le other = grind (arith, ints)
+strictly = grind (arith, ints)
 
 -- the rule's times from a second on come from another one on
 abbrev pub AreFrom : RecurrenceRule → ℤ → ℤ → ℤ → Type 0
@@ -18,7 +18,7 @@ AreFrom r start from left = (from ≤ℤ left) × ((m : ℤ) → IsRuleTime r st
 -- the times of the rule r with that start
 module _ {r : RecurrenceRule} {start : ℤ} where
   pub none_from : {from left end : ℤ} → AreFrom r start from left → HasNoneBetween (IsOccasion r start) left end → HasNoneBetween (IsRuleTime r start) from end
-  none_from h none m time come = none m time.occasion (h.1 m time come)
+  none_from h none m time come = search (arith, ints, floors)
 
   pub first_from : {from left end l : ℤ} → start ≤ℤ from → end ≤ℤ pos 253_402_300_800 → AreFrom r start from left
       → IsFirstBetween (IsOccasion r start) left end l → IsAtPosition r start l → IsFirstBetween (IsRuleTime r start) from end l
@@ -37,7 +37,7 @@ module _ {r : RecurrenceRule} {start : ℤ} where
   )
 
   pub none_left : {after last from : ℤ} → ((m : ℤ) → after <ℤ m → start ≤ℤ m → from ≤ℤ m) → last <ℤ from → HasNoneLater (IsRuleTime r start) after last
-  none_left least over m time come le = grind (arith, ints, floors)
+  none_left = grind (arith, ints)
 
   pub next_later : {last local l : ℤ} → IsFirstLater (IsRuleTime r start) local last l → IsNextAfter (IsPlannedUpTo r start last) local l
   next_later first = record { planned = (first.one, first.not_after); after = first.later; least = λ m wide own come. first.least m own.0 come }
@@ -45,13 +45,13 @@ module _ {r : RecurrenceRule} {start : ℤ} where
   -- ---- ends
   pub none_up : {last s : ℤ} → ((l : ℤ) → IsRuleTime r start l → l ≤ℤ last → ⊥) → s ≡ start -ℤ pos 1
       → (l : ℤ) → IsRuleTime r start l → (l ≤ℤ s) ↔ (l ≤ℤ last)
-  none_up none is l time = grind (arith, ints, floors)
+  none_up = grind (arith, ints)
 
 pub from_later : (r : RecurrenceRule) (start after last from end : ℤ) (found : Option ℤ) → after <ℤ from → ((m : ℤ) → after <ℤ m → start ≤ℤ m → from ≤ℤ m)
     → end ≡ last +ℤ pos 1
     → MatchOption found (HasNoneBetween (IsRuleTime r start) from end) (λ l. IsFirstBetween (IsRuleTime r start) from end l)
     → MatchOption found (HasNoneLater (IsRuleTime r start) after last) (λ l. IsFirstLater (IsRuleTime r start) after last l)
-from_later r start after last from end None later least is none = λ m time come le. none m time (least m come time.from_start) (omega (arith, ints))
+from_later r start after last from end None later least is none = search (arith, ints, floors)
 from_later r start after last from end (Some l) later least is first = record {
   one = first.one;
   later = let come = first.not_before in omega (arith, ints);
@@ -67,7 +67,7 @@ AreTo r start until to = (to ≤ℤ until) × ((m : ℤ) → IsRuleTime r start 
 -- the times of the rule r, with a start from the year 0 on
 module _ {r : RecurrenceRule} {start : ℤ} (low : neg_ℤ (pos 62_167_219_200) ≤ℤ start) where
   time_is_wide : {l : ℤ} → IsRuleTime r start l → IsWide l
-  time_is_wide time = omega (arith, ints, floors)
+  time_is_wide = omega (arith, ints)
 
   pub none_to : {last : ℤ} → HasNoneUntil (IsRuleTime r start) last → (l : ℤ) → IsRuleTime r start l → l ≤ℤ last → ⊥
   none_to none l time = none l (time_is_wide time) time
@@ -76,7 +76,7 @@ module _ {r : RecurrenceRule} {start : ℤ} (low : neg_ℤ (pos 62_167_219_200) 
   same_to own l time = (λ le. omega (arith, ints), own.greatest l (time_is_wide time) time)
 
   pub bounded_to : {last s : ℤ} → IsLastUntil (IsRuleTime r start) last s → IsBounded s
-  bounded_to own = omega (arith, ints, floors)
+  bounded_to = omega (arith, ints)
 
   pub more_to : {until to last next : ℤ} → AreTo r start until to → IsLastUntil (IsOccasion r start) to last → (IsAtPosition r start last → ⊥)
       → next ≡ last -ℤ pos 1 → AreTo r start until next
@@ -90,7 +90,7 @@ module _ {r : RecurrenceRule} {start : ℤ} (low : neg_ℤ (pos 62_167_219_200) 
 -- the times of the rule r with that start
 module _ {r : RecurrenceRule} {start : ℤ} where
   pub none_to_start : {until to : ℤ} → AreTo r start until to → (start ≤ℤ to → ⊥) → HasNoneUntil (IsRuleTime r start) until
-  none_to_start h not m wide time come = grind (arith, ints, floors)
+  none_to_start = grind (arith, ints)
 
   pub none_of_them : {until to : ℤ} → AreTo r start until to → HasNoneUntil (IsOccasion r start) to → HasNoneUntil (IsRuleTime r start) until
   none_of_them h none m wide time come = none m wide time.occasion (h.1 m time come)
@@ -117,21 +117,21 @@ module _ {r : RecurrenceRule} {start : ℤ} where
 
   pub none_planned : {local last until : ℤ} → ((m : ℤ) → m ≤ℤ local → m ≤ℤ last → m ≤ℤ until)
       → HasNoneUntil (IsRuleTime r start) until → HasNoneUntil (IsPlannedUpTo r start last) local
-  none_planned most none m wide time come = grind (arith, ints, floors)
+  none_planned most none m wide time come = grind (arith, ints)
 
   pub no_rule_time : ((day : ℤ) (second : ℕ) → second < 86_400 → IsTimeOn r start day second → ⊥) → (l : ℤ) → IsRuleTime r start l → ⊥
-  no_rule_time none l time = grind (arith, ints, floors, time_of)
+  no_rule_time = grind (arith, ints, floors, time_of)
 
   pub never_last : IsLastSecond r start Never (pos 253_402_300_799)
-  never_last = omega (arith, ints, floors)
+  never_last = omega (arith, ints)
 
   pub until_last : {last : ℤ} {until : NaiveDateTime} → ((l : ℤ) → l <ℤ pos 253_402_300_800 → (l ≤ℤ last) ↔ (l ≤ℤ (reading until).s))
       → (neg_ℤ (pos 10_000_000_000_000) ≤ℤ last) × (last <ℤ pos 253_402_300_800) → IsLastSecond r start (Until until) last
-  until_last same bound = grind (arith, ints, floors)
+  until_last = grind (arith, ints, floors)
 
   pub count_last : {last : ℤ} {count : ℕ} → ((l : ℤ) → IsRuleTime r start l → (l ≤ℤ last) ↔ IsWithinCount r start count l)
       → (neg_ℤ (pos 10_000_000_000_000) ≤ℤ last) × (last <ℤ pos 253_402_300_800) → IsLastSecond r start (Count count) last
-  count_last same bound = grind (arith, ints, floors)
+  count_last = grind (arith, ints)
 
 -- the rule's times up to `last` are those within the recurrence's end
 module _ (r : RecurrenceRule) (start : ℤ) (end : RecurrenceEnd) {last : ℤ}

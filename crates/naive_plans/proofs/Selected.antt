@@ -12,11 +12,11 @@ AreLaterThan plan kept local after = (local ≤ℤ after) × ((m : ℤ) → IsWi
 
 pub next_kept : (plan kept : ℤ → Type 0) (local after next : ℤ) → AreLaterThan plan kept local after → IsNextAfter plan after next → kept next
     → IsNextAfter (both plan kept) local next
-next_kept plan kept local after next left first has = grind (arith, ints)
+next_kept = grind (arith, ints)
 
 pub passed_one : (plan kept : ℤ → Type 0) (local after next : ℤ) → AreLaterThan plan kept local after → IsNextAfter plan after next → (kept next → ⊥)
     → AreLaterThan plan kept local next
-passed_one plan kept local after next left first not = grind (arith, ints)
+passed_one = grind (arith, ints)
 
 -- all of them up to `local` come up to another second
 abbrev pub AreUpTo : (ℤ → Type 0) → (ℤ → Type 0) → ℤ → ℤ → Type 0
@@ -24,7 +24,7 @@ AreUpTo plan kept local until = (until ≤ℤ local) × ((m : ℤ) → IsWide m 
 
 pub last_kept : (plan kept : ℤ → Type 0) (local until last : ℤ) → AreUpTo plan kept local until → IsLastUntil plan until last → kept last
     → IsLastUntil (both plan kept) local last
-last_kept plan kept local until last left own has = grind (arith, ints)
+last_kept = grind (arith, ints)
 
 pub passed_back : (plan kept : ℤ → Type 0) (local until last before : ℤ) → AreUpTo plan kept local until → IsLastUntil plan until last → (kept last → ⊥)
     → before ≡ last -ℤ pos 1 → AreUpTo plan kept local before

@@ -19,11 +19,11 @@ IsLastAmong xs until n (Some d) = Contains xs d × ((reading d).s ≤ℤ until)
 -- the list, of which the first n local times are all
 module _ (xs : List NaiveDateTime) (n : ℕ) (all : length xs ≤ n) where
   place : {m : ℤ} (has : HasLocalTime xs m) → (has.listed.0 < n) × ((reading (get_or xs has.listed.0 has.local)).s ≡ m)
-  place has = grind (arith)
+  place = grind arith
 
   pub first_done : (after : ℤ) (found : Option NaiveDateTime) → IsFirstAmong xs after n found
       → MatchOption found (HasNoneAfter (HasLocalTime xs) after) (λ l. IsNextAfter (HasLocalTime xs) after (reading l).s)
-  first_done after None h = λ m wide has later. h has.listed.0 has.local (place has).0 (rw (place has).1 later)
+  first_done after None h = grind (arith, place)
   first_done after (Some d) h = record {
     planned = record { local = d; listed = h.0; at = refl };
     after = h.1;
@@ -32,7 +32,7 @@ module _ (xs : List NaiveDateTime) (n : ℕ) (all : length xs ≤ n) where
 
   pub last_done : (until : ℤ) (found : Option NaiveDateTime) → IsLastAmong xs until n found
       → MatchOption found (HasNoneUntil (HasLocalTime xs) until) (λ l. IsLastUntil (HasLocalTime xs) until (reading l).s)
-  last_done until None h = λ m wide has come. h has.listed.0 has.local (place has).0 (rw (place has).1 come)
+  last_done until None h = grind (arith, place)
   last_done until (Some d) h = record {
     planned = record { local = d; listed = h.0; at = refl };
     not_after = h.1;
