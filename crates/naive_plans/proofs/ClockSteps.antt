@@ -84,7 +84,7 @@ module _ (step : ClockStep) {s day : ℤ} {at before after n : ℕ} (is_day : da
               let here : BeginsOnDay step day = subst (λ (d : ℤ). BeginsOnDay step d) (omega (arith, ints)) h.first in
               let there : BeginsOnDay step (day +ℤ pos 1) = subst (λ (d : ℤ). BeginsOnDay step d) (omega (arith, ints)) h.next in
               elim (cases_order (at - at % n + n) 86_400) [
-                | inl same ↦ at_second step (day +ℤ pos 1) 0 _ (omega (arith, ints)) (omega arith) there (zero-mod (seconds_of_step step))
+                | inl same ↦ grind (arith, ints, floors, at_second, zero-mod)
                 | inr (inl within) ↦ at_second step day (at - at % n + n) _ (omega (arith, ints)) within here (rw is_n (next_is_multiple _ at))
                 | inr (inr over) ↦ absurd (omega arith)
               ]
@@ -163,9 +163,7 @@ in_year day =
       next = rw ends (start_lies (y +ℤ pos 1)).0;
       none_between = λ d on later.
           let other = (day_of_year_is d).0 in let lies = lies_in day in
-          by_lt_z y (year_of d)
-          (λ more. omega (arith, ints, starts_rise (y +ℤ pos 1) (year_of d) (omega (arith, ints))))
-          (λ not. absurd (omega (arith, ints, starts_rise (year_of d) y not)));
+          grind (arith, ints, starts_rise (y +ℤ pos 1) (year_of d), starts_rise (year_of d) y);
     }
 
 -- ---- the same of what the code computes

@@ -37,8 +37,7 @@ module _ (set : ℤ → Type 0) where
     next_place is first = elim h.place [
       | inl none ↦ rw none (
         first.one,
-        λ m one. by_lt_z last m (λ later. first.least m one (omega (arith, ints)))
-            (λ not. absurd (let among = (h.same m one).0 (omega (arith, ints)) in let less = among.1 in omega arith)),
+        λ m one. grind (arith, ints, first.least m one, h.same m one),
       )
       | inr some ↦ let is_n : n ≡ suc some.0 = omega arith in let come = first.not_before in
           rw is_n (last, some.2, first.one, omega (arith, ints), λ m one later. first.least m one (omega (arith, ints)))

@@ -29,10 +29,7 @@ module _ (on : ℤ → ℕ → Type 0) where
   none_on_day {day = day} h none = record {
     in_day = omega arith;
     later = omega (arith, ints, h.later, h.in_day);
-    left = λ m planned later. let least = h.left m planned later in
-        by_lt_z day (floor_div m 86_400) (λ more. omega (arith, ints, floors))
-        (λ not. absurd (none (floor_mod m 86_400) (omega (arith, ints, floors)) (on_its_day day m (omega (arith, ints, floors)) planned)
-        (omega (arith, ints, floors))));
+    left = grind (arith, ints, floors, on_its_day);
   }
 
   pub least_found : {before day : ℤ} {from s : ℕ} → IsLeft (IsPlannedOnItsDay on) before day from → IsFirstSecondFrom (on day) from s
@@ -64,9 +61,7 @@ module _ (on : ℤ → ℕ → Type 0) where
   none_back {day = day} h none = record {
     in_day = omega arith;
     not_later = omega (arith, ints, h.not_later);
-    left = λ m planned come. let most = h.left m planned come in by_lt_z (floor_div m 86_400) day (λ less. omega (arith, ints, floors))
-        (λ not. absurd (none (floor_mod m 86_400) (omega (arith, ints, floors)) (on_its_day on day m (omega (arith, ints, floors)) planned)
-        (omega (arith, ints, floors))));
+    left = grind (arith, ints, floors, on_its_day);
   }
 
   pub last_on_day : {until day : ℤ} {to s : ℕ} → IsLeftBefore (IsPlannedOnItsDay on) until day to → IsLastSecondUntil (on day) to s

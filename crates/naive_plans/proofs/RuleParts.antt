@@ -36,19 +36,17 @@ before_end day year before days is same all = let within = (day_of_year_is day).
 pub not_month : (r : RecurrenceRule) (start day : ℤ) (m f : ℕ) → m ≡ month_of day → f ≡ month_of start → (HasMonth r f m → ⊥) → IsOnDate r start day → ⊥
 not_month = grind (arith, ints)
 
-pub not_month_day : (r : RecurrenceRule) (start day year : ℤ) (m d f n : ℕ) → year ≡ year_of day → m ≡ month_of day → d ≡ day_of_month day
-    → f ≡ day_of_month start
-    → n ≡ days_in_month (is_leap year) m → (HasMonthDay r f (d - 1) (n - d) d → ⊥) → IsOnDate r start day → ⊥
-not_month_day = grind (arith, ints)
+-- the date of `day`
+module _ (r : RecurrenceRule) (start day : ℤ) {year : ℤ} {m d n : ℕ} (is_year : year ≡ year_of day) (is_month : m ≡ month_of day)
+    (is_day : d ≡ day_of_month day) (days : n ≡ days_in_month (is_leap year) m) where
+  pub not_month_day : {f : ℕ} → f ≡ day_of_month start → (HasMonthDay r f (d - 1) (n - d) d → ⊥) → IsOnDate r start day → ⊥
+  not_month_day = grind (arith, ints)
 
-pub not_weekday : (r : RecurrenceRule) (start day year : ℤ) (m d n : ℕ) → year ≡ year_of day → m ≡ month_of day → d ≡ day_of_month day
-    → n ≡ days_in_month (is_leap year) m → (HasWeekday r start day (d - 1) (n - d) → ⊥) → IsOnDate r start day → ⊥
-not_weekday = grind (arith, ints)
+  pub not_weekday : (HasWeekday r start day (d - 1) (n - d) → ⊥) → IsOnDate r start day → ⊥
+  not_weekday = grind (arith, ints)
 
-pub on_date : (r : RecurrenceRule) (start day year : ℤ) (m d fm fd n : ℕ) → year ≡ year_of day → m ≡ month_of day → d ≡ day_of_month day
-    → fm ≡ month_of start → fd ≡ day_of_month start
-    → n ≡ days_in_month (is_leap year) m → HasMonth r fm m → HasMonthDay r fd (d - 1) (n - d) d → HasWeekday r start day (d - 1) (n - d) → IsInWeek r day
-    → IsOnYearDay r day → IsOnDate r start day
-on_date r start day year m d fm fd n is_year is_month is first_month first days month month_day weekday week year_day = grind (arith, ints, floors)
+  pub on_date : {fm fd : ℕ} → fm ≡ month_of start → fd ≡ day_of_month start → HasMonth r fm m → HasMonthDay r fd (d - 1) (n - d) d
+      → HasWeekday r start day (d - 1) (n - d) → IsInWeek r day → IsOnYearDay r day → IsOnDate r start day
+  on_date first_month first month month_day weekday week year_day = grind (arith, ints, floors)
 
 pub ruleset fourth = (to_z-of_z, fourth_is)
