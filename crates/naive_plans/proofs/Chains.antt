@@ -35,16 +35,13 @@ module _ (r : RecurrenceRule) (start : ℤ) (length : ℕ) (kind : IsLength r le
 
   has_its_second : (l : ℤ) → IsOccasion r start l → HasSecondAt r (floor_mod start 86_400) length (floor_mod l length)
   has_its_second l one = elim kind [
-    | inl day ↦ rw day.1 (record { hour = λ _. one.hour; minute = λ _. one.minute; at_second = λ _. one.at_second })
+    | inl day ↦ rw day.1 (grind arith)
     | inr (inl hour) ↦
         let minutes : floor_mod l 3600 / 60 % 60 ≡ floor_mod l 86_400 / 60 % 60 = omega (arith, ints, floors) in
         let seconds : floor_mod l 3600 % 60 ≡ floor_mod l 86_400 % 60 = omega (arith, ints, floors) in
         rw hour.1 (record { hour = λ more. absurd (omega arith); minute = λ _. rw minutes one.minute; at_second = λ _. rw seconds one.at_second })
-    | inr (inr (inl minute)) ↦
-        let seconds : floor_mod l 60 % 60 ≡ floor_mod l 86_400 % 60 = omega (arith, ints, floors) in
-        rw minute.1 (record { hour = λ more. absurd (omega arith); minute = λ more. absurd (omega arith); at_second = λ _. rw seconds one.at_second })
-    | inr (inr (inr second)) ↦
-        rw second.1 (record { hour = λ more. absurd (omega arith); minute = λ more. absurd (omega arith); at_second = λ more. absurd (omega arith) })
+    | inr (inr (inl minute)) ↦ rw minute.1 (grind (arith, ints, floors))
+    | inr (inr (inr second)) ↦ rw second.1 (grind arith)
   ]
 
   pub one_counted : (second counted : ℕ) → AreFew r start length second counted → AreFew r start length (second + 1) (counted + 1)

@@ -38,13 +38,9 @@ module _ (r : RecurrenceRule) (start day : ℤ) (second length : ℕ) (kind : Is
 
   has_period : IsTimeOn r start day second → HasPeriodOfDay r (floor_mod start 86_400) length (second / length * length)
   has_period on = elim kind [
-    | inl hour ↦ let same : second / 3600 * 3600 / 3600 ≡ second / 3600 = omega arith in
-        rw hour.1 (record { hour = rw same on.hour; minute = λ short. absurd (omega arith); at_second = λ short. absurd (omega arith) })
-    | inr (inl minute) ↦
-        let same : second / 60 * 60 / 3600 ≡ second / 3600 = omega arith in let alike : second / 60 * 60 / 60 % 60 ≡ second / 60 % 60 = omega arith in
-        rw minute.1 (record { hour = rw same on.hour; minute = λ _. rw alike on.minute; at_second = λ short. absurd (omega arith) })
-    | inr (inr one) ↦ let same : second / 1 * 1 ≡ second = omega arith in
-        rw one.1 (rw same (record { hour = on.hour; minute = λ _. on.minute; at_second = λ _. on.at_second }))
+    | inl hour ↦ rw hour.1 (grind arith)
+    | inr (inl minute) ↦ rw minute.1 (grind arith)
+    | inr (inr one) ↦ rw one.1 (grind arith)
   ]
 
 period_under : (r : RecurrenceRule) (second length : ℕ) → IsPartOfHours r length → second < 86_400 → second / length < 86_400 / length
