@@ -1,5 +1,5 @@
 -- The walk from one date to the next.
-use Rattle.naive_base.proofs.Words.{IsWideDay, arith, by_lt_z, floor_div, floors, ints, pos, ℕ, ℤ, ◌*ℤ◌, ◌+ℤ◌, ◌<ℤ◌, ◌≡◌, ◌≤ℤ◌, floor_mod, ◌≤◌, ◌<◌, ◌-ℤ◌}
+use Rattle.naive_base.proofs.Words.{IsWideDay, arith, floor_div, floors, ints, pos, ℕ, ℤ, ◌*ℤ◌, ◌+ℤ◌, ◌<ℤ◌, ◌≡◌, ◌≤ℤ◌, floor_mod, ◌≤◌, ◌<◌, ◌-ℤ◌}
 use Rattle.naive_plans.specs.DayPlans.{HasNoSecondFrom, HasNoSecondUntil, IsFirstSecondFrom, IsLastSecondUntil, IsPlannedOnItsDay, second_before}
 use Rattle.naive_plans.specs.Plans.{HasNoneAfter, HasNoneUntil, IsLastUntil, IsNextAfter}
 
