@@ -1,61 +1,45 @@
 -- The minutes of a date, one after another.
-use Rattle.std.proofs.Common.{arith, false, true, ℕ, ℤ, ◌*◌, ◌+◌, ◌/◌, ◌<◌, ◌≡◌, ◌≤◌}
-use Rattle.std.proofs.{Common.{Bool}, lemmas.Bool.Decides.{nat_tests}}
-use Rattle.std.proofs.Common.{IsTrue, get_or, inl, inr}
+use Rattle.std.proofs.Common.{Bool, IsTrue}
 use Rattle.gregorian.specs.Weekdays.{weekday_of}
-use Rattle.gregorian.proofs.ForCallers.{date_is}
-use Rattle.gregorian.specs.{DateOf.{day_of_month, month_of, year_of}, Month.{days_in_month}, Year.{is_leap}}
-use Rattle.naive_plans.specs.{Steps.CronDates.{ListsNoDateBefore}, Cron.{IsCronDay, IsCronMinute, IsCronTime}}
-use Rattle.naive_plans.specs.{DayPlans.{HasNoSecondFrom, HasNoSecondUntil, IsFirstSecondFrom, IsLastSecondUntil}, declared.cron.Cron.{Cron}}
+use Rattle.naive_base.proofs.Words.{arith, false, true, ℕ, ℤ, ◌*◌, ◌+◌, ◌/◌, ◌<◌, ◌≡◌, ◌≤◌, get_or, date_is, days_in_month}
+use Rattle.naive_plans.specs.{Cron.{IsCronDay, IsCronMinute, IsCronTime}, DayPlans.{HasNoSecondFrom, HasNoSecondUntil, IsFirstSecondFrom, IsLastSecondUntil}}
+use Rattle.naive_plans.specs.{Steps.CronDates.{ListsNoDateBefore}, declared.cron.Cron.{Cron}}
 
 -- all that it has on that day from a second on comes from a minute on
 pub record IsLeft (c : Cron) (day : ℤ) (second minute : ℕ) : Type 0 where
   pub later : second ≤ minute * 60
   pub left : (k : ℕ) → IsCronTime c day k → second ≤ k → minute * 60 ≤ k
 
-pub all_left : (c : Cron) (day : ℤ) (second : ℕ) → IsLeft c day second ((second + 59) / 60)
-all_left c day second = record { later = omega arith; left = λ k h from. let whole = h.whole in omega arith }
+-- on a day of the line, from a second on
+module _ {c : Cron} {day : ℤ} {second : ℕ} where
+  pub all_left : IsLeft c day second ((second + 59) / 60)
+  all_left = omega arith
 
-pub found : (c : Cron) (day : ℤ) (second minute : ℕ) → minute < 1440 → IsLeft c day second minute → IsCronDay c day → IsCronMinute c minute
-    → IsFirstSecondFrom (IsCronTime c day) second (minute * 60)
-found c day second minute short h on at =
-    let is : minute * 60 / 60 ≡ minute = omega arith in
-    record {
-      planned = record { on = on; whole = omega arith; at = rw is at };
-      not_before = h.later;
-      in_day = omega arith;
-      least = λ k planned from. h.left k planned from;
-    }
+  pub found : {minute : ℕ} → minute < 1440 → IsLeft c day second minute → IsCronDay c day → IsCronMinute c minute
+      → IsFirstSecondFrom (IsCronTime c day) second (minute * 60)
+  found = grind arith
 
-pub passed : (c : Cron) (day : ℤ) (second minute : ℕ) → IsLeft c day second minute → (IsCronMinute c minute → ⊥) → IsLeft c day second (minute + 1)
-passed c day second minute h not = record {
-  later = let later = h.later in omega arith;
-  left = λ k planned from.
-      let least = h.left k planned from in let whole = planned.whole in
-      let other : k ≡ minute * 60 → ⊥ = λ same. not (let is : k / 60 ≡ minute = omega arith in rw is at planned.at) in grind (arith, other);
-}
+  pub passed : {minute : ℕ} → IsLeft c day second minute → (IsCronMinute c minute → ⊥) → IsLeft c day second (minute + 1)
+  passed {minute = minute} h not = record {
+    later = omega arith;
+    left = λ k planned from.
+        let least = h.left k planned from in
+        let other : k ≡ minute * 60 → ⊥ = λ same. not (let is : k / 60 ≡ minute = omega arith in rw is at planned.at) in grind (arith, other);
+  }
 
-pub none : (c : Cron) (day : ℤ) (second : ℕ) → IsLeft c day second 1440 → HasNoSecondFrom (IsCronTime c day) second
-none c day second h k short planned from = let least = h.left k planned from in omega arith
+  pub none : IsLeft c day second 1440 → HasNoSecondFrom (IsCronTime c day) second
+  none = grind arith
 
 -- ---- a line without a date
 longest : (b : Bool) (m : ℕ) → days_in_month b m ≤ days_in_month true m
-longest b m = grind (arith, nat_tests)
+longest = grind arith
 
 pub no_date : (c : Cron) (day : ℤ) → c.either ≡ false → ListsNoDateBefore c 13 → IsCronDay c day → ⊥
-no_date c day both none on =
-    let listed = rw both at on.listed in let is = (date_is day).0 in let days = longest (is_leap (year_of day)) (month_of day) in
-    none (month_of day) (day_of_month day) (omega (arith, is)) (omega (arith, is)) (omega (arith, is)) (omega (arith, is, days)) on.month listed.0
+no_date = grind (arith, date_is, longest, none)
 
 pub no_date_by_either : (c : Cron) (day : ℤ) → (c.either ≡ false → ⊥) → ListsNoDateBefore c 13 → (IsTrue (get_or c.weekdays (weekday_of day) false) → ⊥)
     → IsCronDay c day → ⊥
-no_date_by_either c day either none week on =
-    let is = (date_is day).0 in let days = longest (is_leap (year_of day)) (month_of day) in
-    let both : c.either ≡ true = grind (arith, either) in
-    elim (rw both at on.listed) [
-      | inl month ↦ none (month_of day) (day_of_month day) (omega (arith, is)) (omega (arith, is)) (omega (arith, is)) (omega (arith, is, days)) on.month month
-      | inr other ↦ week other
-    ]
+no_date_by_either = grind (arith, date_is, longest, none)
 
 -- ---- and back
 -- all that it has on that day up to a second comes before a minute
@@ -64,27 +48,26 @@ pub record IsLeftBefore (c : Cron) (day : ℤ) (second left : ℕ) : Type 0 wher
   pub not_later : left * 60 ≤ second + 60
   pub before : (k : ℕ) → k < 86_400 → IsCronTime c day k → k ≤ second → k < left * 60
 
-pub found_last : (c : Cron) (day : ℤ) (second left : ℕ) → IsLeftBefore c day second (left + 1) → IsCronDay c day → IsCronMinute c left
-    → IsLastSecondUntil (IsCronTime c day) second (left * 60)
-found_last c day second left h on at =
-    let is : left * 60 / 60 ≡ left = omega arith in let short = h.short in let not_later = h.not_later in
-    record {
-      planned = record { on = on; whole = omega arith; at = rw is at };
-      not_after = omega arith;
-      in_day = omega arith;
-      greatest = λ k in_day planned come. let below = h.before k in_day planned come in let whole = planned.whole in omega arith;
-    }
+-- on a day of the line, up to a second
+module _ {c : Cron} {day : ℤ} {second : ℕ} where
+  pub found_last : {left : ℕ} → IsLeftBefore c day second (left + 1) → IsCronDay c day → IsCronMinute c left
+      → IsLastSecondUntil (IsCronTime c day) second (left * 60)
+  found_last {left = left} h on at = grind arith
 
-pub passed_back : (c : Cron) (day : ℤ) (second left : ℕ) → IsLeftBefore c day second (left + 1) → (IsCronMinute c left → ⊥) → IsLeftBefore c day second left
-passed_back c day second left h not = record {
-  short = let short = h.short in omega arith;
-  not_later = let not_later = h.not_later in omega arith;
-  before = λ k in_day planned come.
-      let below = h.before k in_day planned come in let whole = planned.whole in
-      let other : k ≡ left * 60 → ⊥ = λ same. not (let is : k / 60 ≡ left = omega arith in rw is at planned.at) in grind (arith, other);
-}
+  pub passed_back : {left : ℕ} → IsLeftBefore c day second (left + 1) → (IsCronMinute c left → ⊥) → IsLeftBefore c day second left
+  passed_back {left = left} h not = record {
+    short = omega arith;
+    not_later = omega arith;
+    before = λ k in_day planned come.
+        let below = h.before k in_day planned come in
+        let other : k ≡ left * 60 → ⊥ = λ same. not (let is : k / 60 ≡ left = omega arith in rw is at planned.at) in grind (arith, other);
+  }
 
-pub none_back : (c : Cron) (day : ℤ) (second : ℕ) → IsLeftBefore c day second 0 → HasNoSecondUntil (IsCronTime c day) second
-none_back c day second h k in_day planned come = let below = h.before k in_day planned come in omega arith
+  pub none_back : IsLeftBefore c day second 0 → HasNoSecondUntil (IsCronTime c day) second
+  none_back h k in_day planned come = grind arith
 
 pub ruleset minutes_back = (found_last, passed_back, none_back)
+
+pub ruleset minutes = (all_left, found, passed)
+
+pub ruleset no_dates = (no_date, no_date_by_either)

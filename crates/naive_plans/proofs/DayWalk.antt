@@ -1,7 +1,5 @@
 -- The walk from one date to the next.
-use Rattle.naive_base.proofs.Words.{IsWideDay, arith, by_lt_z, floor_div, floors, ints, pos, subst, ℕ, ℤ, ◌*ℤ◌, ◌+ℤ◌, ◌<ℤ◌, ◌≡◌, ◌≤ℤ◌}
-use Rattle.gregorian.specs.Year.{floor_mod}
-use Rattle.std.specs.Prelude.{◌≤◌, ◌<◌, ◌-ℤ◌}
+use Rattle.naive_base.proofs.Words.{IsWideDay, arith, floor_div, floors, ints, pos, ℕ, ℤ, ◌*ℤ◌, ◌+ℤ◌, ◌<ℤ◌, ◌≡◌, ◌≤ℤ◌, floor_mod, ◌≤◌, ◌<◌, ◌-ℤ◌}
 use Rattle.naive_plans.specs.DayPlans.{HasNoSecondFrom, HasNoSecondUntil, IsFirstSecondFrom, IsLastSecondUntil, IsPlannedOnItsDay, second_before}
 use Rattle.naive_plans.specs.Plans.{HasNoneAfter, HasNoneUntil, IsLastUntil, IsNextAfter}
 
@@ -11,42 +9,36 @@ pub record IsLeft (plan : ℤ → Type 0) (before day : ℤ) (from : ℕ) : Type
   pub later : before <ℤ (day *ℤ pos 86_400 +ℤ pos from)
   pub left : (m : ℤ) → plan m → before <ℤ m → (day *ℤ pos 86_400 +ℤ pos from) ≤ℤ m
 
-pub all_left : (plan : ℤ → Type 0) (day : ℤ) (from : ℕ) → from ≤ 86_400 → IsLeft plan (second_before day from) day from
-all_left plan day from in_day = record { in_day = in_day; later = omega (arith, ints); left = λ m planned later. omega (arith, ints) }
+pub all_left : {plan : ℤ → Type 0} {day : ℤ} {from : ℕ} → from ≤ 86_400 → IsLeft plan (second_before day from) day from
+all_left = omega (arith, ints)
 
-pub on_its_day : (on : ℤ → ℕ → Type 0) (day m : ℤ) → floor_div m 86_400 ≡ day → IsPlannedOnItsDay on m → on day (floor_mod m 86_400)
-on_its_day on day m is planned = subst (λ (d : ℤ). on d (floor_mod m 86_400)) is planned
-
-pub none_on_day : (on : ℤ → ℕ → Type 0) (before day : ℤ) (from : ℕ) → IsLeft (IsPlannedOnItsDay on) before day from → HasNoSecondFrom (on day) from
-    → IsLeft (IsPlannedOnItsDay on) before (day +ℤ pos 1) 0
-none_on_day on before day from h none = record {
-  in_day = omega arith;
-  later = let later = h.later in let in_day = h.in_day in omega (arith, ints);
-  left = λ m planned later. let least = h.left m planned later in
-      by_lt_z day (floor_div m 86_400) (λ more. omega (arith, ints, floors))
-      (λ not. absurd (none (floor_mod m 86_400) (omega (arith, ints, floors)) (on_its_day on day m (omega (arith, ints, floors)) planned)
-      (omega (arith, ints, floors))));
-}
-
-pub at_end : (plan : ℤ → Type 0) (before day : ℤ) → IsWideDay day → (IsWideDay (day +ℤ pos 1) → ⊥) → IsLeft plan before (day +ℤ pos 1) 0
+pub at_end : {plan : ℤ → Type 0} {before day : ℤ} → IsWideDay day → (IsWideDay (day +ℤ pos 1) → ⊥) → IsLeft plan before (day +ℤ pos 1) 0
     → HasNoneAfter plan before
-at_end plan before day wide out h m inside planned later =
-    let least = h.left m planned later in out (omega (arith, ints, wide, inside), omega (arith, ints, wide, inside))
+at_end wide out h m inside planned later = grind (arith, ints)
 
-pub found_on_day : (on : ℤ → ℕ → Type 0) (before day : ℤ) (from s : ℕ) → IsLeft (IsPlannedOnItsDay on) before day from → IsFirstSecondFrom (on day) from s
-    → IsNextAfter (IsPlannedOnItsDay on) before (day *ℤ pos 86_400 +ℤ pos s)
-found_on_day on before day from s h first =
-    let l : ℤ = day *ℤ pos 86_400 +ℤ pos s in let in_day = first.in_day in let not_before = first.not_before in
-    let is_day : floor_div l 86_400 ≡ day = omega (arith, ints, floors) in
-    let is_second : floor_mod l 86_400 ≡ s = omega (arith, ints, floors) in
-    record {
-      planned = rw (is_day, is_second) first.planned;
-      after = let later = h.later in omega (arith, ints);
-      least = λ m inside planned later. let after = h.left m planned later in
-          by_lt_z day (floor_div m 86_400) (λ more. omega (arith, ints, floors))
-          (λ not. let least = first.least (floor_mod m 86_400) (on_its_day on day m (omega (arith, ints, floors)) planned)
-          (omega (arith, ints, floors)) in omega (arith, ints, floors));
-    }
+-- the seconds that `on` lists for each day
+module _ (on : ℤ → ℕ → Type 0) where
+  on_its_day : (day m : ℤ) → floor_div m 86_400 ≡ day → IsPlannedOnItsDay on m → on day (floor_mod m 86_400)
+  on_its_day = grind (arith, ints)
+
+  pub on_day : (day l : ℤ) (s : ℕ) → s < 86_400 → l ≡ day *ℤ pos 86_400 +ℤ pos s → on day s → IsPlannedOnItsDay on l
+  on_day = grind (arith, ints)
+
+  pub none_on_day : {before day : ℤ} {from : ℕ} → IsLeft (IsPlannedOnItsDay on) before day from → HasNoSecondFrom (on day) from
+      → IsLeft (IsPlannedOnItsDay on) before (day +ℤ pos 1) 0
+  none_on_day {day = day} h none = record {
+    in_day = omega arith;
+    later = omega (arith, ints, h.later, h.in_day);
+    left = grind (arith, ints, floors, on_its_day);
+  }
+
+  pub least_found : {before day : ℤ} {from s : ℕ} → IsLeft (IsPlannedOnItsDay on) before day from → IsFirstSecondFrom (on day) from s
+      → (m : ℤ) → IsPlannedOnItsDay on m → before <ℤ m → (day *ℤ pos 86_400 +ℤ pos s) ≤ℤ m
+  least_found {day = day} h first m planned later = grind (arith, ints, on_its_day)
+
+  pub found_on_day : {before day : ℤ} {from s : ℕ} → IsLeft (IsPlannedOnItsDay on) before day from → IsFirstSecondFrom (on day) from s
+      → IsNextAfter (IsPlannedOnItsDay on) before (day *ℤ pos 86_400 +ℤ pos s)
+  found_on_day = grind (arith, ints, least_found, on_day)
 
 -- ---- and back
 -- all that it has up to a local second, and can be shown, comes up to a second of a day
@@ -55,36 +47,23 @@ pub record IsLeftBefore (plan : ℤ → Type 0) (until day : ℤ) (to : ℕ) : T
   pub not_later : (day *ℤ pos 86_400 +ℤ pos to) ≤ℤ until
   pub left : (m : ℤ) → plan m → m ≤ℤ until → m ≤ℤ (day *ℤ pos 86_400 +ℤ pos to)
 
-pub all_before : (plan : ℤ → Type 0) (day : ℤ) (to : ℕ) → to < 86_400 → IsLeftBefore plan (day *ℤ pos 86_400 +ℤ pos to) day to
-all_before plan day to in_day = record { in_day = in_day; not_later = omega (arith, ints); left = λ m planned come. come }
+pub all_before : {plan : ℤ → Type 0} {day : ℤ} {to : ℕ} → to < 86_400 → IsLeftBefore plan (day *ℤ pos 86_400 +ℤ pos to) day to
+all_before = omega (arith, ints)
 
-pub none_back : (on : ℤ → ℕ → Type 0) (until day : ℤ) (to : ℕ) → IsLeftBefore (IsPlannedOnItsDay on) until day to → HasNoSecondUntil (on day) to
-    → IsLeftBefore (IsPlannedOnItsDay on) until (day -ℤ pos 1) 86_399
-none_back on until day to h none = record {
-  in_day = omega arith;
-  not_later = let not_later = h.not_later in omega (arith, ints);
-  left = λ m planned come. let most = h.left m planned come in let in_day = h.in_day in
-      by_lt_z (floor_div m 86_400) day (λ less. omega (arith, ints, floors))
-      (λ not. absurd (none (floor_mod m 86_400) (omega (arith, ints, floors)) (on_its_day on day m (omega (arith, ints, floors)) planned)
-      (omega (arith, ints, floors))));
-}
-
-pub at_start : (plan : ℤ → Type 0) (until day : ℤ) → IsWideDay day → (IsWideDay (day -ℤ pos 1) → ⊥) → IsLeftBefore plan until (day -ℤ pos 1) 86_399
+pub at_start : {plan : ℤ → Type 0} {until day : ℤ} → IsWideDay day → (IsWideDay (day -ℤ pos 1) → ⊥) → IsLeftBefore plan until (day -ℤ pos 1) 86_399
     → HasNoneUntil plan until
-at_start plan until day wide out h m inside planned come =
-    let most = h.left m planned come in out (omega (arith, ints, wide, inside), omega (arith, ints, wide, inside))
+at_start = grind (arith, ints)
 
-pub last_on_day : (on : ℤ → ℕ → Type 0) (until day : ℤ) (to s : ℕ) → IsLeftBefore (IsPlannedOnItsDay on) until day to → IsLastSecondUntil (on day) to s
-    → IsLastUntil (IsPlannedOnItsDay on) until (day *ℤ pos 86_400 +ℤ pos s)
-last_on_day on until day to s h last =
-    let l : ℤ = day *ℤ pos 86_400 +ℤ pos s in let in_day = last.in_day in let not_after = last.not_after in
-    let is_day : floor_div l 86_400 ≡ day = omega (arith, ints, floors) in
-    let is_second : floor_mod l 86_400 ≡ s = omega (arith, ints, floors) in
-    record {
-      planned = rw (is_day, is_second) last.planned;
-      not_after = let not_later = h.not_later in omega (arith, ints);
-      greatest = λ m inside planned come. let most = h.left m planned come in let short = h.in_day in
-          by_lt_z (floor_div m 86_400) day (λ less. omega (arith, ints, floors))
-          (λ not. let greatest = last.greatest (floor_mod m 86_400) (omega (arith, ints, floors)) (on_its_day on day m (omega (arith, ints, floors)) planned)
-          (omega (arith, ints, floors)) in omega (arith, ints, floors));
-    }
+-- the seconds that `on` lists for each day
+module _ (on : ℤ → ℕ → Type 0) where
+  pub none_back : {until day : ℤ} {to : ℕ} → IsLeftBefore (IsPlannedOnItsDay on) until day to → HasNoSecondUntil (on day) to
+      → IsLeftBefore (IsPlannedOnItsDay on) until (day -ℤ pos 1) 86_399
+  none_back {day = day} h none = record {
+    in_day = omega arith;
+    not_later = omega (arith, ints, h.not_later);
+    left = grind (arith, ints, floors, on_its_day);
+  }
+
+  pub last_on_day : {until day : ℤ} {to s : ℕ} → IsLeftBefore (IsPlannedOnItsDay on) until day to → IsLastSecondUntil (on day) to s
+      → IsLastUntil (IsPlannedOnItsDay on) until (day *ℤ pos 86_400 +ℤ pos s)
+  last_on_day = grind (arith, ints, on_day, on_its_day)

@@ -1,3 +1,4 @@
+mod Bits
 mod DayWalk
 mod CronWalk
 mod RuleParts

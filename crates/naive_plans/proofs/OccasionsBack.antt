@@ -1,172 +1,89 @@
 -- The walk back over the times that a rule's parts let through.
-use Rattle.naive_base.proofs.Words.{MatchOption, None, Option, Some, arith, by_lt_z, date_is, date_only, day_number, floor_div, floor_mod, floors}
-use Rattle.naive_base.proofs.Words.{ints, neg_ℤ, pos, unsigned_abs, ℕ, ℤ, ◌*◌, ◌*ℤ◌, ◌+ℤ◌, ◌+◌, ◌-ℤ◌, ◌-◌, ◌/◌, ◌<ℤ◌, ◌<◌, ◌≡◌, ◌≤ℤ◌, ◌≤◌}
-use Rattle.naive_base.proofs.Words.{day_of_month, days_in_month, is_leap, month_of, year_of}
-use Rattle.naive_base.proofs.Words.{nat_tests}
-use Rattle.std.proofs.{Common.{Bool}}
-use Rattle.naive_plans.proofs.DayWalk.{IsLeftBefore}
-use Rattle.naive_plans.specs.DayPlans.{HasNoSecondUntil, IsLastSecondUntil, IsPlannedOnItsDay}
-use Rattle.naive_plans.specs.Plans.{HasNoneUntil}
-use Rattle.naive_base.proofs.Words.{weekday_number}
-use Rattle.naive_plans.proofs.OccasionWalk.{not_counted, on_date, time_of}
-use Rattle.naive_plans.proofs.Periods.{long_before, period_rises}
-use Rattle.naive_plans.specs.Steps.OccasionSteps.{IsCounted, IsEndOfLast, IsSkippedBack, IsTimeOn}
-use Rattle.naive_plans.specs.Steps.RuleSteps.{IsLastPeriod, own_period}
-use Rattle.naive_plans.specs.RecurrenceRules.{HasHour, HasMinute, HasMonth, IsOccasion, IsOccasionOn, IsOnDate}
-use Rattle.naive_plans.specs.declared.rule.RecurrenceRule.{RecurrenceRule}
+use Rattle.naive_base.proofs.Words.{MatchOption, None, Option, Some, arith, by_lt_z, date_is, floor_div, floor_mod, floors, ints, pos, ℕ, ℤ, ◌*◌, ◌*ℤ◌, ◌+ℤ◌}
+use Rattle.naive_base.proofs.Words.{◌+◌, ◌-ℤ◌, ◌-◌, ◌/◌, ◌<ℤ◌, ◌<◌, ◌≡◌, ◌≤ℤ◌, ◌≤◌, day_of_month, is_leap, month_of, year_of, month_bounds, weekday_number}
+use Rattle.naive_plans.proofs.{DayWalk.{IsLeftBefore}, OccasionWalk.{on_date, time_of}, Periods.{in_same_month, long_before, period_rises}}
+use Rattle.naive_plans.specs.{DayPlans.{HasNoSecondUntil, IsLastSecondUntil, IsPlannedOnItsDay}, Plans.{HasNoneUntil}, RecurrenceRules.{HasHour, HasMinute}}
+use Rattle.naive_plans.specs.{RecurrenceRules.{HasMonth, IsOccasion, IsOccasionOn, IsOnDate}, Steps.OccasionSteps.{IsEndOfLast, IsSkippedBack, IsTimeOn}}
+use Rattle.naive_plans.specs.{Steps.RuleSteps.{own_period}, declared.rule.RecurrenceRule.{RecurrenceRule}}
 
 -- ---- seconds of a day
-pub hour_back : (r : RecurrenceRule) (start day : ℤ) (second : ℕ) → (HasHour r (floor_mod start 86_400) second → ⊥)
-    → IsSkippedBack (IsTimeOn r start day) second (second / 3600 * 3600)
-hour_back r start day second not = record {
-  earlier = omega arith;
-  none = λ k on le. let other : k / 3600 ≡ second / 3600 → ⊥ = λ same. not (rw same at on.hour) in grind (arith, other);
-}
+-- the rule r with that start, up to a second of `day`
+module _ (r : RecurrenceRule) (start day : ℤ) (second : ℕ) where
+  pub hour_back : (HasHour r (floor_mod start 86_400) second → ⊥) → IsSkippedBack (IsTimeOn r start day) second (second / 3600 * 3600)
+  hour_back = grind (arith, ints)
 
-pub minute_back : (r : RecurrenceRule) (start day : ℤ) (second : ℕ) → (HasMinute r (floor_mod start 86_400) second → ⊥)
-    → IsSkippedBack (IsTimeOn r start day) second (second / 60 * 60)
-minute_back r start day second not = record {
-  earlier = omega arith;
-  none = λ k on le. let other : k / 60 ≡ second / 60 → ⊥ = λ same. not (rw same at on.minute) in grind (arith, other);
-}
+  pub minute_back : (HasMinute r (floor_mod start 86_400) second → ⊥) → IsSkippedBack (IsTimeOn r start day) second (second / 60 * 60)
+  minute_back = grind (arith, ints)
 
-pub one_back : (on : ℕ → Type 0) (second : ℕ) → (on second → ⊥) → IsSkippedBack on second second
-one_back on second not = record {
-  earlier = omega arith;
-  none = λ k one le. let other : k ≡ second → ⊥ = λ same. not (rw same at one) in grind (arith, other);
-}
+  pub period_back : {l e : ℤ} {end : ℕ} → l ≡ day *ℤ pos 86_400 +ℤ pos second → IsEndOfLast r start l e → end ≤ second
+      → ((k : ℕ) → k < second → (day *ℤ pos 86_400 +ℤ pos k) <ℤ e → k < end) → IsSkippedBack (IsTimeOn r start day) second end
+  period_back = grind (arith, ints)
 
 -- none comes from a second of the day on and up to another one
 abbrev pub IsPassedBack : (ℕ → Type 0) → ℕ → ℕ → Type 0
 IsPassedBack on until left = (left ≤ until + 1) × ((k : ℕ) → k < 86_400 → on k → k ≤ until → k < left)
 
-pub more_back : (on : ℕ → Type 0) (until left end : ℕ) → IsPassedBack on until left → 0 < left → IsSkippedBack on (left - 1) end → IsPassedBack on until end
-more_back on until left end h some skip = (
-  let earlier = skip.earlier in let low = h.0 in omega (arith, earlier, low, some),
-  λ k in_day one le. let below = h.1 k in_day one le in skip.none k one (omega (arith, below, some)),
-)
+-- the seconds of a day that `on` lists
+module _ (on : ℕ → Type 0) where
+  pub one_back : (second : ℕ) → (on second → ⊥) → IsSkippedBack on second second
+  one_back = grind (arith, ints)
 
-pub found_back : (on : ℕ → Type 0) (until left : ℕ) → until < 86_400 → IsPassedBack on until left → 0 < left → on (left - 1)
-    → IsLastSecondUntil on until (left - 1)
-found_back on until left short h some one = record {
-  planned = one;
-  not_after = let low = h.0 in omega (arith, low, some);
-  in_day = let low = h.0 in omega (arith, low, some, short);
-  greatest = λ k in_day other le. let below = h.1 k in_day other le in omega (arith, below, some);
-}
+  pub more_back : (until left end : ℕ) → IsPassedBack on until left → 0 < left → IsSkippedBack on (left - 1) end → IsPassedBack on until end
+  more_back = grind (arith, ints)
+
+  pub found_back : (until left : ℕ) → until < 86_400 → IsPassedBack on until left → 0 < left → on (left - 1) → IsLastSecondUntil on until (left - 1)
+  found_back = grind (arith, ints)
 
 -- ---- days
 pub with_date_back : (r : RecurrenceRule) (start day : ℤ) (until : ℕ) (found : Option ℕ) → IsOnDate r (floor_div start 86_400) day
     → MatchOption found (HasNoSecondUntil (IsTimeOn r start day) until) (λ s. IsLastSecondUntil (IsTimeOn r start day) until s)
     → MatchOption found (HasNoSecondUntil (IsOccasionOn r start day) until) (λ s. IsLastSecondUntil (IsOccasionOn r start day) until s)
-with_date_back r start day until None date none = λ k in_day on. none k in_day (time_of r start day k on)
-with_date_back r start day until (Some s) date last = record {
-  planned = on_date r start day s date last.planned;
-  not_after = last.not_after;
-  in_day = last.in_day;
-  greatest = λ k in_day on. last.greatest k in_day (time_of r start day k on);
-}
-
-earlier_number : (y : ℤ) (m d k : ℕ) (day : ℤ) → 1 ≤ d → day_number y m (d + k) ≡ day → day_number y m d ≡ day -ℤ pos k
-unfolding day_number
-earlier_number y m d k day low is = omega (arith, ints, low, is)
-
-same_month_back : (day : ℤ) (d k : ℕ) → 1 ≤ d → d + k ≡ day_of_month day → month_of (day -ℤ pos k) ≡ month_of day
-same_month_back day d k low sum =
-    let own = date_is day in let last = own.0.3 in
-    (date_only (day -ℤ pos k) (year_of day) (month_of day) d (own.0.0, own.0.1, low, omega (arith, sum, last))
-    (earlier_number (year_of day) (month_of day) d k day low (rw sum own.1))).1
-
-pub month_begun : (day d : ℤ) → d <ℤ day → (day -ℤ pos (day_of_month day)) <ℤ d → month_of d ≡ month_of day
-month_begun day d less after =
-    let k : ℕ = unsigned_abs (day -ℤ d) in let is : day -ℤ pos k ≡ d = omega (arith, ints, less) in
-    rw is at (same_month_back day (day_of_month day - k) k (omega (arith, ints, less, after)) (omega (arith, ints, less, after)))
+with_date_back r start day until None date none = grind (arith, ints, floors, time_of)
+with_date_back r start day until (Some s) date last = search (arith, ints, floors, on_date, time_of)
 
 pub before_month : (r : RecurrenceRule) (start day d result : ℤ) (m f dom : ℕ) → m ≡ month_of day → dom ≡ day_of_month day → f ≡ month_of start
     → result ≡ day -ℤ pos dom → (HasMonth r f m → ⊥) → IsOnDate r start d → d <ℤ day → d ≤ℤ result
-before_month r start day d result m f dom is_month is_day is_first is none on less =
-    by_lt_z result d
-    (λ more. let same = month_begun day d less (omega (arith, ints, is, is_day, more)) in absurd (none (rw (is_month, is_first) (rw same at on.month))))
-    (λ not. not)
-
-most_days : (b : Bool) (m : ℕ) → days_in_month b m ≤ 31
-most_days b m = grind (arith, nat_tests)
+before_month r start day d result m f dom is_month is_day is_first is none on less = by_lt_z result d
+    (λ more. absurd (none (rw (is_month, is_first) (rw (in_same_month day d (omega (arith, ints)) (omega (arith, ints))).0 at on.month)))) (λ not. not)
 
 pub in_month : (day : ℤ) (dom : ℕ) → dom ≡ day_of_month day → dom ≤ 31
-in_month day dom is = let last = (date_is day).0.3 in let most = most_days (is_leap (year_of day)) (month_of day) in omega (arith, is, last, most)
+in_month day dom is = omega (arith, date_is day, month_bounds (is_leap (year_of day)) (month_of day))
 
 -- an earlier day with none after it
 pub left_earlier : (on : ℤ → ℕ → Type 0) (until day last : ℤ) → IsLeftBefore (IsPlannedOnItsDay on) until (day -ℤ pos 1) 86_399 → last <ℤ day
     → ((d : ℤ) (second : ℕ) → on d second → second < 86_400 → d <ℤ day → d ≤ℤ last) → IsLeftBefore (IsPlannedOnItsDay on) until last 86_399
-left_earlier on until day last h earlier none = record {
-  in_day = omega arith;
-  not_later = let from = h.not_later in omega (arith, ints, from, earlier);
-  left = λ m planned come. let most = h.left m planned come in
-      let from = none (floor_div m 86_400) (floor_mod m 86_400) planned (omega (arith, ints, floors)) (omega (arith, ints, floors, most)) in
-      omega (arith, ints, floors, from);
-}
+left_earlier = grind (arith, ints)
 
 -- no occasion comes 367 days before the start
 pub after_all : (r : RecurrenceRule) (start l : ℤ) → IsOccasion r start l → (start -ℤ pos 31_708_800) <ℤ l
 after_all r start l one = by_lt_z (start -ℤ pos 31_708_800) l (λ less. less)
-    (λ not. let early = long_before r.frequency (weekday_number r.week_start) l start (omega (arith, ints, not)) in
+    (λ not. let early = long_before r.frequency (weekday_number r.week_start) l start (omega (arith, ints)) in
     let same : floor_div l 86_400 *ℤ pos 86_400 +ℤ pos (floor_mod l 86_400) ≡ l = omega (arith, ints, floors) in
-    let counts = (rw same at one.counts).is in absurd (omega (arith, ints, early, counts)))
+    let counts = (rw same at one.counts).is in absurd (omega (arith, ints)))
 
 pub none_until : (r : RecurrenceRule) (start until day : ℤ) (to : ℕ) → IsLeftBefore (IsOccasion r start) until day to
     → ((day *ℤ pos 86_400 +ℤ pos 86_400) ≤ℤ (start -ℤ pos 31_708_800)) → HasNoneUntil (IsOccasion r start) until
 none_until r start until day to h over m wide one come =
-    let most = h.left m one come in let short = h.in_day in let after = after_all r start m one in omega (arith, ints, most, short, over, after)
+    omega (arith, ints, after_all r start m one, h.left m one come)
 
 pub all_until : (set : ℤ → Type 0) (until day : ℤ) (second : ℕ) → day ≡ floor_div until 86_400 → second ≡ floor_mod until 86_400
     → IsLeftBefore set until day second
-all_until set until day second is_day is_second = record {
-  in_day = omega (arith, ints, floors, is_second);
-  not_later = omega (arith, ints, floors, is_day, is_second);
-  left = λ m one come. omega (arith, ints, floors, is_day, is_second, come);
-}
+all_until = omega (arith, ints, floors)
 
 -- ---- periods that count
 pub none_counted : (r : RecurrenceRule) (start second first period end : ℤ) → first ≡ own_period r start → period ≡ own_period r second
     → (first ≤ℤ period → ⊥) → start <ℤ pos 253_402_300_800 → end ≡ start -ℤ pos 31_708_800 → IsEndOfLast r start second end
 none_counted r start second first period end is_first is_period early in_years is_end = record {
-  none = λ l counted le. absurd (early (let rise = period_rises r.frequency (weekday_number r.week_start) l second le in let is = counted.is in
-      omega (arith, ints, rise, is, is_first, is_period)));
-  not_here = λ counted. early (let is = counted.is in omega (arith, ints, is, is_first, is_period));
-  bound = (omega (arith, ints, is_end), omega (arith, ints, is_end, in_years));
-}
-
-pub ends_earlier : (r : RecurrenceRule) (start second first period last next end : ℤ) → first ≡ own_period r start → period ≡ own_period r second
-    → IsLastPeriod r.interval first period last → (last ≡ period → ⊥) → next ≡ last +ℤ pos 1 → second <ℤ pos 345_600_086_400
-    → ((l : ℤ) → l <ℤ pos 345_600_086_400 → own_period r l <ℤ next → l <ℤ end)
-    → ((l : ℤ) → next ≤ℤ own_period r l → end ≤ℤ l) → start <ℤ pos 253_402_300_800 → IsEndOfLast r start second end
-ends_earlier r start second first period last next end is_first is_period own other is_next in_years earlier later start_in_years = record {
-  none = λ l counted le.
-      let rise : own_period r l ≤ℤ period = rw is_period (period_rises r.frequency (weekday_number r.week_start) l second le) in
-      let most = own.greatest (own_period r l) (rw is_first counted) rise in
-      earlier l (omega (arith, ints, le, in_years)) (omega (arith, ints, most, is_next));
-  not_here = not_counted r start second first period last is_first is_period own other;
-  bound = (
-    let is = own.counts.is in let from = earlier start (omega (arith, ints, start_in_years)) (omega (arith, ints, is, is_first, is_next)) in
-        omega (arith, ints, from),
-    by_lt_z last period
-        (λ less. let up = later second (omega (arith, ints, less, is_next, is_period)) in omega (arith, ints, up, in_years))
-        (λ not. absurd (other (let up = own.not_after in omega (arith, ints, not, up)))),
-  );
-}
-
-pub period_back : (r : RecurrenceRule) (start day l e : ℤ) (second end : ℕ) → l ≡ day *ℤ pos 86_400 +ℤ pos second → IsEndOfLast r start l e
-    → end ≤ second → ((k : ℕ) → k < second → (day *ℤ pos 86_400 +ℤ pos k) <ℤ e → k < end) → IsSkippedBack (IsTimeOn r start day) second end
-period_back r start day l e second end is own earlier to = record {
-  earlier = earlier;
-  none = λ k on le.
-      let other : k ≡ second → ⊥ = λ same. own.not_here (rw is (rw same at on.counts)) in
-      to k (grind (arith, other, le)) (own.none (day *ℤ pos 86_400 +ℤ pos k) on.counts (omega (arith, ints, is, le)));
+  none = λ l counted le. absurd (early (omega (arith, ints, period_rises r.frequency (weekday_number r.week_start) l second le)));
+  not_here = λ counted. early (omega (arith, ints));
+  bound = omega (arith, ints);
 }
 
 -- a day of a second that counts, up to one that none counts after
 pub day_to : (end day d : ℤ) (second : ℕ) → day ≡ floor_div (end -ℤ pos 1) 86_400 → second < 86_400 → (d *ℤ pos 86_400 +ℤ pos second) <ℤ end → d ≤ℤ day
-day_to end day d second is short less = omega (arith, ints, floors, is, short, less)
+day_to = omega (arith, ints, floors)
 
 pub days_up_to : (last d : ℤ) (second : ℕ) → d ≤ℤ last → second < 86_400 → (d *ℤ pos 86_400 +ℤ pos second) ≤ℤ (last *ℤ pos 86_400 +ℤ pos 86_399)
-days_up_to last d second le short = omega (arith, ints, le, short)
+days_up_to last d second le short = omega (arith, ints)
+
+pub ruleset seconds_back = (more_back, found_back)

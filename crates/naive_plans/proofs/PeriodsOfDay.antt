@@ -1,10 +1,8 @@
 -- The periods of a day that a rule by hours, minutes or seconds meets.
-use Rattle.naive_base.proofs.Words.{arith, floor_div, floor_mod, floors, inl, inr, ints, pos, sym, unsigned_abs}
-use Rattle.naive_base.proofs.Words.{ℕ, ℤ, ◌%◌, ◌*◌, ◌*ℤ◌, ◌+ℤ◌, ◌+◌, ◌-ℤ◌, ◌/◌, ◌<◌, ◌≡◌, ◌≤◌}
-use Rattle.std.proofs.Math.Nat.{add-mul-mod_self_right, div-add-mod', zero-mod}
-use Rattle.std.proofs.lemmas.Nat.{mul-mod_second}
-use Rattle.naive_plans.specs.RecurrenceRules.{HasSecond}
-use Rattle.naive_plans.specs.Steps.OccasionSteps.{HasPeriodOfDay, IsCounted, IsPartOfHours, IsTimeOn}
+use Rattle.std.proofs.{Math.Nat.{add-mul-mod_self_right, div-add-mod', zero-mod}, lemmas.Nat.{mul-mod_second}}
+use Rattle.naive_base.proofs.Words.{arith, floor_div, floor_mod, floors, inl, inr, ints, pos, sym, unsigned_abs, ℕ, ℤ, ◌%◌, ◌*◌, ◌*ℤ◌, ◌+ℤ◌, ◌+◌, ◌-ℤ◌, ◌/◌}
+use Rattle.naive_base.proofs.Words.{◌<◌, ◌≡◌}
+use Rattle.naive_plans.specs.{RecurrenceRules.{HasSecond}, Steps.OccasionSteps.{HasPeriodOfDay, IsCounted, IsPartOfHours, IsTimeOn}}
 use Rattle.naive_plans.specs.declared.rule.RecurrenceRule.{RecurrenceRule}
 
 times_none : (t n : ℕ) → n ≡ 0 → t * n ≡ 0
@@ -14,7 +12,7 @@ multiple_of : (t n step : ℕ) → n % step ≡ 0 → t * n % step ≡ 0
 multiple_of t n step none = rw (sym (mul-mod_second t n step)) (rw (times_none t (n % step) none) (zero-mod step))
 
 whole_steps : (passed steps rest : ℕ) → steps + rest ≡ passed → rest ≡ 0 → steps ≡ passed
-whole_steps passed steps rest is none = omega (arith, is, none)
+whole_steps = omega arith
 
 same_rest : (n whole step : ℕ) → whole % step ≡ 0 → (n + whole) % step ≡ n % step
 same_rest n whole step none =
@@ -26,38 +24,27 @@ alike : (period first days passed step : ℕ) → days % step ≡ 0 → passed %
 alike period first days passed step whole_days whole_passed same = rw (sym (same_rest period days step whole_days)) (rw same (same_rest first passed step
     whole_passed))
 
--- the periods of the days from the start's on come before a period, but for its place in its day
-in_days : (r : RecurrenceRule) (start day : ℤ) (second length : ℕ) → IsPartOfHours r length → second < 86_400
-    → (counted : IsCounted r start (day *ℤ pos 86_400 +ℤ pos second))
-    → second / length + unsigned_abs (day -ℤ floor_div start 86_400) * (86_400 / length)
-    ≡ floor_mod start 86_400 / length + counted.times * r.interval
-in_days r start day second length kind short counted = elim kind [
-  | inl hour ↦ let is : floor_div (day *ℤ pos 86_400 +ℤ pos second) 3600 ≡ floor_div start 3600 +ℤ pos (counted.times * r.interval) = rw hour.0 at counted.is in
-      rw hour.1 (omega (arith, ints, floors, is, short))
-  | inr (inl minute) ↦ let is : floor_div (day *ℤ pos 86_400 +ℤ pos second) 60 ≡ floor_div start 60 +ℤ pos (counted.times * r.interval) = rw minute.0 at
-      counted.is in rw minute.1 (omega (arith, ints, floors, is, short))
-  | inr (inr one) ↦ let is : day *ℤ pos 86_400 +ℤ pos second ≡ start +ℤ pos (counted.times * r.interval) = rw one.0 at counted.is in
-      rw one.1 (omega (arith, ints, floors, is, short))
-]
+-- the rule r, whose periods are parts of days, at a second of `day`
+module _ (r : RecurrenceRule) (start day : ℤ) (second length : ℕ) (kind : IsPartOfHours r length) where
+  -- the periods of the days from the start's on come before a period, but for its place in its day
+  in_days : second < 86_400 → (counted : IsCounted r start (day *ℤ pos 86_400 +ℤ pos second))
+      → second / length + unsigned_abs (day -ℤ floor_div start 86_400) * (86_400 / length)
+      ≡ floor_mod start 86_400 / length + counted.times * r.interval
+  in_days short counted = elim kind [
+    | inl hour ↦ let is = rw hour.0 at counted.is in rw hour.1 (omega (arith, ints, floors))
+    | inr (inl minute) ↦ let is = rw minute.0 at counted.is in rw minute.1 (omega (arith, ints, floors))
+    | inr (inr one) ↦ let is = rw one.0 at counted.is in rw one.1 (omega (arith, ints, floors))
+  ]
 
-has_period : (r : RecurrenceRule) (start day : ℤ) (second length : ℕ) → IsPartOfHours r length → IsTimeOn r start day second
-    → HasPeriodOfDay r (floor_mod start 86_400) length (second / length * length)
-has_period r start day second length kind on = elim kind [
-  | inl hour ↦ let same : second / 3600 * 3600 / 3600 ≡ second / 3600 = omega arith in
-      rw hour.1 (record { hour = rw same on.hour; minute = λ short. absurd (omega (arith, short)); at_second = λ short. absurd (omega (arith, short)) })
-  | inr (inl minute) ↦
-      let same : second / 60 * 60 / 3600 ≡ second / 3600 = omega arith in let alike : second / 60 * 60 / 60 % 60 ≡ second / 60 % 60 = omega arith in
-      rw minute.1 (record { hour = rw same on.hour; minute = λ _. rw alike on.minute; at_second = λ short. absurd (omega (arith, short)) })
-  | inr (inr one) ↦ let same : second / 1 * 1 ≡ second = omega arith in
-      rw one.1 (rw same (record { hour = on.hour; minute = λ _. on.minute; at_second = λ _. on.at_second }))
-]
+  has_period : IsTimeOn r start day second → HasPeriodOfDay r (floor_mod start 86_400) length (second / length * length)
+  has_period on = elim kind [
+    | inl hour ↦ rw hour.1 (grind arith)
+    | inr (inl minute) ↦ rw minute.1 (grind arith)
+    | inr (inr one) ↦ rw one.1 (grind arith)
+  ]
 
 period_under : (r : RecurrenceRule) (second length : ℕ) → IsPartOfHours r length → second < 86_400 → second / length < 86_400 / length
-period_under r second length kind short = elim kind [
-  | inl hour ↦ rw hour.1 (omega (arith, short))
-  | inr (inl minute) ↦ rw minute.1 (omega (arith, short))
-  | inr (inr one) ↦ rw one.1 (omega (arith, short))
-]
+period_under = grind (arith, ints)
 
 pub never_met : (r : RecurrenceRule) (start : ℤ) (length step : ℕ) → IsPartOfHours r length → 86_400 / length % step ≡ 0 → r.interval % step ≡ 0
     → ((k : ℕ) → k < 86_400 / length → k % step ≡ floor_mod start 86_400 / length % step

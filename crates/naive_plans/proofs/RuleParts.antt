@@ -1,90 +1,52 @@
 -- The parts of a rule.
-use Rattle.std.proofs.Common.{IsTrue, inl, inr, arith, pos, Bool, ℕ, ℤ, ◌≡◌, ◌/◌, ◌%◌, ◌+◌, ◌-◌, ◌<◌, ◌≤◌, ◌+ℤ◌, ◌-ℤ◌, ◌↔◌, subst}
-use Rattle.std.proofs.lemmas.Int.{ints}
-use Rattle.gregorian.proofs.ForCallers.{day_of_year_is, floors}
-use Rattle.gregorian.specs.DateOf.{day_of_month, day_of_year, month_of, year_of}
-use Rattle.gregorian.specs.Month.{days_in_month}
+use Rattle.std.proofs.Common.{IsTrue, Bool, ◌↔◌}
 use Rattle.gregorian.specs.Weekdays.{weekday_of}
-use Rattle.gregorian.specs.Year.{days_in_year, floor_mod, is_leap}
-use Rattle.naive_base.specs.Weekday.{weekday_number}
+use Rattle.naive_base.proofs.Words.{to_z-of_z, inl, inr, arith, pos, ℕ, ℤ, ◌≡◌, ◌/◌, ◌%◌, ◌+◌, ◌-◌, ◌<◌, ◌≤◌, ◌+ℤ◌, ◌-ℤ◌, subst, ints, day_of_year_is, floors}
+use Rattle.naive_base.proofs.Words.{day_of_month, day_of_year, month_of, year_of, days_in_month, days_in_year, floor_mod, is_leap, weekday_number}
 use Rattle.naive_plans.specs.RecurrenceRules.{CountsInYear, HasMonth, HasMonthDay, HasWeekday, IsAbsent, IsInWeek, IsOnDate, IsOnYearDay, ListsPlace}
-use Rattle.naive_plans.specs.RecurrenceRules.{ListsWeekday}
-use Rattle.naive_plans.specs.RecurrenceRules.{fourth_of_week}
-use Rattle.naive_plans.specs.declared.rule.RecurrenceRule.{RecurrenceRule}
+use Rattle.naive_plans.specs.{RecurrenceRules.{ListsWeekday, fourth_of_week}, declared.rule.RecurrenceRule.{RecurrenceRule}}
 
 pub weekday_in_month : (r : RecurrenceRule) (start day : ℤ) (before after w : ℕ) (b : Bool) → (CountsInYear r → ⊥) → (IsAbsent r.by_weekday.now → ⊥)
     → w ≡ weekday_of day → (IsTrue b ↔ ListsWeekday r.by_weekday.now w (before / 7) (after / 7)) → IsTrue b ↔ HasWeekday r start day before after
-weekday_in_month r start day before after w b month some is lists = (
-  λ yes. record {
-    in_year = λ year. absurd (month year);
-    in_month = λ _. inr (subst (λ v. ListsWeekday r.by_weekday.now v (before / 7) (after / 7)) is (lists.0 yes));
-    told = λ none. absurd (some none);
-  },
-  λ h. elim (h.in_month month) [
-    | inl none ↦ absurd (some none)
-    | inr listed ↦ lists.1 (rw is listed)
-  ],
-)
+weekday_in_month = grind (arith, ints)
 
 pub weekday_in_year : (r : RecurrenceRule) (start day : ℤ) (before after w b a : ℕ) (t : Bool) → CountsInYear r → (IsAbsent r.by_weekday.now → ⊥)
     → w ≡ weekday_of day → b ≡ day_of_year day → a ≡ days_in_year (year_of day) - 1 - day_of_year day
     → (IsTrue t ↔ ListsWeekday r.by_weekday.now w (b / 7) (a / 7)) → IsTrue t ↔ HasWeekday r start day before after
-weekday_in_year r start day before after w b a t year some is is_b is_a lists = (
-  λ yes. record {
-    in_year = λ _. inr (rw (is, is_b, is_a) at (lists.0 yes));
-    in_month = λ not. absurd (not year);
-    told = λ none. absurd (some none);
-  },
-  λ h. elim (h.in_year year) [
-    | inl none ↦ absurd (some none)
-    | inr listed ↦ lists.1 (rw (is, is_b, is_a) listed)
-  ],
-)
+weekday_in_year = grind (arith, ints)
 
 pub in_week : (r : RecurrenceRule) (day f : ℤ) (b a : ℕ) (t : Bool) → (IsAbsent r.by_week_number.now → ⊥)
     → f ≡ fourth_of_week (weekday_number r.week_start) day → b ≡ day_of_year f → a ≡ days_in_year (year_of f) - 1 - day_of_year f
     → (IsTrue t ↔ ListsPlace r.by_week_number.now (b / 7) (a / 7)) → IsTrue t ↔ IsInWeek r day
-in_week r day f b a t some is is_b is_a lists = (
-  λ yes. inr (rw is at (rw (is_b, is_a) at (lists.0 yes))),
-  λ h. elim h [
-    | inl none ↦ absurd (some none)
-    | inr listed ↦ lists.1 (rw (is_b, is_a) (rw is listed))
-  ],
-)
+in_week = grind (arith, ints)
 
 pub passed_of_week : (day : ℤ) (weekday number first : ℕ) → weekday ≡ weekday_of day → number ≡ first → number < 7
     → (weekday + 7 - number) % 7 ≡ floor_mod (day +ℤ pos 4 -ℤ pos first) 7
-passed_of_week day weekday number first is same bound = omega (arith, floors, ints, is, same, bound)
+passed_of_week = omega (arith, floors, ints)
 
 pub fourth_is : (day fourth : ℤ) (passed first : ℕ) → passed ≡ floor_mod (day +ℤ pos 4 -ℤ pos first) 7 → fourth ≡ day -ℤ pos passed +ℤ pos 3
     → fourth ≡ fourth_of_week first day
-fourth_is day fourth passed first is same = omega (arith, floors, ints, is, same)
+fourth_is = omega (arith, floors, ints)
 
 pub before_end : (day year : ℤ) (before days : ℕ) → year ≡ year_of day → before ≡ day_of_year day → days ≡ days_in_year year → before ≤ days - 1
 before_end day year before days is same all = let within = (day_of_year_is day).1 in let of_year : days ≡ days_in_year (year_of day) = rw is at all in
-    omega (arith, within, same, of_year)
+    omega arith
 
 -- ---- a date
 pub not_month : (r : RecurrenceRule) (start day : ℤ) (m f : ℕ) → m ≡ month_of day → f ≡ month_of start → (HasMonth r f m → ⊥) → IsOnDate r start day → ⊥
-not_month r start day m f is first none on = none (rw (is, first) on.month)
+not_month = grind (arith, ints)
 
-pub not_month_day : (r : RecurrenceRule) (start day year : ℤ) (m d f n : ℕ) → year ≡ year_of day → m ≡ month_of day → d ≡ day_of_month day
-    → f ≡ day_of_month start
-    → n ≡ days_in_month (is_leap year) m → (HasMonthDay r f (d - 1) (n - d) d → ⊥) → IsOnDate r start day → ⊥
-not_month_day r start day year m d f n is_year is_month is first days none on = none (rw (days, is_year, is_month, is, first) on.month_day)
+-- the date of `day`
+module _ (r : RecurrenceRule) (start day : ℤ) {year : ℤ} {m d n : ℕ} (is_year : year ≡ year_of day) (is_month : m ≡ month_of day)
+    (is_day : d ≡ day_of_month day) (days : n ≡ days_in_month (is_leap year) m) where
+  pub not_month_day : {f : ℕ} → f ≡ day_of_month start → (HasMonthDay r f (d - 1) (n - d) d → ⊥) → IsOnDate r start day → ⊥
+  not_month_day = grind (arith, ints)
 
-pub not_weekday : (r : RecurrenceRule) (start day year : ℤ) (m d n : ℕ) → year ≡ year_of day → m ≡ month_of day → d ≡ day_of_month day
-    → n ≡ days_in_month (is_leap year) m → (HasWeekday r start day (d - 1) (n - d) → ⊥) → IsOnDate r start day → ⊥
-not_weekday r start day year m d n is_year is_month is days none on = none (rw (days, is_year, is_month, is) on.weekday)
+  pub not_weekday : (HasWeekday r start day (d - 1) (n - d) → ⊥) → IsOnDate r start day → ⊥
+  not_weekday = grind (arith, ints)
 
-pub on_date : (r : RecurrenceRule) (start day year : ℤ) (m d fm fd n : ℕ) → year ≡ year_of day → m ≡ month_of day → d ≡ day_of_month day
-    → fm ≡ month_of start → fd ≡ day_of_month start
-    → n ≡ days_in_month (is_leap year) m → HasMonth r fm m → HasMonthDay r fd (d - 1) (n - d) d → HasWeekday r start day (d - 1) (n - d) → IsInWeek r day
-    → IsOnYearDay r day → IsOnDate r start day
-on_date r start day year m d fm fd n is_year is_month is first_month first days month month_day weekday week year_day = record {
-  month = rw (is_month, first_month) at month;
-  month_day = rw (days, is_year, is_month, is, first) at month_day;
-  weekday = rw (days, is_year, is_month, is) at weekday;
-  week = week;
-  year_day = year_day;
-}
+  pub on_date : {fm fd : ℕ} → fm ≡ month_of start → fd ≡ day_of_month start → HasMonth r fm m → HasMonthDay r fd (d - 1) (n - d) d
+      → HasWeekday r start day (d - 1) (n - d) → IsInWeek r day → IsOnYearDay r day → IsOnDate r start day
+  on_date first_month first month month_day weekday week year_day = grind (arith, ints, floors)
+
+pub ruleset fourth = (to_z-of_z, fourth_is)

@@ -1,191 +1,144 @@
 -- The times of a rule, and those after a second.
-use Rattle.naive_base.proofs.Words.{IsWide, MatchOption, None, Option, Some, arith, by_lt_z, ints, pos, ℤ, ◌+ℤ◌, ◌-ℤ◌, ◌<ℤ◌, ◌≡◌, ◌≤ℤ◌}
 use Rattle.std.proofs.Common.{◌↔◌}
-use Rattle.naive_plans.specs.Steps.OccasionSteps.{HasNoneBetween, IsFirstBetween}
-use Rattle.naive_plans.specs.Plans.{HasNoneUntil, IsLastUntil, IsNextAfter}
-use Rattle.naive_plans.specs.RecurrenceSets.{IsAtPosition, IsRecurrenceTime, IsRuleTime, IsWithinCount}
-use Rattle.naive_plans.specs.declared.recurrence.RecurrenceEnd.TheVariants.{Count, Never, Until}
-use Rattle.naive_base.specs.NaiveDateTime.{reading}
+use Rattle.naive_base.proofs.Words.{IsWide, MatchOption, None, Option, Some, arith, ints, pos, ℤ, ◌+ℤ◌, ◌-ℤ◌, ◌<ℤ◌, ◌≡◌, ◌≤ℤ◌, floors, neg_ℤ, ℕ, ◌<◌, reading}
 use Rattle.naive_base.specs.declared.datetime.NaiveDateTime.{NaiveDateTime}
-use Rattle.std.proofs.Common.{neg_ℤ, ℕ}
-use Rattle.naive_plans.specs.declared.recurrence.RecurrenceEnd.{RecurrenceEnd}
-use Rattle.naive_plans.specs.Steps.RecurrenceSteps.{HasNoneLater, IsFirstLater, IsLastSecond}
-use Rattle.naive_plans.specs.RecurrenceRules.{IsOccasion}
-use Rattle.naive_plans.specs.RecurrenceSets.{IsPlannedUpTo, IsWithinEnd}
-use Rattle.naive_plans.specs.Steps.OccasionSteps.{IsTimeOn}
-use Rattle.naive_base.proofs.Words.{floor_div, floor_mod, floors}
-use Rattle.std.proofs.Common.{◌<◌}
-use Rattle.naive_plans.specs.Steps.RuleSteps.{IsBounded}
-use Rattle.naive_plans.specs.declared.rule.RecurrenceRule.{RecurrenceRule}
+use Rattle.naive_plans.proofs.OccasionWalk.{time_of}
+use Rattle.naive_plans.specs.{Plans.{HasNoneUntil, IsLastUntil, IsNextAfter}, RecurrenceRules.{IsOccasion}, RecurrenceSets.{IsAtPosition, IsRecurrenceTime}}
+use Rattle.naive_plans.specs.{RecurrenceSets.{IsRuleTime, IsWithinCount, IsPlannedUpTo, IsWithinEnd}, Steps.OccasionSteps.{HasNoneBetween, IsFirstBetween}}
+use Rattle.naive_plans.specs.Steps.{OccasionSteps.{IsTimeOn}, RecurrenceSteps.{HasNoneLater, IsFirstLater, IsLastSecond}, RuleSteps.{IsBounded}}
+use Rattle.naive_plans.specs.declared.{recurrence.RecurrenceEnd.{RecurrenceEnd, TheVariants.{Count, Never, Until}}, rule.RecurrenceRule.{RecurrenceRule}}
+
+strictly : (a b : ℤ) → a ≤ℤ b → (a ≡ b → ⊥) → a <ℤ b
+strictly = grind (arith, ints)
 
 -- the rule's times from a second on come from another one on
 abbrev pub AreFrom : RecurrenceRule → ℤ → ℤ → ℤ → Type 0
 AreFrom r start from left = (from ≤ℤ left) × ((m : ℤ) → IsRuleTime r start m → from ≤ℤ m → left ≤ℤ m)
 
-pub none_from : (r : RecurrenceRule) (start from left end : ℤ) → AreFrom r start from left → HasNoneBetween (IsOccasion r start) left end
-    → HasNoneBetween (IsRuleTime r start) from end
-none_from r start from left end h none m time come before = none m time.occasion (h.1 m time come) before
+-- the times of the rule r with that start
+module _ {r : RecurrenceRule} {start : ℤ} where
+  pub none_from : {from left end : ℤ} → AreFrom r start from left → HasNoneBetween (IsOccasion r start) left end → HasNoneBetween (IsRuleTime r start) from end
+  none_from h none m time come = search (arith, ints, floors)
 
-pub first_from : (r : RecurrenceRule) (start from left end l : ℤ) → start ≤ℤ from → end ≤ℤ pos 253_402_300_800 → AreFrom r start from left
-    → IsFirstBetween (IsOccasion r start) left end l → IsAtPosition r start l → IsFirstBetween (IsRuleTime r start) from end l
-first_from r start from left end l le last h first own = record {
-  one = record {
-    occasion = first.one;
-    position = own;
-    from_start = let come = first.not_before in let later = h.0 in omega (arith, ints, le, come, later);
-    in_years = let before = first.before_end in omega (arith, ints, before, last);
-  };
-  not_before = let come = first.not_before in let later = h.0 in omega (arith, ints, come, later);
-  before_end = first.before_end;
-  least = λ m time come. first.least m time.occasion (h.1 m time come);
-}
+  pub first_from : {from left end l : ℤ} → start ≤ℤ from → end ≤ℤ pos 253_402_300_800 → AreFrom r start from left
+      → IsFirstBetween (IsOccasion r start) left end l → IsAtPosition r start l → IsFirstBetween (IsRuleTime r start) from end l
+  first_from le last h first own = let come = first.not_before in record {
+    one = record { occasion = first.one; position = own; from_start = omega (arith, ints); in_years = omega (arith, ints) };
+    not_before = omega (arith, ints);
+    before_end = first.before_end;
+    least = λ m time come. first.least m time.occasion (h.1 m time come);
+  }
 
-pub more_from : (r : RecurrenceRule) (start from left end l next : ℤ) → AreFrom r start from left → IsFirstBetween (IsOccasion r start) left end l
-    → (IsAtPosition r start l → ⊥) → next ≡ l +ℤ pos 1 → AreFrom r start from next
-more_from r start from left end l next h first not is = (
-  let come = first.not_before in let later = h.0 in omega (arith, ints, come, later, is),
-  λ m time come.
-      let least = first.least m time.occasion (h.1 m time come) in
-      by_lt_z l m (λ less. omega (arith, ints, less, is))
-      (λ over. absurd (let same : l ≡ m = omega (arith, ints, over, least) in not (rw same time.position))),
-)
+  pub more_from : {from left end l next : ℤ} → AreFrom r start from left → IsFirstBetween (IsOccasion r start) left end l
+      → (IsAtPosition r start l → ⊥) → next ≡ l +ℤ pos 1 → AreFrom r start from next
+  more_from {l = l} h first not is = (
+    let come = first.not_before in omega (arith, ints),
+    λ m time come. omega (arith, ints, strictly l m (first.least m time.occasion (h.1 m time come)) (λ same. not (rw same time.position))),
+  )
+
+  pub none_left : {after last from : ℤ} → ((m : ℤ) → after <ℤ m → start ≤ℤ m → from ≤ℤ m) → last <ℤ from → HasNoneLater (IsRuleTime r start) after last
+  none_left = grind (arith, ints)
+
+  pub next_later : {last local l : ℤ} → IsFirstLater (IsRuleTime r start) local last l → IsNextAfter (IsPlannedUpTo r start last) local l
+  next_later first = record { planned = (first.one, first.not_after); after = first.later; least = λ m wide own come. first.least m own.0 come }
+
+  -- ---- ends
+  pub none_up : {last s : ℤ} → ((l : ℤ) → IsRuleTime r start l → l ≤ℤ last → ⊥) → s ≡ start -ℤ pos 1
+      → (l : ℤ) → IsRuleTime r start l → (l ≤ℤ s) ↔ (l ≤ℤ last)
+  none_up = grind (arith, ints)
 
 pub from_later : (r : RecurrenceRule) (start after last from end : ℤ) (found : Option ℤ) → after <ℤ from → ((m : ℤ) → after <ℤ m → start ≤ℤ m → from ≤ℤ m)
     → end ≡ last +ℤ pos 1
     → MatchOption found (HasNoneBetween (IsRuleTime r start) from end) (λ l. IsFirstBetween (IsRuleTime r start) from end l)
     → MatchOption found (HasNoneLater (IsRuleTime r start) after last) (λ l. IsFirstLater (IsRuleTime r start) after last l)
-from_later r start after last from end None later least is none = λ m time come le. none m time (least m come time.from_start) (omega (arith, ints, is, le))
+from_later r start after last from end None later least is none = search (arith, ints, floors)
 from_later r start after last from end (Some l) later least is first = record {
   one = first.one;
-  later = let come = first.not_before in omega (arith, ints, later, come);
-  not_after = let before = first.before_end in omega (arith, ints, before, is);
+  later = let come = first.not_before in omega (arith, ints);
+  not_after = omega (arith, ints);
   least = λ m time come. first.least m time (least m come time.from_start);
 }
-
-pub none_left : (r : RecurrenceRule) (start after last from : ℤ) → ((m : ℤ) → after <ℤ m → start ≤ℤ m → from ≤ℤ m) → last <ℤ from
-    → HasNoneLater (IsRuleTime r start) after last
-none_left r start after last from least over m time come le = let more = least m come time.from_start in omega (arith, ints, over, le, more)
-
-pub next_later : (r : RecurrenceRule) (start last local l : ℤ) → IsFirstLater (IsRuleTime r start) local last l → IsNextAfter (λ m. IsRuleTime r start m ×
-    (m ≤ℤ last)) local l
-next_later r start last local l first = record {
-  planned = (first.one, first.not_after);
-  after = first.later;
-  least = λ m wide own come. first.least m own.0 come;
-}
-
--- ---- ends
-pub none_up : (r : RecurrenceRule) (start last s : ℤ) → ((l : ℤ) → IsRuleTime r start l → l ≤ℤ last → ⊥) → s ≡ start -ℤ pos 1
-    → (l : ℤ) → IsRuleTime r start l → (l ≤ℤ s) ↔ (l ≤ℤ last)
-none_up r start last s none is l time = (λ low. absurd (let from = time.from_start in omega (arith, ints, low, is, from)), λ le. absurd (none l time le))
-
-time_is_wide : (r : RecurrenceRule) (start l : ℤ) → neg_ℤ (pos 62_167_219_200) ≤ℤ start → IsRuleTime r start l → IsWide l
-time_is_wide r start l low time = let from = time.from_start in let years = time.in_years in (omega (arith, ints, low, from), omega (arith, ints, years))
-
-pub none_to : (r : RecurrenceRule) (start last : ℤ) → neg_ℤ (pos 62_167_219_200) ≤ℤ start → HasNoneUntil (IsRuleTime r start) last
-    → (l : ℤ) → IsRuleTime r start l → l ≤ℤ last → ⊥
-none_to r start last low none l time le = none l (time_is_wide r start l low time) time le
-
-pub same_to : (r : RecurrenceRule) (start last s : ℤ) → neg_ℤ (pos 62_167_219_200) ≤ℤ start → IsLastUntil (IsRuleTime r start) last s
-    → (l : ℤ) → IsRuleTime r start l → (l ≤ℤ s) ↔ (l ≤ℤ last)
-same_to r start last s low own l time = (
-  λ le. let up = own.not_after in omega (arith, ints, le, up),
-  λ le. own.greatest l (time_is_wide r start l low time) time le,
-)
-
-pub bounded_to : (r : RecurrenceRule) (start last s : ℤ) → neg_ℤ (pos 62_167_219_200) ≤ℤ start → IsLastUntil (IsRuleTime r start) last s → IsBounded s
-bounded_to r start last s low own = let from = own.planned.from_start in let short = own.planned.in_years in (omega (arith, ints, low, from), short)
 
 -- ---- and back
 -- the rule's times up to a second come up to another one
 abbrev pub AreTo : RecurrenceRule → ℤ → ℤ → ℤ → Type 0
 AreTo r start until to = (to ≤ℤ until) × ((m : ℤ) → IsRuleTime r start m → m ≤ℤ until → m ≤ℤ to)
 
-pub none_to_start : (r : RecurrenceRule) (start until to : ℤ) → AreTo r start until to → (start ≤ℤ to → ⊥) → HasNoneUntil (IsRuleTime r start) until
-none_to_start r start until to h not m wide time come = not (let from = time.from_start in let le = h.1 m time come in omega (arith, ints, from, le))
+-- the times of the rule r, with a start from the year 0 on
+module _ {r : RecurrenceRule} {start : ℤ} (low : neg_ℤ (pos 62_167_219_200) ≤ℤ start) where
+  time_is_wide : {l : ℤ} → IsRuleTime r start l → IsWide l
+  time_is_wide = omega (arith, ints)
 
-pub none_of_them : (r : RecurrenceRule) (start until to : ℤ) → AreTo r start until to → HasNoneUntil (IsOccasion r start) to
-    → HasNoneUntil (IsRuleTime r start) until
-none_of_them r start until to h none m wide time come = none m wide time.occasion (h.1 m time come)
+  pub none_to : {last : ℤ} → HasNoneUntil (IsRuleTime r start) last → (l : ℤ) → IsRuleTime r start l → l ≤ℤ last → ⊥
+  none_to none l time = none l (time_is_wide time) time
 
-pub all_early : (r : RecurrenceRule) (start until to last : ℤ) → AreTo r start until to → IsLastUntil (IsOccasion r start) to last → (start ≤ℤ last → ⊥)
-    → HasNoneUntil (IsRuleTime r start) until
-all_early r start until to last h own early m wide time come =
-    let most = own.greatest m wide time.occasion (h.1 m time come) in let from = time.from_start in early (omega (arith, ints, most, from))
+  pub same_to : {last s : ℤ} → IsLastUntil (IsRuleTime r start) last s → (l : ℤ) → IsRuleTime r start l → (l ≤ℤ s) ↔ (l ≤ℤ last)
+  same_to own l time = (λ le. omega (arith, ints), own.greatest l (time_is_wide time) time)
 
-pub last_found : (r : RecurrenceRule) (start until to last : ℤ) → until <ℤ pos 253_402_300_800 → AreTo r start until to
-    → IsLastUntil (IsOccasion r start) to last → start ≤ℤ last → IsAtPosition r start last → IsLastUntil (IsRuleTime r start) until last
-last_found r start until to last short h own from at_position = let up = own.not_after in let low = h.0 in record {
-  planned = record { occasion = own.planned; position = at_position; from_start = from; in_years = omega (arith, ints, up, low, short) };
-  not_after = omega (arith, ints, up, low);
-  greatest = λ m wide time come. own.greatest m wide time.occasion (h.1 m time come);
-}
+  pub bounded_to : {last s : ℤ} → IsLastUntil (IsRuleTime r start) last s → IsBounded s
+  bounded_to = omega (arith, ints)
 
-pub more_to : (r : RecurrenceRule) (start until to last next : ℤ) → neg_ℤ (pos 62_167_219_200) ≤ℤ start → AreTo r start until to
-    → IsLastUntil (IsOccasion r start) to last → (IsAtPosition r start last → ⊥) → next ≡ last -ℤ pos 1 → AreTo r start until next
-more_to r start until to last next first h own not is_next = let up = own.not_after in let low = h.0 in (
-  omega (arith, ints, up, low, is_next),
-  λ m time come.
-      let most = own.greatest m (time_is_wide r start m first time) time.occasion (h.1 m time come) in
-      by_lt_z m last (λ less. omega (arith, ints, less, is_next))
-      (λ over. absurd (let same : last ≡ m = omega (arith, ints, over, most) in not (rw same time.position))),
-)
-
-pub last_planned : (r : RecurrenceRule) (start local last until l : ℤ) → (until ≤ℤ local) × (until ≤ℤ last) → ((m : ℤ) → m ≤ℤ local → m ≤ℤ last → m ≤ℤ until)
-    → IsLastUntil (IsRuleTime r start) until l → IsLastUntil (IsPlannedUpTo r start last) local l
-last_planned r start local last until l both most own =
-    let up = own.not_after in let low = both.0 in let le = both.1 in
-    record {
-      planned = (own.planned, omega (arith, ints, up, le));
-      not_after = omega (arith, ints, up, low);
-      greatest = λ m wide time come. own.greatest m wide time.0 (most m come time.1);
-    }
-
-pub none_planned : (r : RecurrenceRule) (start local last until : ℤ) → ((m : ℤ) → m ≤ℤ local → m ≤ℤ last → m ≤ℤ until)
-    → HasNoneUntil (IsRuleTime r start) until → HasNoneUntil (IsPlannedUpTo r start last) local
-none_planned r start local last until most none m wide time come = none m wide time.0 (most m come time.1)
-
-pub no_rule_time : (r : RecurrenceRule) (start : ℤ) → ((day : ℤ) (second : ℕ) → second < 86_400 → IsTimeOn r start day second → ⊥) → (l : ℤ)
-    → IsRuleTime r start l → ⊥
-no_rule_time r start none l time =
-    let on = time.occasion in
-    none (floor_div l 86_400) (floor_mod l 86_400) (omega (arith, ints, floors)) (record {
-      counts = on.counts;
-      hour = on.hour;
-      minute = on.minute;
-      at_second = on.at_second;
-    })
-
-pub end_shortened : (r : RecurrenceRule) (start : ℤ) (end : RecurrenceEnd) (last short : ℤ)
-    → ((l : ℤ) → IsRuleTime r start l → (l ≤ℤ last) ↔ IsWithinEnd r start end l)
-    → ((l : ℤ) → IsRuleTime r start l → (l ≤ℤ short) ↔ (l ≤ℤ last)) → (l : ℤ) → IsRuleTime r start l → (l ≤ℤ short) ↔ IsWithinEnd r start end l
-end_shortened r start end last short own same l time = (
-  λ le. (own l time).0 ((same l time).0 le),
-  λ within. (same l time).1 ((own l time).1 within),
-)
-
-pub has_times : (r : RecurrenceRule) (start : ℤ) (end : RecurrenceEnd) (last : ℤ)
-    → ((l : ℤ) → IsRuleTime r start l → (l ≤ℤ last) ↔ IsWithinEnd r start end l)
-    → (l : ℤ) → (IsRuleTime r start l × (l ≤ℤ last)) ↔ IsRecurrenceTime r start end l
-has_times r start end last same l = (
-  λ own. record { time = own.0; within = (same l own.0).0 own.1 },
-  λ own. (own.time, (same l own.time).1 own.within),
-)
-
-pub never_last : (r : RecurrenceRule) (start : ℤ) → IsLastSecond r start Never (pos 253_402_300_799)
-never_last r start = record {
-  same = λ l time. (λ _. tt, λ _. let last = time.in_years in omega (arith, ints, last));
-  bound = (
+  pub more_to : {until to last next : ℤ} → AreTo r start until to → IsLastUntil (IsOccasion r start) to last → (IsAtPosition r start last → ⊥)
+      → next ≡ last -ℤ pos 1 → AreTo r start until next
+  more_to {last = last} h own not is_next = (
     omega (arith, ints),
-    omega
-        (arith, ints),
-  );
-}
+    λ m time come.
+        let less = strictly m last (own.greatest m (time_is_wide time) time.occasion (h.1 m time come)) (λ same. not (rw same at time.position)) in
+        omega (arith, ints),
+  )
 
-pub until_last : (r : RecurrenceRule) (start last : ℤ) (until : NaiveDateTime) → ((l : ℤ) → l <ℤ pos 253_402_300_800 → (l ≤ℤ last) ↔ (l ≤ℤ (reading until).s))
-    → (neg_ℤ (pos 10_000_000_000_000) ≤ℤ last) × (last <ℤ pos 253_402_300_800) → IsLastSecond r start (Until until) last
-until_last r start last until same bound = record { same = λ l time. same l time.in_years; bound = bound }
+-- the times of the rule r with that start
+module _ {r : RecurrenceRule} {start : ℤ} where
+  pub none_to_start : {until to : ℤ} → AreTo r start until to → (start ≤ℤ to → ⊥) → HasNoneUntil (IsRuleTime r start) until
+  none_to_start = grind (arith, ints)
 
-pub count_last : (r : RecurrenceRule) (start last : ℤ) (count : ℕ) → ((l : ℤ) → IsRuleTime r start l → (l ≤ℤ last) ↔ IsWithinCount r start count l)
-    → (neg_ℤ (pos 10_000_000_000_000) ≤ℤ last) × (last <ℤ pos 253_402_300_800) → IsLastSecond r start (Count count) last
-count_last r start last count same bound = record { same = same; bound = bound }
+  pub none_of_them : {until to : ℤ} → AreTo r start until to → HasNoneUntil (IsOccasion r start) to → HasNoneUntil (IsRuleTime r start) until
+  none_of_them h none m wide time come = none m wide time.occasion (h.1 m time come)
+
+  pub all_early : {until to last : ℤ} → AreTo r start until to → IsLastUntil (IsOccasion r start) to last → (start ≤ℤ last → ⊥)
+      → HasNoneUntil (IsRuleTime r start) until
+  all_early h own early m wide time come = let most = own.greatest m wide time.occasion (h.1 m time come) in early (omega (arith, ints))
+
+  pub last_found : {until to last : ℤ} → until <ℤ pos 253_402_300_800 → AreTo r start until to → IsLastUntil (IsOccasion r start) to last
+      → start ≤ℤ last → IsAtPosition r start last → IsLastUntil (IsRuleTime r start) until last
+  last_found short h own from at_position = record {
+    planned = record { occasion = own.planned; position = at_position; from_start = from; in_years = omega (arith, ints) };
+    not_after = omega (arith, ints);
+    greatest = λ m wide time come. own.greatest m wide time.occasion (h.1 m time come);
+  }
+
+  pub last_planned : {local last until l : ℤ} → (until ≤ℤ local) × (until ≤ℤ last) → ((m : ℤ) → m ≤ℤ local → m ≤ℤ last → m ≤ℤ until)
+      → IsLastUntil (IsRuleTime r start) until l → IsLastUntil (IsPlannedUpTo r start last) local l
+  last_planned both most own = record {
+    planned = (own.planned, omega (arith, ints));
+    not_after = omega (arith, ints);
+    greatest = λ m wide time come. own.greatest m wide time.0 (most m come time.1);
+  }
+
+  pub none_planned : {local last until : ℤ} → ((m : ℤ) → m ≤ℤ local → m ≤ℤ last → m ≤ℤ until)
+      → HasNoneUntil (IsRuleTime r start) until → HasNoneUntil (IsPlannedUpTo r start last) local
+  none_planned most none m wide time come = grind (arith, ints)
+
+  pub no_rule_time : ((day : ℤ) (second : ℕ) → second < 86_400 → IsTimeOn r start day second → ⊥) → (l : ℤ) → IsRuleTime r start l → ⊥
+  no_rule_time = grind (arith, ints, floors, time_of)
+
+  pub never_last : IsLastSecond r start Never (pos 253_402_300_799)
+  never_last = omega (arith, ints)
+
+  pub until_last : {last : ℤ} {until : NaiveDateTime} → ((l : ℤ) → l <ℤ pos 253_402_300_800 → (l ≤ℤ last) ↔ (l ≤ℤ (reading until).s))
+      → (neg_ℤ (pos 10_000_000_000_000) ≤ℤ last) × (last <ℤ pos 253_402_300_800) → IsLastSecond r start (Until until) last
+  until_last = grind (arith, ints, floors)
+
+  pub count_last : {last : ℤ} {count : ℕ} → ((l : ℤ) → IsRuleTime r start l → (l ≤ℤ last) ↔ IsWithinCount r start count l)
+      → (neg_ℤ (pos 10_000_000_000_000) ≤ℤ last) × (last <ℤ pos 253_402_300_800) → IsLastSecond r start (Count count) last
+  count_last = grind (arith, ints)
+
+-- the rule's times up to `last` are those within the recurrence's end
+module _ (r : RecurrenceRule) (start : ℤ) (end : RecurrenceEnd) {last : ℤ}
+    (own : (l : ℤ) → IsRuleTime r start l → (l ≤ℤ last) ↔ IsWithinEnd r start end l) where
+  pub end_shortened : {short : ℤ} → ((l : ℤ) → IsRuleTime r start l → (l ≤ℤ short) ↔ (l ≤ℤ last)) → (l : ℤ) → IsRuleTime r start l
+      → (l ≤ℤ short) ↔ IsWithinEnd r start end l
+  end_shortened same l time = (λ le. (own l time).0 ((same l time).0 le), λ within. (same l time).1 ((own l time).1 within))
+
+  pub has_times : (l : ℤ) → (IsRuleTime r start l × (l ≤ℤ last)) ↔ IsRecurrenceTime r start end l
+  has_times l = (λ time. record { time = time.0; within = (own l time.0).0 time.1 }, λ time. (time.time, (own l time.time).1 time.within))

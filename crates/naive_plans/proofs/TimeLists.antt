@@ -1,9 +1,8 @@
 -- Lists of local times, and plans without some.
-use Rattle.std.proofs.Common.{Contains, List, MatchOption, None, Option, Some, arith, get_or, length, refl, ℕ, ℤ, ◌<◌, ◌≤◌, ◌<ℤ◌, ◌≡◌, ◌≤ℤ◌}
-use Rattle.naive_base.specs.NaiveDateTime.{reading}
+use Rattle.std.proofs.Common.{Contains}
+use Rattle.naive_base.proofs.Words.{List, MatchOption, None, Option, Some, arith, get_or, length, refl, ℕ, ℤ, ◌<◌, ◌≤◌, ◌<ℤ◌, ◌≡◌, ◌≤ℤ◌, reading}
 use Rattle.naive_base.specs.declared.datetime.NaiveDateTime.{NaiveDateTime}
-use Rattle.naive_plans.specs.PlanSets.{HasLocalTime}
-use Rattle.naive_plans.specs.Plans.{HasNoneAfter, HasNoneUntil, IsLastUntil, IsNextAfter}
+use Rattle.naive_plans.specs.{PlanSets.{HasLocalTime}, Plans.{HasNoneAfter, HasNoneUntil, IsLastUntil, IsNextAfter}}
 
 -- of the first n local times of a list, the earliest one after a second
 abbrev pub IsFirstAmong : List NaiveDateTime → ℤ → ℕ → Option NaiveDateTime → Type 0
@@ -17,28 +16,25 @@ IsLastAmong xs until n None = (k : ℕ) (e : NaiveDateTime) → k < n → (readi
 IsLastAmong xs until n (Some d) = Contains xs d × ((reading d).s ≤ℤ until)
     × ((k : ℕ) (e : NaiveDateTime) → k < n → (reading (get_or xs k e)).s ≤ℤ until → (reading (get_or xs k e)).s ≤ℤ (reading d).s)
 
-pub first_done : (xs : List NaiveDateTime) (after : ℤ) (n : ℕ) (found : Option NaiveDateTime) → length xs ≤ n → IsFirstAmong xs after n found
-    → MatchOption found (HasNoneAfter (HasLocalTime xs) after) (λ l. IsNextAfter (HasLocalTime xs) after (reading l).s)
-first_done xs after n None all h = λ m wide has later.
-    let same : (reading (get_or xs has.listed.0 has.local)).s ≡ m = rw has.listed.2 has.at in h has.listed.0 has.local (let at = has.listed.1 in
-    omega (arith, all, at)) (rw same later)
-first_done xs after n (Some d) all h = record {
-  planned = record { local = d; listed = h.0; at = refl };
-  after = h.1;
-  least = λ m wide has later.
-      let same : (reading (get_or xs has.listed.0 has.local)).s ≡ m = rw has.listed.2 has.at in rw same at (h.2 has.listed.0 has.local
-      (let at = has.listed.1 in omega (arith, all, at)) (rw same later));
-}
+-- the list, of which the first n local times are all
+module _ (xs : List NaiveDateTime) (n : ℕ) (all : length xs ≤ n) where
+  place : {m : ℤ} (has : HasLocalTime xs m) → (has.listed.0 < n) × ((reading (get_or xs has.listed.0 has.local)).s ≡ m)
+  place = grind arith
 
-pub last_done : (xs : List NaiveDateTime) (until : ℤ) (n : ℕ) (found : Option NaiveDateTime) → length xs ≤ n → IsLastAmong xs until n found
-    → MatchOption found (HasNoneUntil (HasLocalTime xs) until) (λ l. IsLastUntil (HasLocalTime xs) until (reading l).s)
-last_done xs until n None all h = λ m wide has come.
-    let same : (reading (get_or xs has.listed.0 has.local)).s ≡ m = rw has.listed.2 has.at in h has.listed.0 has.local (let at = has.listed.1 in
-    omega (arith, all, at)) (rw same come)
-last_done xs until n (Some d) all h = record {
-  planned = record { local = d; listed = h.0; at = refl };
-  not_after = h.1;
-  greatest = λ m wide has come.
-      let same : (reading (get_or xs has.listed.0 has.local)).s ≡ m = rw has.listed.2 has.at in rw same at (h.2 has.listed.0 has.local
-      (let at = has.listed.1 in omega (arith, all, at)) (rw same come));
-}
+  pub first_done : (after : ℤ) (found : Option NaiveDateTime) → IsFirstAmong xs after n found
+      → MatchOption found (HasNoneAfter (HasLocalTime xs) after) (λ l. IsNextAfter (HasLocalTime xs) after (reading l).s)
+  first_done after None h = grind (arith, place)
+  first_done after (Some d) h = record {
+    planned = record { local = d; listed = h.0; at = refl };
+    after = h.1;
+    least = λ m wide has later. rw (place has).1 at (h.2 has.listed.0 has.local (place has).0 (rw (place has).1 later));
+  }
+
+  pub last_done : (until : ℤ) (found : Option NaiveDateTime) → IsLastAmong xs until n found
+      → MatchOption found (HasNoneUntil (HasLocalTime xs) until) (λ l. IsLastUntil (HasLocalTime xs) until (reading l).s)
+  last_done until None h = grind (arith, place)
+  last_done until (Some d) h = record {
+    planned = record { local = d; listed = h.0; at = refl };
+    not_after = h.1;
+    greatest = λ m wide has come. rw (place has).1 at (h.2 has.listed.0 has.local (place has).0 (rw (place has).1 come));
+  }

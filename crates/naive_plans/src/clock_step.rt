@@ -121,13 +121,13 @@ impl Plan for ClockStep {
     ghost planned = { BeginsStep };
 
     fn next_after(&self, local: &NaiveDateTime) -> Option<NaiveDateTime> {
-        local_at(self.next_begin(local.secs_since_epoch()))
+        local_shown_at(self.next_begin(local.secs_since_epoch()))
     }
 }
 
 impl ReversiblePlan for ClockStep {
     fn last_until(&self, local: &NaiveDateTime) -> Option<NaiveDateTime> {
-        local_at(self.last_begin(local.secs_since_epoch()))
+        local_shown_at(self.last_begin(local.secs_since_epoch()))
     }
 }
 
@@ -161,6 +161,7 @@ fn begin_in_day(second: u32, step: u32) -> u32
 }
 
 // The next one.
+#[tactic(auto, using(crate::proofs::ClockSteps::next_multiple))]
 fn next_in_day(second: u32, step: u32) -> u32
     requires second { second < 86_400 }
     requires step { IsPartOfDay step }
@@ -189,7 +190,7 @@ fn days_on(day: i64, days: u32) -> i64
 }
 
 // The local time of a second; `None` if a `NaiveDateTime` can't show it.
-fn local_at(second: i64) -> Option<NaiveDateTime>
+fn local_shown_at(second: i64) -> Option<NaiveDateTime>
     requires { IsNear second }
     ensures { MatchOption result (¬ (IsWide second)) (λ l. (reading l).s ≡ second) }
 {

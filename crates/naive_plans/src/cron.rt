@@ -95,6 +95,7 @@ impl Cron {
     }
 
     // Whether no date matches. Some month is listed.
+    #[tactic(auto, using(crate::proofs::CronWalk::no_dates))]
     fn has_no_date(&self) -> bool
         ensures { IsTrue result → (day : ℤ) → IsCronDay self.now day → ⊥ }
     {
@@ -116,7 +117,7 @@ impl Plan for Cron {
 impl DayPlan for Cron {
     ghost planned_on = { IsCronTime };
 
-    #[tactic(auto, using(crate::proofs::CronWalk::all_left))]
+    #[tactic(auto, using(crate::proofs::CronWalk::minutes))]
     fn first_second_from(&self, date: NaiveDate, second: u32) -> Option<u32> {
         if !self.has_date(date) || second > 86_340 {
             return None;

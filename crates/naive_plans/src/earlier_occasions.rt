@@ -48,6 +48,7 @@ impl<'a> Occasions<'a> {
 
     // The last second of the day up to that one that it has as far as hours, minutes, seconds and
     // periods matter.
+    #[tactic(auto, using(crate::proofs::OccasionsBack::seconds_back))]
     fn last_time(&self, day: i64, until: u32) -> Option<u32>
         requires day { IsRuleDay day }
         requires until { until < 86_400 }
@@ -120,6 +121,7 @@ impl<'a> Occasions<'a> {
     }
 
     // A second from which on, up to that one, no period counts; `None` if its own one does.
+    #[tactic(auto, using(crate::proofs::OccasionWalk::periods))]
     fn end_of_last(&self, second: i64) -> Option<i64>
         requires { IsRuleSecond second }
         ensures { MatchOption result (IsCounted self.now.rule self.now.start second)

@@ -26,6 +26,7 @@ impl<'a> Occasions<'a> {
     }
 
     // Whether it has no second of a minute: `BYSECOND` may list only the second 60.
+    #[tactic(auto, using(crate::proofs::PeriodsOfDay::no_second))]
     fn has_no_second(&self) -> bool
         ensures { IsTrue result → (second : ℕ)
             → HasSecond self.now.rule (floor_mod self.now.start 86_400) second → ⊥ }

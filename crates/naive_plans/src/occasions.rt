@@ -58,6 +58,7 @@ fn later_day(next: i64, start: i64) -> i64
 
 impl<'a> Occasions<'a> {
     // The period that its start lies in.
+    #[tactic(auto, using(crate::proofs::Periods::period_low, naive_base::proofs::Named::number_below))]
     pub(crate) fn first_period(&self) -> i64
         ensures value { result ≡ own_period self.now.rule self.now.start }
         ensures bound { IsPeriod result }
@@ -67,6 +68,7 @@ impl<'a> Occasions<'a> {
     }
 
     // A second up to which, from that one on, no period counts; `None` if its own one does.
+    #[tactic(auto, using(crate::proofs::OccasionWalk::periods))]
     fn start_of_next(&self, second: i64) -> Option<i64>
         requires second { IsRuleSecond second }
         requires from_start { self.now.start ≤ℤ second }

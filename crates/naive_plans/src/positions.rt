@@ -61,6 +61,7 @@ impl<'a> Occasions<'a> {
     }
 
     // Whether exactly `count` times of its period come before a time.
+    #[tactic(auto, using(crate::proofs::NthTimes::as_far))]
     fn has_before(&self, time: i64, count: u32) -> bool
         requires one { IsOccasion self.now.rule self.now.start time }
         requires in_years { time <ℤ pos 253_402_300_800 }
@@ -82,6 +83,7 @@ impl<'a> Occasions<'a> {
     }
 
     // Whether exactly `count` times of its period come after a time.
+    #[tactic(auto, using(crate::proofs::NthTimes::as_far))]
     fn has_after(&self, time: i64, count: u32) -> bool
         requires one { IsOccasion self.now.rule self.now.start time }
         requires from_start { self.now.start ≤ℤ time }

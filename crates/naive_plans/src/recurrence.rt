@@ -9,7 +9,7 @@ ghost use Rattle.naive_plans.specs.Steps.{OccasionSteps.{HasNoneBetween, IsFirst
 ghost use Rattle.naive_plans.specs.Steps.RecurrenceSteps.{HasNoneLater, IsFirstLater, IsLastSecond};
 
 use crate::occasions::{LAST_SECOND, Occasions, local_at};
-use crate::seconds::{is_from, later, second_after, second_before};
+use crate::seconds::{is_from, later_or_start, second_after, second_before};
 use crate::{Frequency, NthWeekday, Plan, RecurrenceRule, ReversiblePlan};
 use naive_base::NaiveDateTime;
 use thiserror::Error;
@@ -119,7 +119,7 @@ impl<'a> Recurrence<'a> {
             MatchOption result (HasNoneLater (IsRuleTime r start) after self.now.last)
             (λ l. IsFirstLater (IsRuleTime r start) after self.now.last l) }
     {
-        let from = later(after, self.occasions.start);
+        let from = later_or_start(after, self.occasions.start);
         let end = second_after(self.last);
         if !is_before(from, end) {
             return None;
@@ -167,6 +167,7 @@ fn until_second(until: &NaiveDateTime) -> i64
 }
 
 // The last of the first `count` times.
+#[tactic(auto, using(crate::proofs::Counted::none_counted))]
 fn last_of(of: &Occasions<'_>, count: u32) -> i64
     ensures last { (l : ℤ) → IsRuleTime of.now.rule of.now.start l
         → (l ≤ℤ result) ↔ IsWithinCount of.now.rule of.now.start count l }
@@ -264,7 +265,7 @@ impl<'a> ReversiblePlan for Recurrence<'a> {
     fn last_until(&self, local: &NaiveDateTime) -> Option<NaiveDateTime> {
         match last_to(
             &self.occasions,
-            earlier(local.secs_since_epoch(), self.last),
+            earlier_second(local.secs_since_epoch(), self.last),
         ) {
             None => None,
             Some(second) => Some(local_at(second)),
@@ -273,7 +274,7 @@ impl<'a> ReversiblePlan for Recurrence<'a> {
 }
 
 // The earlier one of two seconds.
-fn earlier(second: i64, last: i64) -> i64
+fn earlier_second(second: i64, last: i64) -> i64
     ensures not_after { (result ≤ℤ second) × (result ≤ℤ last) }
     ensures most { (m : ℤ) → m ≤ℤ second → m ≤ℤ last → m ≤ℤ result }
 {

@@ -288,6 +288,7 @@ pub(crate) fn month_length(date: YearMonthDay) -> u32
 }
 
 // The fourth day of the week that a day lies in. Most of the week lies in that day's year.
+#[tactic(auto, using(crate::proofs::RuleParts::fourth))]
 fn fourth_of_week(day: i64, week_start: Weekday) -> i64
     requires { IsRuleDay day }
     ensures value { result ≡ rules.fourth_of_week (weekday_number week_start) day }
@@ -307,6 +308,7 @@ fn fourth_after(day: i64, passed: u32) -> i64
 }
 
 // How many days of its week come before a day.
+#[tactic(auto, using(crate::proofs::RuleParts::passed_of_week))]
 pub(crate) fn days_of_week(day: i64, week_start: Weekday) -> u32
     requires { IsWideDay day }
     ensures value { result ≡ floor_mod (day +ℤ pos 4 -ℤ pos (weekday_number week_start)) 7 }

@@ -81,7 +81,7 @@ pub(crate) fn second_before(second: i64) -> i64
 }
 
 // The second after one, or the start if that is later.
-pub(crate) fn later(after: i64, start: i64) -> i64
+pub(crate) fn later_or_start(after: i64, start: i64) -> i64
     requires after { IsWide after }
     requires start { IsWide start }
     ensures later { after <ℤ result }

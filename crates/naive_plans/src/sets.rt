@@ -48,6 +48,7 @@ pub struct Except<A, B> {
 impl<'a> Plan for LocalTimes<'a> {
     ghost planned = { λ d. HasLocalTime d.list.now };
 
+    #[tactic(auto, using(crate::proofs::TimeLists::first_done))]
     fn next_after(&self, local: &NaiveDateTime) -> Option<NaiveDateTime> {
         let mut first = None;
         for date in self.list {
@@ -62,6 +63,7 @@ impl<'a> Plan for LocalTimes<'a> {
 }
 
 impl<'a> ReversiblePlan for LocalTimes<'a> {
+    #[tactic(auto, using(crate::proofs::TimeLists::last_done))]
     fn last_until(&self, local: &NaiveDateTime) -> Option<NaiveDateTime> {
         let until = local.secs_since_epoch();
         let mut last = None;
@@ -143,6 +145,7 @@ impl<A: ReversiblePlan, B: ReversiblePlan> ReversiblePlan for Except<A, B> {
 }
 
 // The first local time of a plan after one that another plan has, or with `false` doesn't have.
+#[tactic(auto, using(crate::proofs::Selected::kept_later))]
 fn next_selected<A: Plan, B: ReversiblePlan>(
     plan: &A,
     wanted: bool,
@@ -180,7 +183,7 @@ fn last_selected<A: ReversiblePlan, B: ReversiblePlan>(
         if is_kept(wanted, other, &last) {
             return Some(last);
         }
-        until = second_before(&last)?;
+        until = local_before(&last)?;
     }
 }
 
@@ -202,7 +205,7 @@ fn has<P: ReversiblePlan>(plan: &P, local: &NaiveDateTime) -> bool
 }
 
 // The local time a second earlier; `None` if a `NaiveDateTime` can show no such local time.
-fn second_before(local: &NaiveDateTime) -> Option<NaiveDateTime>
+fn local_before(local: &NaiveDateTime) -> Option<NaiveDateTime>
     ensures { MatchOption result (IsWide ((reading local.now).s -ℤ pos 1) → ⊥)
         (λ l. (reading l).s ≡ ((reading local.now).s -ℤ pos 1)) }
 {

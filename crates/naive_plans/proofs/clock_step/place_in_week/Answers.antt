@@ -4,4 +4,4 @@ use Rattle.naive_plans.proofs.clock_step.place_in_week.Goals as goal
 
 pub returns-clause-place : goal.returns-clause-place
 returns-clause-place c =
-    let fits = c.ranges.day in in_week c.args.first c.args.day c.days_of_week-before.result (simp to_z-of_z at c.days_of_week-before.ensures.value)
+    in_week _ _ _ (simp (to_z-of_z, c.ranges.day) at c.days_of_week-before.ensures.value)

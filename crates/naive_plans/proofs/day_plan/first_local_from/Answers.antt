@@ -1,20 +1,15 @@
-use Rattle.naive_base.proofs.Words.{Reading, ap, day_of}
+use Rattle.naive_base.proofs.Words.{arith, ints, rules, to_z-of_z}
 use Rattle.naive_plans.proofs.DayWalk.{all_left, at_end, found_on_day, none_on_day}
 use Rattle.naive_plans.proofs.day_plan.first_local_from.Goals as goal
 
 pub dates-init : goal.dates-init
-dates-init g c = all_left _ (day_of c.args.start) c.args.second c.requires
+dates-init g c = grind (arith, to_z-of_z, all_left)
 
 pub dates-preserved : goal.dates-preserved
-dates-preserved g c = rw c.in_ok-date.ensures (none_on_day (g.D.DayPlan.planned_on c.args.plan.now) _
-    (day_of c.dates.date) c.dates.from c.dates.invariant c.in_default.ensures)
+dates-preserved g c = search (arith, ints, to_z-of_z, none_on_day)
 
 pub returns-in-Some : goal.returns-in-Some
-returns-in-Some g c =
-    rw (ap (λ (r : Reading). r.s) c.at_second.ensures) (found_on_day (g.D.DayPlan.planned_on c.args.plan.now) _
-    (day_of c.dates.date) c.dates.from c.in-Some.found c.dates.invariant c.in-Some.ensures)
+returns-in-Some g c = search (arith, ints, to_z-of_z, found_on_day)
 
 pub returns-in_err-date : goal.returns-in_err-date
-returns-in_err-date g c =
-    rw c.from_residual.ensures (at_end _ _ (day_of c.dates.date) c.dates.date.in_range c.in_err-date.ensures
-    (none_on_day (g.D.DayPlan.planned_on c.args.plan.now) _ (day_of c.dates.date) c.dates.from c.dates.invariant c.in_default.ensures))
+returns-in_err-date g c = search (rules, to_z-of_z, at_end, none_on_day)

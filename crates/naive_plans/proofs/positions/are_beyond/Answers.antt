@@ -3,4 +3,4 @@ use Rattle.naive_plans.proofs.positions.are_beyond.Goals as goal
 
 pub returns : goal.returns
 returns c _ n listed =
-    rw listed.2 at (c.loop-position.invariant listed.0 n (let at = listed.1 in let end = c.loop-position-test.false in omega (arith, at, end)))
+    rw listed.2 at (c.loop-position.invariant listed.0 n (omega arith))

@@ -1,37 +1,27 @@
-use Rattle.naive_base.proofs.Words.{arith, ints, of_z, refl, rules, to_z, to_z-of_z, w64, ◌≡◌}
-use Rattle.naive_plans.proofs.RuleTimes.{first_from, more_from, none_from}
+use Rattle.naive_base.proofs.Words.{arith, ints, refl, rules, to_z-of_z}
+use Rattle.naive_plans.proofs.{Bits.{read_back}, RuleTimes.{first_from, more_from, none_from}}
 use Rattle.naive_plans.proofs.recurrence.first_between.Goals as goal
 
 pub returns-in_default : goal.returns-in_default
-returns-in_default c =
-    let fits = c.ranges.from in let fits_end = c.ranges.end in
-    let inv = rw (to_z-of_z {w = w64} fits, to_z-of_z {w = w64} fits_end) at c.times.invariant in
-    none_from c.args.of.now.rule c.args.of.now.start c.args.from (to_z w64 c.times.left-bits) c.args.end inv.1
-    (rw (to_z-of_z {w = w64} fits_end) at c.in_default.ensures)
+returns-in_default c = grind (arith, to_z-of_z, none_from)
 
 pub returns-then-is_at_position : goal.returns-then-is_at_position
 returns-then-is_at_position c =
-    let fits = c.ranges.from in let fits_end = c.ranges.end in
-    let inv = rw (to_z-of_z {w = w64} fits, to_z-of_z {w = w64} fits_end) at c.times.invariant in
-    let first = rw (to_z-of_z {w = w64} fits_end) at c.in-Some.ensures in
-    let low = first.not_before in let high = first.before_end in let end = c.requires.end in let from = c.requires.from in let later = inv.1.0 in
-    let started = c.args.of.now.started.2 in
-    let same : to_z w64 (of_z w64 c.in-Some.time) ≡ c.in-Some.time = search rules in
-    rw same (first_from c.args.of.now.rule c.args.of.now.start c.args.from (to_z w64 c.times.left-bits) c.args.end c.in-Some.time c.requires.from
+    let inv = rw (read_back c.ranges.from, read_back c.ranges.end) at c.times.invariant in
+    let first = rw (read_back c.ranges.end) at c.in-Some.ensures in
+    let same = read_back {z = c.in-Some.time} (search rules) in
+    rw same (first_from c.requires.from
     c.requires.end inv.1 first (rw same at (c.if-is_at_position.ensures.0 refl)))
 
 pub times-preserved : goal.times-preserved
 times-preserved c =
-    let fits = c.ranges.from in let fits_end = c.ranges.end in
-    let inv = rw (to_z-of_z {w = w64} fits, to_z-of_z {w = w64} fits_end) at c.times.invariant in
-    let first = rw (to_z-of_z {w = w64} fits_end) at c.in-Some.ensures in
-    let low = first.not_before in let high = first.before_end in let end = c.requires.end in let from = c.requires.from in let later = inv.1.0 in
-    let started = c.args.of.now.started.2 in
-    let same : to_z w64 (of_z w64 c.in-Some.time) ≡ c.in-Some.time = search rules in
+    let inv = rw (read_back c.ranges.from, read_back c.ranges.end) at c.times.invariant in
+    let first = rw (read_back c.ranges.end) at c.in-Some.ensures in
+    let same = read_back {z = c.in-Some.time} (search rules) in
     let next = rw same at c.second_after-left.ensures in
     let at = rw same at c.if-is_at_position.ensures in
-    rw (to_z-of_z {w = w64} (record { sfits = c.second_after-left.type_inv }), to_z-of_z {w = w64} fits, to_z-of_z {w = w64} fits_end) (
-      omega (arith, ints, high, next),
-      more_from c.args.of.now.rule c.args.of.now.start c.args.from (to_z w64 c.times.left-bits) c.args.end c.in-Some.time c.second_after-left.result inv.1 first
-          (λ own. let yes = at.1 own in grind (arith, yes, c.if-is_at_position.false)) next,
+    rw (read_back (record { sfits = c.second_after-left.type_inv }), read_back c.ranges.from, read_back c.ranges.end) (
+      omega (arith, ints),
+      more_from inv.1 first
+          (λ own. grind (arith, at.1 own, c.if-is_at_position.false)) next,
     )

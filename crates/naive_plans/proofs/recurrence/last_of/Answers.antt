@@ -1,40 +1,21 @@
-use Rattle.naive_base.proofs.Words.{arith, ints, of_z, pos, refl, rules, to_z, to_z-of_z, w64, ◌≡◌}
-use Rattle.naive_plans.specs.RecurrenceSets.{IsRuleTime}
-use Rattle.naive_plans.proofs.Counted.{all_counted, none_counted, one_more_counted, whole_count}
+use Rattle.naive_base.proofs.Words.{arith, refl, rules}
+use Rattle.naive_plans.proofs.{Bits.{read_back}, Counted.{all_counted, one_more_counted, whole_count}}
 use Rattle.naive_plans.proofs.recurrence.last_of.Goals as goal
-
-pub times-init : goal.times-init
-times-init c =
-    let started = c.args.of.now.started in let value = c.before_start-last.ensures.value in
-    rw (to_z-of_z {w = w64} (record { sfits = c.before_start-last.type_inv })) (
-      omega arith,
-      none_counted (IsRuleTime c.args.of.now.rule c.args.of.now.start) c.args.of.now.start c.before_start-last.result
-          (λ l one. one.from_start) value (let short = started.3 in omega (arith, ints, value, short)),
-    )
 
 pub times-preserved : goal.times-preserved
 times-preserved c =
-    let inv = c.times.invariant in let test = c.times-test.true in
-    let first = rw (to_z-of_z {w = w64} (record { sfits = c.second_after.type_inv })) at c.in-Some.ensures in
-    let low = first.not_before in let high = first.before_end in let after = c.second_after.ensures in let from = inv.1.from in
-    let started = c.args.of.now.started in
-    let same : to_z w64 (of_z w64 c.in-Some.next) ≡ c.in-Some.next = search rules in
+    let first = rw (read_back (record { sfits = c.second_after.type_inv })) at c.in-Some.ensures in
+    let same = read_back {z = c.in-Some.next} (search rules) in
     rw same (
-      omega (arith, test),
-      one_more_counted (IsRuleTime c.args.of.now.rule c.args.of.now.start) c.args.of.now.start c.times.counted
-          (to_z w64 c.times.last-bits) c.second_after.result (pos 253_402_300_800)
-          c.in-Some.next inv.1 after first refl,
+      omega arith,
+      one_more_counted _ c.times.invariant.1 c.second_after.ensures first refl,
     )
 
 pub returns-in-None-clause-last : goal.returns-in-None-clause-last
 returns-in-None-clause-last c =
-    let inv = c.times.invariant in
-    all_counted (IsRuleTime c.args.of.now.rule c.args.of.now.start) c.args.of.now.start c.times.counted c.args.count
-    (to_z w64 c.times.last-bits) c.second_after.result (pos 253_402_300_800)
-    inv.1 inv.0 c.second_after.ensures refl (λ l one. one.in_years) (rw (to_z-of_z {w = w64} (record { sfits = c.second_after.type_inv })) at c.in-None.ensures)
+    all_counted _ c.times.invariant.1 _ c.times.invariant.0 c.second_after.ensures refl (λ l one. one.in_years)
+    (rw (read_back (record { sfits = c.second_after.type_inv })) at c.in-None.ensures)
 
 pub returns-clause-last : goal.returns-clause-last
 returns-clause-last c =
-    let inv = c.times.invariant in
-    whole_count (IsRuleTime c.args.of.now.rule c.args.of.now.start) c.args.of.now.start c.times.counted c.args.count (to_z w64 c.times.last-bits) inv.1 inv.0
-    c.times-test.false
+    whole_count _ c.times.invariant.1 _ c.times.invariant.0 c.times-test.false

@@ -1,14 +1,13 @@
-use Rattle.naive_base.proofs.Words.{to_z-of_z, w64}
-use Rattle.naive_plans.proofs.RuleTimes.{count_last, never_last, until_last}
+use Rattle.naive_base.proofs.Words.{arith, to_z-of_z}
+use Rattle.naive_plans.proofs.{Bits.{read_back}, RuleTimes.{count_last, never_last, until_last}}
 use Rattle.naive_plans.proofs.recurrence.last_second.Goals as goal
 
 pub returns-in-Never : goal.returns-in-Never
-returns-in-Never c = rw c.in-Never.is (never_last c.args.of.now.rule c.args.of.now.start)
+returns-in-Never c = grind (arith, to_z-of_z, never_last)
 
 pub returns-in-Until : goal.returns-in-Until
-returns-in-Until c = rw (c.in-Until.is, to_z-of_z {w = w64} (record { sfits = c.until_second.type_inv }))
-    (until_last c.args.of.now.rule c.args.of.now.start c.until_second.result c.in-Until.until c.until_second.ensures.same c.until_second.ensures.bound)
+returns-in-Until c = grind (arith, to_z-of_z, until_last)
 
 pub returns-in-Count : goal.returns-in-Count
-returns-in-Count c = rw (c.in-Count.is, to_z-of_z {w = w64} (record { sfits = c.last_of.type_inv }))
-    (count_last c.args.of.now.rule c.args.of.now.start c.last_of.result c.in-Count.count c.last_of.ensures.last c.last_of.ensures.bound)
+returns-in-Count c = rw (c.in-Count.is, read_back (record { sfits = c.last_of.type_inv }))
+    (count_last c.last_of.ensures.last c.last_of.ensures.bound)

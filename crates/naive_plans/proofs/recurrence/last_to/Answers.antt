@@ -1,74 +1,52 @@
-use Rattle.naive_base.proofs.Words.{arith, ints, of_z, refl, rules, to_z, to_z-of_z, w64, ◌≡◌}
-use Rattle.naive_plans.proofs.OccasionsBack.{after_all}
-use Rattle.naive_plans.proofs.RuleTimes.{all_early, last_found, more_to, none_of_them, none_to_start}
+use Rattle.naive_base.proofs.Words.{arith, ints, refl, rules, to_z-of_z}
+use Rattle.naive_plans.proofs.{Bits.{read_back}, OccasionsBack.{after_all}, RuleTimes.{all_early, last_found, more_to, none_of_them, none_to_start}}
 use Rattle.naive_plans.proofs.recurrence.last_to.Goals as goal
 
 pub returns-in_default : goal.returns-in_default
-returns-in_default c =
-    let fits = c.ranges.until in let inv = rw (to_z-of_z {w = w64} fits) at c.times.invariant in
-    none_of_them c.args.of.now.rule c.args.of.now.start c.args.until (to_z w64 c.times.to-bits) inv c.in_default.ensures
+returns-in_default c = grind (arith, to_z-of_z, none_of_them)
 
 pub returns-then-not-is_from : goal.returns-then-not-is_from
 returns-then-not-is_from c =
-    let fits = c.ranges.until in let inv = rw (to_z-of_z {w = w64} fits) at c.times.invariant in let own = c.in-Some.ensures in
-    let low = after_all c.args.of.now.rule c.args.of.now.start c.in-Some.last own.planned in let up = own.not_after in let short = c.requires in
-    let first = c.args.of.now.started.2 in let started = c.args.of.now.started in let to = inv.0 in
-    let start_is : to_z w64 (of_z w64 c.args.of.now.start) ≡ c.args.of.now.start = search rules in
-    let last_is : to_z w64 (of_z w64 c.in-Some.last) ≡ c.in-Some.last = search rules in
+    let inv = rw (read_back c.ranges.until) at c.times.invariant in let own = c.in-Some.ensures in
+    let low = after_all _ _ _ own.planned in let start_is = read_back {z = c.args.of.now.start} (search rules) in
+    let last_is = read_back {z = c.in-Some.last} (search rules) in
     let from = rw (last_is, start_is) at c.is_from-in-times.ensures in
-    all_early c.args.of.now.rule c.args.of.now.start c.args.until (to_z w64 c.times.to-bits) c.in-Some.last inv own
-    (λ le. let told = from.1 le in grind (arith, told, c.if-not-is_from.true))
+    all_early inv own
+    (λ le. grind (arith, from.1 le, c.if-not-is_from.true))
 
 pub returns-then-is_at_position : goal.returns-then-is_at_position
 returns-then-is_at_position c =
-    let fits = c.ranges.until in let inv = rw (to_z-of_z {w = w64} fits) at c.times.invariant in let own = c.in-Some.ensures in
-    let low = after_all c.args.of.now.rule c.args.of.now.start c.in-Some.last own.planned in let up = own.not_after in let short = c.requires in
-    let first = c.args.of.now.started.2 in let started = c.args.of.now.started in let to = inv.0 in
-    let start_is : to_z w64 (of_z w64 c.args.of.now.start) ≡ c.args.of.now.start = search rules in
-    let last_is : to_z w64 (of_z w64 c.in-Some.last) ≡ c.in-Some.last = search rules in
-    rw last_is (last_found c.args.of.now.rule c.args.of.now.start c.args.until (to_z w64 c.times.to-bits) c.in-Some.last c.requires inv own
+    let inv = rw (read_back c.ranges.until) at c.times.invariant in let own = c.in-Some.ensures in
+    let low = after_all _ _ _ own.planned in let start_is = read_back {z = c.args.of.now.start} (search rules) in
+    let last_is = read_back {z = c.in-Some.last} (search rules) in
+    rw last_is (last_found c.requires inv own
     (rw (last_is, start_is) at (c.if-not-is_from.ensures.0 refl)) (rw last_is at (c.if-is_at_position.ensures.0 refl)))
 
 pub times-preserved : goal.times-preserved
 times-preserved c =
-    let fits = c.ranges.until in let inv = rw (to_z-of_z {w = w64} fits) at c.times.invariant in let own = c.in-Some.ensures in
-    let low = after_all c.args.of.now.rule c.args.of.now.start c.in-Some.last own.planned in let up = own.not_after in let short = c.requires in
-    let first = c.args.of.now.started.2 in let to = inv.0 in
-    let last_is : to_z w64 (of_z w64 c.in-Some.last) ≡ c.in-Some.last = search rules in
+    let inv = rw (read_back c.ranges.until) at c.times.invariant in let own = c.in-Some.ensures in
+    let low = after_all _ _ c.in-Some.last own.planned in let last_is = read_back {z = c.in-Some.last} (search rules) in
     let next = rw last_is at c.second_before-to.ensures in let at = rw last_is at c.if-is_at_position.ensures in
-    rw (to_z-of_z {w = w64} (record { sfits = c.second_before-to.type_inv }), to_z-of_z {w = w64} fits)
-    (more_to c.args.of.now.rule c.args.of.now.start c.args.until (to_z w64 c.times.to-bits) c.in-Some.last c.second_before-to.result
-    c.args.of.now.started.2 inv own (λ own_at. let told = at.1 own_at in grind (arith, told, c.if-is_at_position.false)) next)
+    rw (read_back (record { sfits = c.second_before-to.type_inv }), read_back c.ranges.until)
+    (more_to c.args.of.now.started.2 inv own (λ own_at. grind (arith, at.1 own_at, c.if-is_at_position.false)) next)
 
 pub returns : goal.returns
-returns c =
-    let fits = c.ranges.until in let inv = rw (to_z-of_z {w = w64} fits) at c.times.invariant in let started = c.args.of.now.started in
-    let start_is : to_z w64 (of_z w64 c.args.of.now.start) ≡ c.args.of.now.start = search rules in
-    let from = rw start_is at c.is_from.ensures in
-    none_to_start c.args.of.now.rule c.args.of.now.start c.args.until (to_z w64 c.times.to-bits) inv
-    (λ le. let told = from.1 le in grind (arith, told, c.times-test.false))
+returns c = search (rules, to_z-of_z, none_to_start)
 
 pub is_at_position-requires-clause-from_start : goal.is_at_position-requires-clause-from_start
-is_at_position-requires-clause-from_start c =
-    let started = c.args.of.now.started in
-    let start_is : to_z w64 (of_z w64 c.args.of.now.start) ≡ c.args.of.now.start = search rules in
-    rw start_is at (c.if-not-is_from.ensures.0 refl)
+is_at_position-requires-clause-from_start c = grind (arith, to_z-of_z)
 
 pub second_before-to-requires : goal.second_before-to-requires
 second_before-to-requires c =
-    let fits = c.ranges.until in let inv = rw (to_z-of_z {w = w64} fits) at c.times.invariant in let own = c.in-Some.ensures in
-    let low = after_all c.args.of.now.rule c.args.of.now.start c.in-Some.last own.planned in let up = own.not_after in let short = c.requires in
-    let first = c.args.of.now.started.2 in let to = inv.0 in
-    let last_is : to_z w64 (of_z w64 c.in-Some.last) ≡ c.in-Some.last = search rules in
-    rw last_is (omega (arith, ints, low, first), omega (arith, ints, up, to, short))
+    let fits = c.ranges.until in let inv = rw (read_back fits) at c.times.invariant in let own = c.in-Some.ensures in
+    let low = after_all _ _ _ own.planned in let last_is = read_back {z = c.in-Some.last} (search rules) in
+    rw last_is (omega (arith, ints), omega (arith, ints))
 
 pub times-smaller : goal.times-smaller
 times-smaller c =
-    let fits = c.ranges.until in let inv = rw (to_z-of_z {w = w64} fits) at c.times.invariant in let own = c.in-Some.ensures in
-    let low = after_all c.args.of.now.rule c.args.of.now.start c.in-Some.last own.planned in let up = own.not_after in let short = c.requires in
-    let first = c.args.of.now.started.2 in let started = c.args.of.now.started in let to = inv.0 in
-    let start_is : to_z w64 (of_z w64 c.args.of.now.start) ≡ c.args.of.now.start = search rules in
-    let last_is : to_z w64 (of_z w64 c.in-Some.last) ≡ c.in-Some.last = search rules in
+    let fits = c.ranges.until in let inv = rw (read_back fits) at c.times.invariant in let own = c.in-Some.ensures in
+    let low = after_all _ _ _ own.planned in let start_is = read_back {z = c.args.of.now.start} (search rules) in
+    let last_is = read_back {z = c.in-Some.last} (search rules) in
     let from = rw (last_is, start_is) at (c.if-not-is_from.ensures.0 refl) in
     let next = rw last_is at c.second_before-to.ensures in
-    rw (to_z-of_z {w = w64} (record { sfits = c.second_before-to.type_inv })) (omega (arith, ints, next, from, up))
+    rw (read_back (record { sfits = c.second_before-to.type_inv })) (omega (arith, ints))

@@ -1,24 +1,16 @@
-use Rattle.naive_base.proofs.Words.{of_z, rules, to_z, to_z-of_z, w64, ◌≡◌}
-use Rattle.naive_plans.proofs.RuleTimes.{bounded_to, none_to, none_up, same_to}
+use Rattle.naive_base.proofs.Words.{rules, to_z-of_z}
+use Rattle.naive_plans.proofs.{Bits.{read_back}, RuleTimes.{bounded_to, none_to, none_up, same_to}}
 use Rattle.naive_plans.proofs.recurrence.shortened.Goals as goal
 
 pub returns-in-None-clause-same : goal.returns-in-None-clause-same
-returns-in-None-clause-same c =
-    let fits = c.ranges.last in
-    rw (to_z-of_z {w = w64} (record { sfits = c.before_start.type_inv }))
-    (none_up c.args.of.now.rule c.args.of.now.start c.args.last c.before_start.result
-    (none_to c.args.of.now.rule c.args.of.now.start c.args.last c.args.of.now.started.2 (rw (to_z-of_z {w = w64} fits) at c.in-None.ensures))
-    c.before_start.ensures.value)
+returns-in-None-clause-same c = search (rules, to_z-of_z, none_to, none_up)
 
 pub returns-in-Some-clause-same : goal.returns-in-Some-clause-same
 returns-in-Some-clause-same c =
-    let fits = c.ranges.last in let own = rw (to_z-of_z {w = w64} fits) at c.in-Some.ensures in
-    let bound = bounded_to c.args.of.now.rule c.args.of.now.start c.args.last c.in-Some.time c.args.of.now.started.2 own in
-    let same : to_z w64 (of_z w64 c.in-Some.time) ≡ c.in-Some.time = search rules in
-    rw same (same_to c.args.of.now.rule c.args.of.now.start c.args.last c.in-Some.time c.args.of.now.started.2 own)
+    let own = rw (read_back c.ranges.last) at c.in-Some.ensures in
+    let bound = bounded_to c.args.of.now.started.2 own in
+    let same = read_back {z = c.in-Some.time} (search rules) in
+    rw same (same_to c.args.of.now.started.2 own)
 
 pub returns-in-Some-clause-bound : goal.returns-in-Some-clause-bound
-returns-in-Some-clause-bound c =
-    let fits = c.ranges.last in let own = rw (to_z-of_z {w = w64} fits) at c.in-Some.ensures in
-    let bound = bounded_to c.args.of.now.rule c.args.of.now.start c.args.last c.in-Some.time c.args.of.now.started.2 own in
-    let same : to_z w64 (of_z w64 c.in-Some.time) ≡ c.in-Some.time = search rules in rw same bound
+returns-in-Some-clause-bound c = search (rules, to_z-of_z, bounded_to)

@@ -1,6 +1,5 @@
-use Rattle.std.proofs.Common.{get_or, ℕ, ◌<◌}
-use Rattle.naive_plans.specs.RecurrenceRules.{IsEntry}
-use Rattle.naive_plans.specs.declared.rule.NthWeekday.{NthWeekday}
+use Rattle.naive_base.proofs.Words.{get_or, ℕ, ◌<◌}
+use Rattle.naive_plans.specs.{RecurrenceRules.{IsEntry}, declared.rule.NthWeekday.{NthWeekday}}
 use Rattle.naive_plans.proofs.rule.lists_weekday.Given as goal
 
 abbrev pub invariant-loop-entry : goal.invariant-loop-entry

@@ -1,10 +1,10 @@
-use Rattle.naive_base.proofs.Words.{to_z-of_z, w64}
-use Rattle.naive_plans.proofs.Periods.{last_one}
+use Rattle.naive_base.proofs.Words.{to_z-of_z}
+use Rattle.naive_plans.proofs.{Bits.{read_back}, Periods.{last_one}}
 use Rattle.naive_plans.proofs.rule_periods.last_period.Goals as goal
 
 pub returns : goal.returns
 returns c =
     let fits = c.ranges.period in let fits_first = c.ranges.first in
-    rw (to_z-of_z {w = w64} (record { sfits = c.period_after.type_inv })) (last_one c.args.interval c.args.first c.args.period c.period_after.result
-    c.passed_since.result c.requires.interval (simp to_z-of_z at c.passed_since.ensures.value) (rw c.whole_intervals.ensures.value at
+    rw (read_back (record { sfits = c.period_after.type_inv })) (last_one _ _ _ _
+    _ c.requires.interval (simp to_z-of_z at c.passed_since.ensures.value) (rw c.whole_intervals.ensures.value at
     (simp to_z-of_z at c.period_after.ensures)))

@@ -1,20 +1,18 @@
-use Rattle.naive_base.proofs.Words.{of_z, rules, to_z, to_z-of_z, w64, ◌≡◌}
-use Rattle.naive_plans.proofs.OccasionWalk.{day_from, days_between}
+use Rattle.naive_base.proofs.Words.{arith, rules, to_z-of_z}
+use Rattle.naive_plans.proofs.{Bits.{read_back}, OccasionWalk.{day_from, days_between}}
 use Rattle.naive_plans.proofs.occasions.Occasions.day_after.Goals as goal
 
 pub returns-in-None-clause-none : goal.returns-in-None-clause-none
-returns-in-None-clause-none c =
-    let fits = c.ranges.day in λ d second on short later.
-    rw (to_z-of_z {w = w64} (record { sfits = c.next_day-next.type_inv })) ((rw (to_z-of_z {w = w64} fits) at c.next_day-next.ensures.none) d on.date later)
+returns-in-None-clause-none c = grind (arith, to_z-of_z)
 
 pub returns-in-Some-clause-none : goal.returns-in-Some-clause-none
 returns-in-Some-clause-none c =
-    let fits = c.ranges.day in let bound = c.in-Some.ensures.bound in let same : to_z w64 (of_z w64 c.in-Some.start) ≡ c.in-Some.start = search rules in
+    let same = read_back {z = c.in-Some.start} (search rules) in
     λ d second on short later.
-    let next = (rw (to_z-of_z {w = w64} fits) at c.next_day-next.ensures.none) d on.date later in
-    let midnight = rw (to_z-of_z {w = w64} (record { sfits = c.next_day-next.type_inv })) at c.seconds_of.ensures in
-    let own = rw midnight at (rw (to_z-of_z {w = w64} (record { sfits = c.seconds_of.type_inv })) at c.in-Some.ensures) in
-    let most = rw (to_z-of_z {w = w64} (record { sfits = c.next_day-next.type_inv }), to_z-of_z {w = w64} (record { sfits = c.day_of.type_inv })) at
+    let next = (rw (read_back c.ranges.day) at c.next_day-next.ensures.none) d on.date later in
+    let midnight = rw (read_back (record { sfits = c.next_day-next.type_inv })) at c.seconds_of.ensures in
+    let own = rw midnight at (rw (read_back (record { sfits = c.seconds_of.type_inv })) at c.in-Some.ensures) in
+    let most = rw (read_back (record { sfits = c.next_day-next.type_inv }), read_back (record { sfits = c.day_of.type_inv })) at
     c.later_day.ensures.most in
-    rw (to_z-of_z {w = w64} (record { sfits = c.later_day.type_inv })) (most d next (day_from c.in-Some.start _ d second (rw same at c.day_of.ensures) short
+    rw (read_back (record { sfits = c.later_day.type_inv })) (most d next (day_from _ _ d second (rw same at c.day_of.ensures) short
     (own.none _ on.counts (days_between _ d second next))))

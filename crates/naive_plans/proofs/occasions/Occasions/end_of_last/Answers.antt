@@ -1,56 +1,27 @@
-use Rattle.naive_base.proofs.Words.{ap, arith, of_z, refl, to_z, to_z-of_z, w64}
-use Rattle.naive_plans.proofs.OccasionWalk.{counts_here, last_bounds, later_bounds}
-use Rattle.naive_plans.proofs.OccasionsBack.{ends_earlier, none_counted}
+use Rattle.naive_base.proofs.Words.{ap, arith, of_z, refl, to_z-of_z, w64}
+use Rattle.naive_plans.proofs.{Bits.{read_back}, OccasionWalk.{ends_earlier}, OccasionsBack.{none_counted}}
 use Rattle.naive_plans.proofs.occasions.Occasions.end_of_last.Goals as goal
 
 pub last_period-last-requires-clause-later : goal.last_period-last-requires-clause-later
 last_period-last-requires-clause-later c = c.if-not-is_from.ensures.0 refl
 
-pub period_after-requires-clause-first : goal.period_after-requires-clause-first
-period_after-requires-clause-first c =
-    let own = rw (to_z-of_z {w = w64} (record { sfits = c.first_period-first.type_inv }), to_z-of_z {w = w64} (record { sfits = c.period_at-period.type_inv }))
-    at c.last_period-last.ensures in
-    rw (to_z-of_z {w = w64} (record { sfits = c.last_period-last.type_inv }))
-    (last_bounds _ _ _ _ own c.first_period-first.ensures.bound c.period_at-period.ensures.bound)
-
-pub start_of-requires : goal.start_of-requires
-start_of-requires c =
-    let own = rw (to_z-of_z {w = w64} (record { sfits = c.first_period-first.type_inv }), to_z-of_z {w = w64} (record { sfits = c.period_at-period.type_inv }))
-    at c.last_period-last.ensures in
-    rw (to_z-of_z {w = w64} (record { sfits = c.period_after.type_inv })) (later_bounds c.args.self.now.rule.interval 1 _ _ _ _ c.period_after.result own
-    c.first_period-first.ensures.least c.period_at-period.ensures.bound
-    (rw (to_z-of_z {w = w64} (record { sfits = c.last_period-last.type_inv })) at c.period_after.ensures) (omega arith))
-
 pub returns-then-not-is_from : goal.returns-then-not-is_from
 returns-then-not-is_from c =
-    let fits = c.ranges.second in
-    let from = rw (to_z-of_z {w = w64} (record { sfits = c.first_period-first.type_inv }), to_z-of_z {w = w64} (record { sfits = c.period_at-period.type_inv }))
+    let from = rw (read_back (record { sfits = c.first_period-first.type_inv }), read_back (record { sfits = c.period_at-period.type_inv }))
     at c.is_from.ensures in
-    rw (to_z-of_z {w = w64} (record { sfits = c.second_before_all.type_inv }))
-    (none_counted c.args.self.now.rule c.args.self.now.start c.args.second _ _ _ c.first_period-first.ensures.value
-    (simp to_z-of_z at c.period_at-period.ensures.value) (λ late. let yes = from.1 late in grind (arith, yes, c.if-not-is_from.true))
+    rw (read_back (record { sfits = c.second_before_all.type_inv }))
+    (none_counted _ _ _ _ _ _ c.first_period-first.ensures.value
+    (simp (to_z-of_z, c.ranges.second) at c.period_at-period.ensures.value) (λ late. grind (arith, from.1 late, c.if-not-is_from.true))
     c.args.self.now.started.3 c.second_before_all.ensures)
-
-pub returns-then-last-period : goal.returns-then-last-period
-returns-then-last-period c =
-    let fits = c.ranges.second in
-    counts_here c.args.self.now.rule c.args.self.now.start c.args.second _ _ _ c.first_period-first.ensures.value
-    (simp to_z-of_z at c.period_at-period.ensures.value)
-    (rw (to_z-of_z {w = w64} (record { sfits = c.first_period-first.type_inv }), to_z-of_z {w = w64} (record { sfits = c.period_at-period.type_inv }))
-    at c.last_period-last.ensures)
-    (rw (to_z-of_z {w = w64} (record { sfits = c.last_period-last.type_inv }), to_z-of_z {w = w64} (record { sfits = c.period_at-period.type_inv }))
-    at (ap (to_z w64) c.if-last-period.true))
 
 pub returns : goal.returns
 returns c =
-    let fits = c.ranges.second in
-    rw (to_z-of_z {w = w64} (record { sfits = c.start_of.type_inv }))
-    (ends_earlier c.args.self.now.rule c.args.self.now.start c.args.second c.first_period-first.result c.period_at-period.result c.last_period-last.result
-    c.period_after.result c.start_of.result c.first_period-first.ensures.value (simp to_z-of_z at c.period_at-period.ensures.value)
-    (rw (to_z-of_z {w = w64} (record { sfits = c.first_period-first.type_inv }), to_z-of_z {w = w64} (record { sfits = c.period_at-period.type_inv }))
+    rw (read_back (record { sfits = c.start_of.type_inv }))
+    (ends_earlier _ _ _ c.first_period-first.ensures.value (simp (to_z-of_z, c.ranges.second) at c.period_at-period.ensures.value)
+    (rw (read_back (record { sfits = c.first_period-first.type_inv }), read_back (record { sfits = c.period_at-period.type_inv }))
     at c.last_period-last.ensures)
     (λ same. c.if-last-period.false (ap (of_z w64) same))
-    (rw (to_z-of_z {w = w64} (record { sfits = c.last_period-last.type_inv })) at c.period_after.ensures) c.requires.1
-    (rw (to_z-of_z {w = w64} (record { sfits = c.period_after.type_inv })) at c.start_of.ensures.earlier)
-    (rw (to_z-of_z {w = w64} (record { sfits = c.period_after.type_inv })) at c.start_of.ensures.later)
+    (rw (read_back (record { sfits = c.last_period-last.type_inv })) at c.period_after.ensures) c.requires.1
+    (rw (read_back (record { sfits = c.period_after.type_inv })) at c.start_of.ensures.earlier)
+    (rw (read_back (record { sfits = c.period_after.type_inv })) at c.start_of.ensures.later)
     c.args.self.now.started.3)

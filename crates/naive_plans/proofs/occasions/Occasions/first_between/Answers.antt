@@ -1,45 +1,39 @@
-use Rattle.naive_base.proofs.Words.{arith, by_lt_z, floor_div, floors, ints, pos, to_z, to_z-of_z, w64, ◌*ℤ◌, ◌≡◌}
+use Rattle.naive_base.proofs.Words.{arith, by_lt_z, floor_div, floors, ints, pos, to_z, w64, ◌*ℤ◌, ◌≡◌}
+use Rattle.naive_plans.proofs.{Bits.{read_back}, DayWalk.{none_on_day}, OccasionWalk.{first_found, left_at_start, left_later, none_between}}
 use Rattle.naive_plans.specs.RecurrenceRules.{IsOccasion, IsOccasionOn}
-use Rattle.naive_plans.proofs.DayWalk.{none_on_day}
-use Rattle.naive_plans.proofs.OccasionWalk.{first_found, left_at_start, left_later, none_between}
 use Rattle.naive_plans.proofs.occasions.Occasions.first_between.Goals as goal
 
 pub days-init : goal.days-init
 days-init c =
-    let fits = c.ranges.from in let in_range = c.requires.from in
-    let day : c.day_of-day.result ≡ floor_div c.args.from 86_400 = rw (to_z-of_z {w = w64} fits) at c.day_of-day.ensures in
-    rw (to_z-of_z {w = w64} (record { sfits = c.day_of-day.type_inv }), to_z-of_z {w = w64} fits) (
-      omega (arith, ints, floors, day, in_range),
-      omega (arith, ints, floors, day, in_range),
-      left_at_start _ c.args.from _ _ day (rw (to_z-of_z {w = w64} fits) at c.second_of-second.ensures.value),
+    let day : c.day_of-day.result ≡ floor_div c.args.from 86_400 = rw (read_back c.ranges.from) at c.day_of-day.ensures in
+    rw (read_back (record { sfits = c.day_of-day.type_inv }), read_back c.ranges.from) (
+      omega (arith, ints, floors),
+      omega (arith, ints, floors),
+      left_at_start _ _ _ _ day (rw (read_back c.ranges.from) at c.second_of-second.ensures.value),
       c.second_of-second.ensures.bound,
     )
 
 pub days-preserved : goal.days-preserved
 days-preserved c =
-    let on = IsOccasionOn c.args.self.now.rule c.args.self.now.start in let inv = c.days.invariant in
-    let low = inv.0 in let later = c.day_after-day.ensures.later in
-    rw (to_z-of_z {w = w64} (record { sfits = c.day_after-day.type_inv })) (
-      omega (arith, ints, low, later),
-      (let bound = c.day_after-day.ensures.bound in bound),
-      left_later on _ (to_z w64 c.days.day-bits) c.day_after-day.result (none_on_day on _ (to_z w64 c.days.day-bits) c.days.second inv.2
-          c.in_default.ensures) later c.day_after-day.ensures.none,
+    let on = IsOccasionOn c.args.self.now.rule c.args.self.now.start in rw (read_back (record { sfits = c.day_after-day.type_inv })) (
+      omega (arith, ints),
+      (c.day_after-day.ensures.bound),
+      left_later on (none_on_day on c.days.invariant.2
+          c.in_default.ensures) c.day_after-day.ensures.later c.day_after-day.ensures.none,
       omega arith,
     )
 
 pub returns-in-Some : goal.returns-in-Some
 returns-in-Some c =
-    let on = IsOccasionOn c.args.self.now.rule c.args.self.now.start in let fits = c.ranges.from in let fits_end = c.ranges.end in
-    let inv = rw (to_z-of_z {w = w64} fits) at c.days.invariant in
-    let over = rw (to_z-of_z {w = w64} fits_end, to_z-of_z {w = w64} (record { sfits = c.second_at.type_inv })) at c.before_end.ensures in
-    first_found on c.args.from c.args.end (to_z w64 c.days.day-bits) c.second_at.result c.days.second c.in-Some.found c.before_end.result inv.2
+    let on = IsOccasionOn c.args.self.now.rule c.args.self.now.start in let inv = rw (read_back c.ranges.from) at c.days.invariant in
+    let over = rw (read_back c.ranges.end, read_back (record { sfits = c.second_at.type_inv })) at c.before_end.ensures in
+    first_found on _ _ _ inv.2
     c.in-Some.ensures c.second_at.ensures over
 
 pub returns : goal.returns
 returns c =
-    let fits = c.ranges.from in let fits_end = c.ranges.end in
-    let inv = rw (to_z-of_z {w = w64} fits) at c.days.invariant in
-    let before = rw (to_z-of_z {w = w64} fits_end) at c.starts_before.ensures in
+    let inv = rw (read_back c.ranges.from) at c.days.invariant in
+    let before = rw (read_back c.ranges.end) at c.starts_before.ensures in
     none_between (IsOccasion c.args.self.now.rule c.args.self.now.start) c.args.from c.args.end (to_z w64 c.days.day-bits) c.days.second inv.2
-    (by_lt_z (to_z w64 c.days.day-bits *ℤ pos 86_400) c.args.end (λ less. let yes = before.1 less in absurd (grind (arith, yes, c.days-test.false)))
-    (λ not. omega (arith, ints, not)))
+    (by_lt_z (to_z w64 c.days.day-bits *ℤ pos 86_400) c.args.end (λ less. grind (arith, before.1 less, c.days-test.false))
+    (λ not. omega (arith, ints)))

@@ -3,9 +3,8 @@ use Rattle.naive_plans.proofs.OccasionWalk.{with_date}
 use Rattle.naive_plans.proofs.occasions.Occasions.first_on.Goals as goal
 
 pub returns : goal.returns
-returns c = let fits = c.ranges.day in with_date c.args.self.now.rule c.args.self.now.start c.args.day c.args.from _ (search rules)
-    (simp to_z-of_z at c.first_time.ensures)
+returns c = with_date _ _ _ _ _ (search rules)
+    (simp (to_z-of_z, c.ranges.day) at c.first_time.ensures)
 
 pub returns-then-not-has_date : goal.returns-then-not-has_date
-returns-then-not-has_date c = let fits = c.ranges.day in λ k in_day on le. let yes = (simp to_z-of_z at c.has_date.ensures).1 on.date in
-    absurd (grind (arith, yes, c.if-not-has_date.true))
+returns-then-not-has_date c = grind (arith, to_z-of_z)

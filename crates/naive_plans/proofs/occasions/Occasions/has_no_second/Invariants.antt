@@ -1,5 +1,4 @@
-use Rattle.std.proofs.Common.{ℕ, ◌<◌}
-use Rattle.gregorian.specs.Year.{floor_mod}
+use Rattle.naive_base.proofs.Words.{ℕ, ◌<◌, floor_mod}
 use Rattle.naive_plans.specs.RecurrenceRules.{HasSecond}
 use Rattle.naive_plans.proofs.occasions.Occasions.has_no_second.Given as goal
 

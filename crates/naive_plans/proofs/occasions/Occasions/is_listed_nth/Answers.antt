@@ -1,23 +1,21 @@
-use Rattle.naive_base.proofs.Words.{arith, inl, inr, pos, rules, ◌≡◌, ◌∙◌}
-use Rattle.std.proofs.Common.{get_or}
 use Rattle.std.proofs.lemmas.Bool.{cases_order}
+use Rattle.naive_base.proofs.Words.{arith, inl, inr, pos, rules, ◌≡◌, ◌∙◌, get_or}
 use Rattle.naive_plans.proofs.NthTimes.{any_default}
 use Rattle.naive_plans.proofs.occasions.Occasions.is_listed_nth.Goals as goal
 
 pub loop-position-preserved : goal.loop-position-preserved
 loop-position-preserved c = λ k less nth. elim (cases_order k c.loop-position.position-index) [
-  | inl same ↦ (let told = c.is_nth.ensures.1 (rw same at nth) in grind (arith, told, c.if-is_nth.false))
+  | inl same ↦ (grind (arith, c.is_nth.ensures.1 (rw same at nth), c.if-is_nth.false))
   | inr (inl before) ↦ c.loop-position.invariant k before nth
-  | inr (inr after) ↦ omega (arith, after, less)
+  | inr (inr after) ↦ omega arith
 ]
 
 pub returns : goal.returns
 returns c = (
   λ no. absurd (search rules),
   λ own. absurd (
-      let at = own.listed.1 in let end = c.loop-position-test.false in
       let is : get_or c.args.self.now.rule.by_set_position.now own.listed.0 (pos 0) ≡ own.position =
-      any_default c.args.self.now.rule.by_set_position.now own.listed.0 (pos 0) own.position at ∙ own.listed.2 in
-      c.loop-position.invariant own.listed.0 (omega (arith, at, end)) (rw is own.nth)
+      any_default _ own.listed.0 (pos 0) own.position own.listed.1 ∙ own.listed.2 in
+      c.loop-position.invariant own.listed.0 (omega arith) (rw is own.nth)
       ),
 )

@@ -1,5 +1,4 @@
-use Rattle.naive_base.proofs.Words.{ℕ, ◌<◌}
-use Rattle.std.proofs.Common.{get_or, pos}
+use Rattle.naive_base.proofs.Words.{ℕ, ◌<◌, get_or, pos}
 use Rattle.naive_plans.proofs.NthTimes.{around}
 use Rattle.naive_plans.specs.RecurrenceSets.{IsNth}
 use Rattle.naive_plans.proofs.occasions.Occasions.is_listed_nth.Given as goal

@@ -1,5 +1,5 @@
-use Rattle.naive_base.proofs.Words.{arith, of_z, refl, rules, to_z, w64, ◌≡◌}
-use Rattle.naive_plans.proofs.NthTimes.{not_zeroth, told_after, told_before}
+use Rattle.naive_base.proofs.Words.{to_z-of_z, arith, refl, rules}
+use Rattle.naive_plans.proofs.NthTimes.{Front, not_zeroth, told_nth}
 use Rattle.naive_plans.proofs.occasions.Occasions.is_nth.Goals as goal
 
 pub before_nth-requires : goal.before_nth-requires
@@ -9,21 +9,10 @@ pub after_nth-requires : goal.after_nth-requires
 after_nth-requires c = c.if-is_from_end.ensures.0 refl
 
 pub returns-then-is_from_front : goal.returns-then-is_from_front
-returns-then-is_from_front c =
-    let first = c.args.self.now.started.2 in let from = c.requires.from_start in let short = c.requires.in_years in
-    let same : to_z w64 (of_z w64 c.args.time.now) ≡ c.args.time.now = search rules in
-    told_before _ c.args.nth.now c.args.time.now _ _ c.before_nth.ensures (rw same at c.has_before.ensures)
+returns-then-is_from_front c = grind (arith, to_z-of_z, Front, told_nth)
 
 pub returns-then-is_from_end : goal.returns-then-is_from_end
-returns-then-is_from_end c =
-    let first = c.args.self.now.started.2 in let from = c.requires.from_start in let short = c.requires.in_years in
-    let same : to_z w64 (of_z w64 c.args.time.now) ≡ c.args.time.now = search rules in
-    told_after _ c.args.nth.now c.args.time.now _ _ c.after_nth.ensures (rw same at c.has_after.ensures)
+returns-then-is_from_end c = grind (arith, to_z-of_z, told_nth)
 
 pub returns : goal.returns
-returns c = (
-  λ no. absurd (search rules),
-  λ nth. absurd (not_zeroth _ c.args.nth.now c.args.time.now
-      (λ front. let yes = c.if-is_from_front.ensures.1 front in grind (arith, yes, c.if-is_from_front.false))
-      (λ end. let yes = c.if-is_from_end.ensures.1 end in grind (arith, yes, c.if-is_from_end.false)) nth),
-)
+returns c = search (rules, to_z-of_z, not_zeroth)

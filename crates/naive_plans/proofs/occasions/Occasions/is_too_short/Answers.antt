@@ -3,4 +3,4 @@ use Rattle.naive_plans.proofs.occasions.Occasions.is_too_short.Goals as goal
 
 pub returns : goal.returns
 returns c told p l n listed nth =
-    never_nth c.args.self.now.rule c.args.self.now.start c.times_in.result c.times_in.ensures.few p l n (c.are_beyond.ensures told n listed) nth
+    never_nth _ _ _ c.times_in.ensures.few p l n (c.are_beyond.ensures told n listed) nth

@@ -1,11 +1,9 @@
-use Rattle.naive_base.proofs.Words.{arith, rules, to_z-of_z}
+use Rattle.naive_base.proofs.Words.{arith, to_z-of_z}
 use Rattle.naive_plans.proofs.OccasionsBack.{with_date_back}
 use Rattle.naive_plans.proofs.occasions.Occasions.last_on.Goals as goal
 
 pub returns : goal.returns
-returns c = let fits = c.ranges.day in with_date_back c.args.self.now.rule c.args.self.now.start c.args.day c.args.until _ (search rules)
-    (simp to_z-of_z at c.last_time.ensures)
+returns c = grind (arith, to_z-of_z, with_date_back)
 
 pub returns-then-not-has_date : goal.returns-then-not-has_date
-returns-then-not-has_date c = let fits = c.ranges.day in λ k in_day on le. let yes = (simp to_z-of_z at c.has_date.ensures).1 on.date in
-    absurd (grind (arith, yes, c.if-not-has_date.true))
+returns-then-not-has_date c = grind (arith, to_z-of_z)

@@ -1,51 +1,43 @@
-use Rattle.naive_base.proofs.Words.{arith, by_lt_z, floor_div, floors, ints, pos, to_z, to_z-of_z, w64, ◌*ℤ◌, ◌+ℤ◌, ◌-ℤ◌, ◌≡◌}
+use Rattle.naive_base.proofs.Words.{arith, by_lt_z, floor_div, floors, ints, pos, to_z, w64, ◌*ℤ◌, ◌+ℤ◌, ◌-ℤ◌, ◌≡◌}
+use Rattle.naive_plans.proofs.{Bits.{read_back}, DayWalk.{last_on_day, none_back}, OccasionsBack.{all_until, left_earlier, none_until}}
 use Rattle.naive_plans.specs.RecurrenceRules.{IsOccasionOn}
-use Rattle.naive_plans.proofs.DayWalk.{last_on_day, none_back}
-use Rattle.naive_plans.proofs.OccasionsBack.{all_until, left_earlier, none_until}
 use Rattle.naive_plans.proofs.occasions.Occasions.last_until.Goals as goal
 
 pub days-init : goal.days-init
 days-init c =
-    let fits = c.ranges.until in let in_range = c.requires in
-    let day : c.day_of-day.result ≡ floor_div c.args.until 86_400 = rw (to_z-of_z {w = w64} fits) at c.day_of-day.ensures in
-    rw (to_z-of_z {w = w64} (record { sfits = c.day_of-day.type_inv }), to_z-of_z {w = w64} fits) (
-      omega (arith, ints, floors, day, in_range),
-      omega (arith, ints, floors, day, in_range),
-      all_until _ c.args.until _ _ day (rw (to_z-of_z {w = w64} fits) at c.second_of-second.ensures.value),
+    let fits = c.ranges.until in let day : c.day_of-day.result ≡ floor_div c.args.until 86_400 = rw (read_back fits) at c.day_of-day.ensures in
+    rw (read_back (record { sfits = c.day_of-day.type_inv }), read_back fits) (
+      omega (arith, ints, floors),
+      omega (arith, ints, floors),
+      all_until _ _ _ _ day (rw (read_back fits) at c.second_of-second.ensures.value),
     )
 
 pub day_before-day-requires : goal.day_before-day-requires
 day_before-day-requires c =
-    let inv = c.days.invariant in let started = c.args.self.now.started.2 in let earliest = c.second_before_all-earliest.ensures in
-    let ends = (rw (to_z-of_z {w = w64} (record { sfits = c.second_before_all-earliest.type_inv })) at c.ends_after.ensures).0 c.days-test.true in
-    (omega (arith, ints, ends, started, earliest), inv.1)
+    let ends = (rw (read_back (record { sfits = c.second_before_all-earliest.type_inv })) at c.ends_after.ensures).0 c.days-test.true in
+    (omega (arith, ints), c.days.invariant.1)
 
 pub days-preserved : goal.days-preserved
 days-preserved c =
-    let on = IsOccasionOn c.args.self.now.rule c.args.self.now.start in let inv = c.days.invariant in
-    let high = inv.1 in let earlier = c.day_before-day.ensures.earlier in let bound = c.day_before-day.ensures.bound in
-    rw (to_z-of_z {w = w64} (record { sfits = c.day_before-day.type_inv })) (
-      bound,
-      omega (arith, ints, high, earlier),
-      left_earlier on _ (to_z w64 c.days.day-bits) c.day_before-day.result (none_back on _ (to_z w64 c.days.day-bits) c.days.second inv.2
-          c.in_default.ensures) earlier
+    let on = IsOccasionOn c.args.self.now.rule c.args.self.now.start in rw (read_back (record { sfits = c.day_before-day.type_inv })) (
+      c.day_before-day.ensures.bound,
+      omega (arith, ints),
+      left_earlier on _ _ _ (none_back on c.days.invariant.2
+          c.in_default.ensures) c.day_before-day.ensures.earlier
           c.day_before-day.ensures.none,
     )
 
 pub returns-in-Some : goal.returns-in-Some
 returns-in-Some c =
-    let on = IsOccasionOn c.args.self.now.rule c.args.self.now.start in let fits = c.ranges.until in
-    let inv = rw (to_z-of_z {w = w64} fits) at c.days.invariant in
-    rw (to_z-of_z {w = w64} (record { sfits = c.second_at.type_inv }), c.second_at.ensures) (last_on_day on c.args.until
-    (to_z w64 c.days.day-bits) c.days.second c.in-Some.found inv.2 c.in-Some.ensures)
+    let on = IsOccasionOn c.args.self.now.rule c.args.self.now.start in let inv = rw (read_back c.ranges.until) at c.days.invariant in
+    rw (read_back (record { sfits = c.second_at.type_inv }), c.second_at.ensures) (last_on_day on inv.2 c.in-Some.ensures)
 
 pub returns : goal.returns
 returns c =
-    let fits = c.ranges.until in
-    let inv = rw (to_z-of_z {w = w64} fits) at c.days.invariant in
-    let ends = rw (to_z-of_z {w = w64} (record { sfits = c.second_before_all-earliest.type_inv }), c.second_before_all-earliest.ensures) at
+    let inv = rw (read_back c.ranges.until) at c.days.invariant in
+    let ends = rw (read_back (record { sfits = c.second_before_all-earliest.type_inv }), c.second_before_all-earliest.ensures) at
     c.ends_after.ensures in
-    none_until c.args.self.now.rule c.args.self.now.start c.args.until (to_z w64 c.days.day-bits) c.days.second inv.2
-    (by_lt_z (c.args.self.now.start -ℤ pos 31_708_800) (to_z w64 c.days.day-bits *ℤ pos 86_400 +ℤ pos 86_400) (λ less. let yes = ends.1 less in
-    absurd (grind (arith, yes, c.days-test.false)))
+    none_until _ _ _ _ _ inv.2
+    (by_lt_z (c.args.self.now.start -ℤ pos 31_708_800) (to_z w64 c.days.day-bits *ℤ pos 86_400 +ℤ pos 86_400)
+    (λ less. grind (arith, ends.1 less, c.days-test.false))
     (λ not. not))

@@ -1,35 +1,26 @@
-use Rattle.naive_base.proofs.Words.{arith, of_z, refl, rules, to_z, to_z-of_z, w64, ◌≡◌}
-use Rattle.naive_plans.proofs.OccasionWalk.{hour_skipped, minute_skipped, period_skipped, second_skipped}
+use Rattle.naive_base.proofs.Words.{arith, rules, to_z-of_z}
+use Rattle.naive_plans.proofs.{Bits.{read_back}, OccasionWalk.{hour_skipped, minute_skipped, period_skipped, second_skipped}}
 use Rattle.naive_plans.proofs.occasions.Occasions.skipped.Goals as goal
 
 pub returns-then-not-has_hour : goal.returns-then-not-has_hour
-returns-then-not-has_hour c = hour_skipped c.args.self.now.rule c.args.self.now.start c.args.day c.args.second c.requires.second
-    (λ has. let yes = c.has_hour.ensures.1 has in grind (arith, yes, c.if-not-has_hour.true))
+returns-then-not-has_hour c = grind (arith, to_z-of_z, hour_skipped)
 
 pub returns-then-not-has_minute : goal.returns-then-not-has_minute
-returns-then-not-has_minute c = minute_skipped c.args.self.now.rule c.args.self.now.start c.args.day c.args.second c.requires.second
-    (λ has. let yes = c.has_minute.ensures.1 has in grind (arith, yes, c.if-not-has_minute.true))
+returns-then-not-has_minute c = minute_skipped _ _ c.args.day c.args.second c.requires.second
+    (λ has. grind (arith, c.has_minute.ensures.1 has, c.if-not-has_minute.true))
 
 pub returns-then-not-has_second : goal.returns-then-not-has_second
-returns-then-not-has_second c = second_skipped c.args.self.now.rule c.args.self.now.start c.args.day c.args.second c.requires.second
-    (λ has. let yes = c.has_second.ensures.1 has in grind (arith, yes, c.if-not-has_second.true))
+returns-then-not-has_second c = grind (arith, to_z-of_z, second_skipped)
 
 pub returns-in-Some : goal.returns-in-Some
 returns-in-Some c =
-    let fits = c.ranges.day in let at = simp to_z-of_z at c.second_at.ensures in
-    period_skipped c.args.self.now.rule c.args.self.now.start c.args.day c.second_at.result c.in-Some.start c.args.second _ at
-    (rw (to_z-of_z {w = w64} (record { sfits = c.second_at.type_inv })) at c.in-Some.ensures) c.later_in_day.ensures.later
+    let at = simp (to_z-of_z, c.ranges.day) at c.second_at.ensures in
+    period_skipped _ _ _ _ at
+    (rw (read_back (record { sfits = c.second_at.type_inv })) at c.in-Some.ensures) c.later_in_day.ensures.later
     (λ k in_day after le.
-    let bound = c.in-Some.ensures.bound in let same : to_z w64 (of_z w64 c.in-Some.start) ≡ c.in-Some.start = search rules in
-    let midnight = simp to_z-of_z at c.seconds_of.ensures in
-    c.later_in_day.ensures.start k in_day after (rw (same, to_z-of_z {w = w64} (record { sfits = c.seconds_of.type_inv }), midnight) le))
+    let same = read_back {z = c.in-Some.start} (search rules) in
+    let midnight = simp (to_z-of_z, c.ranges.day) at c.seconds_of.ensures in
+    c.later_in_day.ensures.start k in_day after (rw (same, read_back (record { sfits = c.seconds_of.type_inv }), midnight) le))
 
 pub returns : goal.returns
-returns c =
-    let fits = c.ranges.day in let at = simp to_z-of_z at c.second_at.ensures in
-    record {
-      counts = rw at at (rw (to_z-of_z {w = w64} (record { sfits = c.second_at.type_inv })) at c.in_default.ensures);
-      hour = c.if-not-has_hour.ensures.0 refl;
-      minute = c.if-not-has_minute.ensures.0 refl;
-      at_second = c.if-not-has_second.ensures.0 refl;
-    }
+returns c = grind (arith, to_z-of_z)

@@ -1,36 +1,26 @@
-use Rattle.naive_base.proofs.Words.{arith, of_z, refl, rules, to_z, to_z-of_z, w64, ◌≡◌}
-use Rattle.naive_plans.proofs.OccasionsBack.{hour_back, minute_back, one_back, period_back}
+use Rattle.naive_base.proofs.Words.{arith, rules, to_z-of_z}
+use Rattle.naive_plans.proofs.{Bits.{read_back}, OccasionsBack.{hour_back, minute_back, one_back, period_back}}
 use Rattle.naive_plans.proofs.occasions.Occasions.skipped_back.Goals as goal
 
 pub returns-then-not-has_hour : goal.returns-then-not-has_hour
-returns-then-not-has_hour c = hour_back c.args.self.now.rule c.args.self.now.start c.args.day c.args.second (λ has. let yes = c.has_hour.ensures.1 has in
-    grind (arith, yes, c.if-not-has_hour.true))
+returns-then-not-has_hour c = grind (arith, to_z-of_z, hour_back)
 
 pub returns-then-not-has_minute : goal.returns-then-not-has_minute
-returns-then-not-has_minute c = minute_back c.args.self.now.rule c.args.self.now.start c.args.day c.args.second (λ has. let yes = c.has_minute.ensures.1 has
+returns-then-not-has_minute c = minute_back _ _ _ _ (λ has. let yes = c.has_minute.ensures.1 has
     in grind (arith, yes, c.if-not-has_minute.true))
 
 pub returns-then-not-has_second : goal.returns-then-not-has_second
-returns-then-not-has_second c = one_back _ c.args.second (λ on. let yes = c.has_second.ensures.1 on.at_second in
-    absurd (grind (arith, yes, c.if-not-has_second.true)))
+returns-then-not-has_second c = grind (arith, to_z-of_z, one_back)
 
 pub returns-in-Some : goal.returns-in-Some
 returns-in-Some c =
-    let fits = c.ranges.day in let at = simp to_z-of_z at c.second_at.ensures in
-    period_back c.args.self.now.rule c.args.self.now.start c.args.day c.second_at.result c.in-Some.end c.args.second _ at
-    (rw (to_z-of_z {w = w64} (record { sfits = c.second_at.type_inv })) at c.in-Some.ensures) c.earlier_in_day.ensures.earlier
+    let at = simp (to_z-of_z, c.ranges.day) at c.second_at.ensures in
+    period_back _ _ _ _ at
+    (rw (read_back (record { sfits = c.second_at.type_inv })) at c.in-Some.ensures) c.earlier_in_day.ensures.earlier
     (λ k before less.
-    let bound = c.in-Some.ensures.bound in let started = c.args.self.now.started.2 in
-    let same : to_z w64 (of_z w64 c.in-Some.end) ≡ c.in-Some.end = search rules in
-    let midnight = simp to_z-of_z at c.seconds_of.ensures in
-    c.earlier_in_day.ensures.end k before (rw (same, to_z-of_z {w = w64} (record { sfits = c.seconds_of.type_inv }), midnight) less))
+    let same = read_back {z = c.in-Some.end} (search rules) in
+    let midnight = simp (to_z-of_z, c.ranges.day) at c.seconds_of.ensures in
+    c.earlier_in_day.ensures.end k before (rw (same, read_back (record { sfits = c.seconds_of.type_inv }), midnight) less))
 
 pub returns : goal.returns
-returns c =
-    let fits = c.ranges.day in let at = simp to_z-of_z at c.second_at.ensures in
-    record {
-      counts = rw at at (rw (to_z-of_z {w = w64} (record { sfits = c.second_at.type_inv })) at c.in_default.ensures);
-      hour = c.if-not-has_hour.ensures.0 refl;
-      minute = c.if-not-has_minute.ensures.0 refl;
-      at_second = c.if-not-has_second.ensures.0 refl;
-    }
+returns c = grind (arith, to_z-of_z)

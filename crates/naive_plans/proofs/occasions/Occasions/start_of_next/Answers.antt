@@ -1,47 +1,13 @@
-use Rattle.naive_base.proofs.Words.{ap, of_z, to_z, to_z-of_z, w64}
-use Rattle.naive_plans.proofs.OccasionWalk.{counts_here, first_not_later, last_bounds, later_bounds, starts_later}
+use Rattle.naive_base.proofs.Words.{ap, of_z, to_z-of_z, w64}
+use Rattle.naive_plans.proofs.{Bits.{read_back}, OccasionWalk.{starts_later}}
 use Rattle.naive_plans.proofs.occasions.Occasions.start_of_next.Goals as goal
-
-pub last_period-last-requires-clause-later : goal.last_period-last-requires-clause-later
-last_period-last-requires-clause-later c =
-    let fits = c.ranges.second in
-    rw (to_z-of_z {w = w64} (record { sfits = c.first_period.type_inv }), to_z-of_z {w = w64} (record { sfits = c.period_at-period.type_inv }))
-    (first_not_later c.args.self.now.rule c.args.self.now.start c.args.second _ _ c.first_period.ensures.value
-    (simp to_z-of_z at c.period_at-period.ensures.value) c.requires.from_start)
-
-pub period_after-requires-clause-first : goal.period_after-requires-clause-first
-period_after-requires-clause-first c =
-    let own = rw (to_z-of_z {w = w64} (record { sfits = c.first_period.type_inv }), to_z-of_z {w = w64} (record { sfits = c.period_at-period.type_inv }))
-    at c.last_period-last.ensures in
-    rw (to_z-of_z {w = w64} (record { sfits = c.last_period-last.type_inv }))
-    (last_bounds _ _ _ _ own c.first_period.ensures.bound c.period_at-period.ensures.bound)
-
-pub start_of-requires : goal.start_of-requires
-start_of-requires c =
-    let own = rw (to_z-of_z {w = w64} (record { sfits = c.first_period.type_inv }), to_z-of_z {w = w64} (record { sfits = c.period_at-period.type_inv }))
-    at c.last_period-last.ensures in
-    rw (to_z-of_z {w = w64} (record { sfits = c.period_after.type_inv }))
-    (later_bounds c.args.self.now.rule.interval c.args.self.now.rule.interval _ _ _ _ c.period_after.result own
-    c.first_period.ensures.least c.period_at-period.ensures.bound
-    (rw (to_z-of_z {w = w64} (record { sfits = c.last_period-last.type_inv })) at c.period_after.ensures) c.args.self.now.started.1)
-
-pub returns-then-last-period : goal.returns-then-last-period
-returns-then-last-period c =
-    let fits = c.ranges.second in
-    counts_here c.args.self.now.rule c.args.self.now.start c.args.second _ _ _ c.first_period.ensures.value (simp to_z-of_z at c.period_at-period.ensures.value)
-    (rw (to_z-of_z {w = w64} (record { sfits = c.first_period.type_inv }), to_z-of_z {w = w64} (record { sfits = c.period_at-period.type_inv }))
-    at c.last_period-last.ensures)
-    (rw (to_z-of_z {w = w64} (record { sfits = c.last_period-last.type_inv }), to_z-of_z {w = w64} (record { sfits = c.period_at-period.type_inv }))
-    at (ap (to_z w64) c.if-last-period.true))
 
 pub returns : goal.returns
 returns c =
-    let fits = c.ranges.second in
-    rw (to_z-of_z {w = w64} (record { sfits = c.start_of.type_inv }))
-    (starts_later c.args.self.now.rule c.args.self.now.start c.args.second c.first_period.result c.period_at-period.result c.last_period-last.result
-    c.period_after.result c.start_of.result c.first_period.ensures.value (simp to_z-of_z at c.period_at-period.ensures.value)
-    (rw (to_z-of_z {w = w64} (record { sfits = c.first_period.type_inv }), to_z-of_z {w = w64} (record { sfits = c.period_at-period.type_inv }))
+    rw (read_back (record { sfits = c.start_of.type_inv }))
+    (starts_later _ _ _ c.first_period.ensures.value (simp (to_z-of_z, c.ranges.second) at c.period_at-period.ensures.value)
+    (rw (read_back (record { sfits = c.first_period.type_inv }), read_back (record { sfits = c.period_at-period.type_inv }))
     at c.last_period-last.ensures)
     (λ same. c.if-last-period.false (ap (of_z w64) same))
-    (rw (to_z-of_z {w = w64} (record { sfits = c.last_period-last.type_inv })) at c.period_after.ensures)
-    (rw (to_z-of_z {w = w64} (record { sfits = c.period_after.type_inv })) at c.start_of.ensures.later) c.start_of.ensures.bound)
+    (rw (read_back (record { sfits = c.last_period-last.type_inv })) at c.period_after.ensures)
+    (rw (read_back (record { sfits = c.period_after.type_inv })) at c.start_of.ensures.later) c.start_of.ensures.bound)

@@ -1,23 +1,21 @@
-use Rattle.naive_base.proofs.Words.{of_z, rules, to_z, to_z-of_z, w64, ◌≡◌}
-use Rattle.naive_plans.proofs.NthTimes.{after_in_period, none_after}
+use Rattle.naive_base.proofs.Words.{rules}
+use Rattle.naive_plans.proofs.{Bits.{read_back}, NthTimes.{after_in_period, none_after}}
 use Rattle.naive_plans.proofs.occasions.Occasions.time_after.Goals as goal
 
 pub returns-in-None : goal.returns-in-None
 returns-in-None c =
-    let fits = c.ranges.time in let from = rw (to_z-of_z {w = w64} fits) at c.second_after.ensures in
-    let end = rw (to_z-of_z {w = w64} fits) at c.year_after.ensures in
-    none_after c.args.self.now.rule c.args.self.now.start c.args.time c.second_after.result c.year_after.result from end
-    (rw (to_z-of_z {w = w64} (record { sfits = c.second_after.type_inv }), to_z-of_z {w = w64} (record { sfits = c.year_after.type_inv })) at
+    let from = rw (read_back c.ranges.time) at c.second_after.ensures in
+    let end = rw (read_back c.ranges.time) at c.year_after.ensures in
+    none_after from end
+    (rw (read_back (record { sfits = c.second_after.type_inv }), read_back (record { sfits = c.year_after.type_inv })) at
     c.in-None.ensures)
 
 pub returns-in-Some : goal.returns-in-Some
 returns-in-Some c =
-    let fits = c.ranges.time in let from = rw (to_z-of_z {w = w64} fits) at c.second_after.ensures in
-    let end = rw (to_z-of_z {w = w64} fits) at c.year_after.ensures in
-    let own = rw (to_z-of_z {w = w64} (record { sfits = c.second_after.type_inv }), to_z-of_z {w = w64} (record { sfits = c.year_after.type_inv })) at
+    let from = rw (read_back c.ranges.time) at c.second_after.ensures in
+    let end = rw (read_back c.ranges.time) at c.year_after.ensures in
+    let own = rw (read_back (record { sfits = c.second_after.type_inv }), read_back (record { sfits = c.year_after.type_inv })) at
     c.in-Some.ensures in
-    let low = own.not_before in let high = own.before_end in let first = c.args.self.now.started.2 in let start = c.requires.from_start in
-    let short = c.requires.in_years in
-    let after_is : to_z w64 (of_z w64 c.in-Some.after) ≡ c.in-Some.after = search rules in
-    after_in_period c.args.self.now.rule c.args.self.now.start c.args.time c.second_after.result c.year_after.result c.in-Some.after _ from own
-    (rw (after_is, to_z-of_z {w = w64} fits) at c.in_period_of.ensures)
+    let after_is = read_back {z = c.in-Some.after} (search rules) in
+    after_in_period _ _ from own
+    (rw (after_is, read_back c.ranges.time) at c.in_period_of.ensures)

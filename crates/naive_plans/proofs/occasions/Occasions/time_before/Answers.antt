@@ -1,45 +1,39 @@
-use Rattle.naive_base.proofs.Words.{arith, ints, of_z, rules, to_z, to_z-of_z, w64, ◌≡◌}
-use Rattle.naive_plans.proofs.NthTimes.{before_in_period, none_before}
-use Rattle.naive_plans.proofs.OccasionsBack.{after_all}
+use Rattle.naive_base.proofs.Words.{arith, ints, rules}
+use Rattle.naive_plans.proofs.{Bits.{read_back}, NthTimes.{before_in_period, none_before}, OccasionsBack.{after_all}}
 use Rattle.naive_plans.proofs.occasions.Occasions.time_before.Goals as goal
 
 pub second_before-requires : goal.second_before-requires
 second_before-requires c =
-    let fits = c.ranges.time in let low = after_all c.args.self.now.rule c.args.self.now.start c.args.time c.requires.one in
-    let first = c.args.self.now.started.2 in let short = c.requires.in_years in search rules
+    let low = after_all _ _ _ c.requires.one in
+    search rules
 
 pub last_until-requires : goal.last_until-requires
 last_until-requires c =
-    let fits = c.ranges.time in let low = after_all c.args.self.now.rule c.args.self.now.start c.args.time c.requires.one in
-    let first = c.args.self.now.started.2 in let short = c.requires.in_years in let is = c.second_before.ensures in search rules
+    let low = after_all _ _ _ c.requires.one in
+    search rules
 
 pub in_period_of-requires-clause-second : goal.in_period_of-requires-clause-second
 in_period_of-requires-clause-second c =
-    let fits = c.ranges.time in let is = rw (to_z-of_z {w = w64} fits) at c.second_before.ensures in
-    let own = rw (to_z-of_z {w = w64} (record { sfits = c.second_before.type_inv }), is) at c.in-Some.ensures in
-    let low = after_all c.args.self.now.rule c.args.self.now.start c.in-Some.before own.planned in let up = own.not_after in
-    let first = c.args.self.now.started.2 in let short = c.requires.in_years in
-    let before_is : to_z w64 (of_z w64 c.in-Some.before) ≡ c.in-Some.before = search rules in
-    rw before_is (omega (arith, ints, low, first), omega (arith, ints, up, short))
+    let is = rw (read_back c.ranges.time) at c.second_before.ensures in
+    let own = rw (read_back (record { sfits = c.second_before.type_inv }), is) at c.in-Some.ensures in
+    let low = after_all _ _ _ own.planned in let before_is = read_back {z = c.in-Some.before} (search rules) in
+    rw before_is (omega (arith, ints), omega (arith, ints))
 
 pub in_period_of-requires-clause-time : goal.in_period_of-requires-clause-time
 in_period_of-requires-clause-time c =
-    let fits = c.ranges.time in let low = after_all c.args.self.now.rule c.args.self.now.start c.args.time c.requires.one in
-    let first = c.args.self.now.started.2 in let short = c.requires.in_years in
-    rw (to_z-of_z {w = w64} fits) (omega (arith, ints, low, first), omega (arith, ints, short))
+    let low = after_all _ _ _ c.requires.one in
+    rw (read_back c.ranges.time) (omega (arith, ints), omega (arith, ints))
 
 pub returns-in-None : goal.returns-in-None
 returns-in-None c =
-    let fits = c.ranges.time in let is = rw (to_z-of_z {w = w64} fits) at c.second_before.ensures in
-    none_before c.args.self.now.rule c.args.self.now.start c.args.time c.args.self.now.started.2 c.requires.in_years
-    (rw (to_z-of_z {w = w64} (record { sfits = c.second_before.type_inv }), is) at c.in-None.ensures)
+    let is = rw (read_back c.ranges.time) at c.second_before.ensures in
+    none_before c.args.self.now.started.2 c.requires.in_years
+    (rw (read_back (record { sfits = c.second_before.type_inv }), is) at c.in-None.ensures)
 
 pub returns-in-Some : goal.returns-in-Some
 returns-in-Some c =
-    let fits = c.ranges.time in let is = rw (to_z-of_z {w = w64} fits) at c.second_before.ensures in
-    let own = rw (to_z-of_z {w = w64} (record { sfits = c.second_before.type_inv }), is) at c.in-Some.ensures in
-    let low = after_all c.args.self.now.rule c.args.self.now.start c.in-Some.before own.planned in let up = own.not_after in
-    let first = c.args.self.now.started.2 in let short = c.requires.in_years in
-    let before_is : to_z w64 (of_z w64 c.in-Some.before) ≡ c.in-Some.before = search rules in
-    before_in_period c.args.self.now.rule c.args.self.now.start c.args.time c.in-Some.before _ c.args.self.now.started.2 c.requires.in_years own
-    (rw (before_is, to_z-of_z {w = w64} fits) at c.in_period_of.ensures)
+    let is = rw (read_back c.ranges.time) at c.second_before.ensures in
+    let own = rw (read_back (record { sfits = c.second_before.type_inv }), is) at c.in-Some.ensures in
+    let low = after_all _ _ c.in-Some.before own.planned in let before_is = read_back {z = c.in-Some.before} (search rules) in
+    before_in_period _ c.args.self.now.started.2 c.requires.in_years own
+    (rw (before_is, read_back c.ranges.time) at c.in_period_of.ensures)

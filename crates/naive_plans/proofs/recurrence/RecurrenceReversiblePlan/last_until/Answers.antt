@@ -1,23 +1,16 @@
-use Rattle.naive_base.proofs.Words.{of_z, rules, to_z, to_z-of_z, w64, ◌∙◌, ◌≡◌}
-use Rattle.naive_plans.proofs.RuleTimes.{last_planned, none_planned}
+use Rattle.naive_base.proofs.Words.{arith, rules, to_z-of_z, ◌∙◌}
+use Rattle.naive_plans.proofs.{Bits.{read_back}, RuleTimes.{last_planned, none_planned}}
 use Rattle.naive_plans.proofs.recurrence.RecurrenceReversiblePlan.last_until.Goals as goal
 
 pub returns-in-None : goal.returns-in-None
-returns-in-None c =
-    let own = c.args.self.now in let bounded = own.bounded in
-    let last_is : to_z w64 (of_z w64 own.last) ≡ own.last = search rules in
-    let most = rw (to_z-of_z {w = w64} (record { sfits = c.secs_since_epoch.type_inv }), last_is, c.secs_since_epoch.ensures) at c.earlier.ensures.most in
-    none_planned own.occasions.rule own.occasions.start _ own.last c.earlier.result most (rw (to_z-of_z {w = w64} (record { sfits = c.earlier.type_inv })) at
-    c.in-None.ensures)
+returns-in-None c = grind (arith, to_z-of_z, none_planned)
 
 pub returns-in-Some : goal.returns-in-Some
 returns-in-Some c =
-    let own = c.args.self.now in let bounded = own.bounded in let started = own.occasions.started.2 in
-    let last_is : to_z w64 (of_z w64 own.last) ≡ own.last = search rules in
-    let most = rw (to_z-of_z {w = w64} (record { sfits = c.secs_since_epoch.type_inv }), last_is, c.secs_since_epoch.ensures) at c.earlier.ensures.most in
-    let both = rw (to_z-of_z {w = w64} (record { sfits = c.secs_since_epoch.type_inv }), last_is, c.secs_since_epoch.ensures) at c.earlier.ensures.not_after in
-    let last = last_planned own.occasions.rule own.occasions.start _ own.last c.earlier.result c.in-Some.second both most (rw (to_z-of_z {w = w64}
-    (record { sfits = c.earlier.type_inv })) at c.in-Some.ensures) in
-    let low = last.planned.0.from_start in let high = last.planned.0.in_years in
-    let same : to_z w64 (of_z w64 c.in-Some.second) ≡ c.in-Some.second = search rules in
+    let own = c.args.self.now in let last_is = read_back {z = own.last} (search rules) in
+    let most = rw (read_back (record { sfits = c.secs_since_epoch.type_inv }), last_is, c.secs_since_epoch.ensures) at c.earlier_second.ensures.most in
+    let both = rw (read_back (record { sfits = c.secs_since_epoch.type_inv }), last_is, c.secs_since_epoch.ensures) at c.earlier_second.ensures.not_after in
+    let last = last_planned both most (rw (read_back
+    (record { sfits = c.earlier_second.type_inv })) at c.in-Some.ensures) in
+    let same = read_back {z = c.in-Some.second} (search rules) in
     let is = c.local_at.ensures ∙ same in rw is last

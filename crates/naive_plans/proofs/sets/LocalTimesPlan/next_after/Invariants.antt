@@ -1,4 +1,4 @@
-use Rattle.naive_base.specs.NaiveDateTime.{reading}
+use Rattle.naive_base.proofs.Words.{reading}
 use Rattle.naive_plans.proofs.TimeLists.{IsFirstAmong}
 use Rattle.naive_plans.proofs.sets.LocalTimesPlan.next_after.Given as goal
 

@@ -1,4 +1,4 @@
-use Rattle.naive_base.specs.NaiveDateTime.{reading}
+use Rattle.naive_base.proofs.Words.{reading}
 use Rattle.naive_plans.proofs.TimeLists.{IsLastAmong}
 use Rattle.naive_plans.proofs.sets.LocalTimesReversiblePlan.last_until.Given as goal
 
