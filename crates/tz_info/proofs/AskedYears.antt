@@ -124,8 +124,6 @@ nearest_next w a s _ _ None rule h none next k = none_next w a s _ _ h none next
 nearest_next w a s first year (Some c) rule h none next k = found_next w a s _ _ h none next c k
 
 -- ---- from year to year
-pub from_first : (a : Alternate) (w : Bool) (first : ℤ) → AreFrom a w first (year_at w first 1)
-from_first a w _ d is y of_year beyond = beyond
 
 pub beyond_first : (w : Bool) (first : ℤ) (n : ℕ) → 0 < n → Precedes w (year_at w first 1) (year_at w first n)
 beyond_first true _ n h = omega linear

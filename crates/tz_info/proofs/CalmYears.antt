@@ -94,6 +94,3 @@ nearest_of_two w a year after last found other rule calm h k =
 pub none_of_one : (a : Alternate) (year after last : ℤ) → IsAlternateRule a → IsCalmRule a → start_in a year ≡ end_in a year
     → HasNoChange (AlternateAt a) (IsOfYear after last year)
 none_of_one a year after last rule calm one d is of = grind (linear, none_calm, calm_margin)
-
-pub none_of_alike : (a : Alternate) (year after last : ℤ) → a.std ≡ a.dst → HasNoChange (AlternateAt a) (IsOfYear after last year)
-none_of_alike a year after last same d is of = grind (linear, steady_alike)

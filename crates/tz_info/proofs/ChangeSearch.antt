@@ -9,9 +9,6 @@ use Rattle.tz_info.proofs.{
 abbrev pub InForce : Type 1
 InForce = ℤ → LocalType → Type 0
 
-pub none_of : (f : InForce) (seconds : List ℤ) (after last : ℤ) → HasNoChange f (IsOneOf seconds 0 after last)
-none_of f _ _ _ d is one = omega arith
-
 -- one of the first n, or the one at place n
 one_more : (seconds : List ℤ) (n : ℕ) (after last u : ℤ) → IsOneOf seconds (n + 1) after last u
     → IsOneOf seconds n after last u ⊎ ((get_or seconds n (pos 0) ≡ u) × IsInStretch after last u)

@@ -50,10 +50,6 @@ count_here ts u n rising within since until = sym (split_count ts u n (record {
   above = λ k d a l. let m = not_later ts n k d rising a l in let q = until d (omega arith) in omega linear;
 }))
 
-pub none_passed : (ts : List Transition) (u : ℤ) → length ts ≡ 0 → 0 ≡ length (passed ts u)
-none_passed [] u _ = refl
-none_passed (t ∷ ts) u none = omega arith
-
 pub begin_at : (ts : List Transition) (k : ℕ) (d : Transition) → 0 < k → k ≤ length ts → (get_or ts (k - 1) d).unix_leap_time ≡ begin_of ts k
 begin_at ts zero d some within = absurd (omega arith)
 begin_at ts (suc k) d some within = grind (linear, begin_next)
@@ -77,27 +73,8 @@ have_come z e u c valid made fits l come =
       below = rw come.index (last_index_below _ u 0 _ valid.some made.indexes);
     }
 
--- some have not come
-pub at_entry : (z : Zone) (u : ℤ) (c : Come) (t : LocalType) → HaveComeAt z u c → c.are_all ≡ false → HasType z c.index t
-    → TypeAtLeapTime z u (leap_time_at z u) t
-at_entry z u c t h not has = record { before_last = λ _. h.named ∙ has; from_last = λ q. grind arith }
-
 pub not_last : (z : Zone) (u : ℤ) (c : Come) → HaveComeAt z u c → c.are_all ≡ false → IsBeforeLast z (leap_time_at z u)
 not_last z u c h not = grind (linear, before_or_from_last)
-
-or_same : (rule : Option TransitionRule) (z : Zone) (u : ℤ) (i j : ℕ) (t : LocalType) → slice_get z.types i ≡ slice_get z.types j
-    → RuleOrElse rule u (HasType z j t) t → RuleOrElse rule u (HasType z i t) t
-or_same (Some rule) z u i j t same h = h
-or_same None z u i j t same h = same ∙ h
-
--- all have come, and the rule is asked, or the zone has no rule
-pub at_last : {T : Type 0} (view : T → LocalType) (z : Zone) (u : ℤ) (c : Come) (r : Result T Error) → HaveComeAt z u c → c.are_all ≡ true
-    → MatchResult r (λ t. RuleOrType z u c.index (view t)) (λ e. (e ≡ FindLocalTimeType YearThatRuleAnswersIn) × IsRefusedBy z.rule u)
-    → MatchResult r (λ t. TypeAtLeapTime z u (leap_time_at z u) (view t))
-    (λ e. (e ≡ FindLocalTimeType YearThatRuleAnswersIn) × IsFromLast z (leap_time_at z u) × IsRefusedBy z.rule u)
-at_last _ z u c (Ok t) h all k =
-    record { before_last = λ q. absurd (omega arith); from_last = λ _. or_same _ z u _ _ _ h.named k }
-at_last view z u c (Err e) h all k = grind linear
 
 pub type_amid : (z : Zone) (e : Entries) (u x : ℤ) (n : ℕ) (t : LocalType) → AreEntries z e → SFits w64 u → IsLeapTime z.leaps u x
     → count_at e u ≡ n → n < e.all

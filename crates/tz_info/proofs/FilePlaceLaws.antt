@@ -186,10 +186,6 @@ pub file_bad : (bytes : List ℕ) (e : Error) → read (header First) bytes ≡ 
 unfolding file
 file_bad _ e is = rw is
 
-pub rest_left : (h : Header) (bytes after : List ℕ) (parts : Parts) → read (block 4 h.counts) bytes ≡ Ok (parts, after)
-    → from_fault (after_header h) bytes ≡ from_fault (after_first_block h.version h.counts parts) after
-rest_left h _ _ _ is = rw is
-
 pub rest_bad : (h : Header) (bytes : List ℕ) (e : Error) → read (block 4 h.counts) bytes ≡ Err e → from_fault (after_header h) bytes ≡ []
 rest_bad h _ e is = rw is (block_left 4 _ _ e is)
 

@@ -77,14 +77,6 @@ pub record AreRefusedFrom (es : List LeapSecond) (k : ℕ) (refused : ℤ) : Typ
   pub some : (u : ℤ) → refused ≤ℤ u → u <ℤ pos 9_223_372_036_854_775_808 → (j : ℕ) × (j < k) × Refuses es j u
   pub only : (u : ℤ) (j : ℕ) → j < k → Refuses es j u → refused ≤ℤ u
 
-pub none_refused : (es : List LeapSecond) → AreRefusedFrom es 0 (pos 9_223_372_036_854_775_808)
-none_refused es = record {
-  late = omega arith;
-  most = omega arith;
-  some = λ u h l. absurd (omega linear);
-  only = λ u j l. absurd (omega arith);
-}
-
 -- with the entry at place k, which refuses from `by` on
 pub refused_more : (es : List LeapSecond) (k : ℕ) (old by new : ℤ) → AreRefusedFrom es k old → pos 4_611_686_018_427_387_904 ≤ℤ by
     → ((u : ℤ) → (by ≤ℤ u) ↔ Refuses es k u) → new ≡ int_min old by → AreRefusedFrom es (k + 1) new

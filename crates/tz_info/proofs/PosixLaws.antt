@@ -86,12 +86,6 @@ trimmed_fault text start trimmed string error _ _ s t same fault place is =
       is ∙ ap (λ o. option_map (λ p. length text - (length start - p)) o) place ∙ ap (λ n. Some n) counts,
     )
 
--- a zone that is the text's, the only one, unless memory ran out
-pub zone_found : (text : List ℕ) (z : Zone) (r : Result Zone ParseError) → IsPosixZone text z
-    → MatchResult r (λ y. y ≡ z) (λ e. IsOutOfMemory e.error × (e.position ≡ None)) → IfOk r (λ y. IsPosixZone text y)
-zone_found _ z (Ok y) is same = rw same is
-zone_found text z (Err x) is memory = tt
-
 pub only_found : (text : List ℕ) (z : Zone) (r : Result Zone ParseError) → IsPosixZone text z
     → MatchResult r (λ y. y ≡ z) (λ e. IsOutOfMemory e.error × (e.position ≡ None)) → (other : Zone) → IsPosixZone text other
     → MatchResult r (λ y. y ≡ other) (λ e. IsOutOfMemory e.error)

@@ -35,16 +35,6 @@ reached_plain _ ts k l rising some within = (
   λ r. let rise = ends_rise _ ts _ k rising r.some r.within within in omega linear,
 )
 
--- else the latest one
-pub reached_latest : (types : List LocalType) (ts : List Transition) (maxima : List ℤ) (k : ℕ) (l : ℤ) → AreMaxima types ts maxima → 0 < k → k ≤ length ts
-    → SFits w64 l → (l <ℤ get_or maxima (k - 1) (pos 0)) ↔ IsReached types ts k l
-reached_latest _ ts _ k l made some within fits =
-    let e : suc (k - 1) ≡ k = omega arith in
-    rw e at (made.reached (k - 1) (pos 0) l (omega arith) fits)
-
-pub by_test : {P : Type 0} → (a b : ℤ) → (a <ℤ b) ↔ P → IsTrue (int_lt a b) ↔ P
-by_test a b is = grind (linear, lt_is, lt_true)
-
 -- of one segment more
 pub reached_more : (types : List LocalType) (ts : List Transition) (k : ℕ) (l : ℤ)
     → IsReached types ts (suc k) l ↔ (IsReached types ts k l ⊎ (l <ℤ end_of types ts (suc k)))
@@ -58,9 +48,6 @@ reached_more _ ts k l = (
     | inr later ↦ record { by = suc k; some = omega arith; within = omega arith; later = later }
   ],
 )
-
-pub never_reached : (types : List LocalType) (ts : List Transition) (l : ℤ) → IsReached types ts 0 l → ⊥
-never_reached _ ts l r = omega arith
 
 -- the later of the segment's begin and the second that shows the local time by its type
 pub first_of_made : (types : List LocalType) (ts : List Transition) (k i : ℕ) (l at begin shown : ℤ) (t : LocalType) → i ≡ index_of ts k
@@ -169,9 +156,6 @@ pub record AreMaximaOf (types : List LocalType) (ts : List Transition) (k : ℕ)
   pub reached : (i : ℕ) (d l : ℤ) → i < k → SFits w64 l → (l <ℤ get_or maxima i d) ↔ IsReached types ts (suc i) l
   pub all : (l : ℤ) → SFits w64 l → (l <ℤ latest) ↔ IsReached types ts k l
 
-pub no_maxima : (types : List LocalType) (ts : List Transition) (latest : ℤ) → latest ≡ least_time → AreMaximaOf types ts 0 [] latest
-no_maxima types ts latest e = grind (linear, never_reached)
-
 later_than : (l a b m : ℤ) → (m ≤ℤ l) ↔ ((a ≤ℤ l) × (b ≤ℤ l)) → (l <ℤ m) ↔ ((l <ℤ a) ⊎ (l <ℤ b))
 later_than l a b m is = grind linear
 
@@ -192,12 +176,5 @@ maxima_more types ts k maxima out latest next made is e =
       ];
       all = more;
     })
-
-pub all_maxima : (types : List LocalType) (ts : List Transition) (k : ℕ) (maxima : List ℤ) (latest : ℤ) → k ≡ length ts
-    → AreMaximaOf types ts k maxima latest → AreMaxima types ts maxima
-all_maxima _ ts k _ _ e made = record {
-  count = made.count ∙ e;
-  reached = λ i d l h fits. made.reached i d l (omega arith) fits;
-}
 
 -- ---- the count of looks

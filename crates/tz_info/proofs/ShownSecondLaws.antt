@@ -122,11 +122,3 @@ pub first_rises : (z : Zone) (local later u v : ℤ) (s t : LocalType) → local
     → IsFirstAtOrAfter (TypeAt z) later v t → u ≤ℤ v
 first_rises z _ _ u v s t rise h k = let reached = k.shown.reached in
     h.first v t (record { fits = k.shown.fits; type = k.shown.type; reached = omega linear })
-
-pub first_is_within : (z : Zone) (from until u : ℤ) (t : LocalType) → IsFirstAtOrAfter (TypeAt z) from u t → (u +ℤ t.offset) <ℤ until
-    → IsFirstWithin (TypeAt z) from until u t
-first_is_within z _ _ u t h before = grind arith
-
-pub none_within : (z : Zone) (from until u v : ℤ) (s t : LocalType) → from ≤ℤ until → IsNeverWithin (TypeAt z) from until → IsFirstAtOrAfter (TypeAt z) from u s
-    → IsFirstAtOrAfter (TypeAt z) until v t → u ≡ v
-none_within z _ _ u v s t ordered never h k = grind linear
