@@ -1,7 +1,7 @@
 -- If all moments keep away from the ends of their years, the changes of a year come at its own two moments.
 use Rattle.tz_info.proofs.{
   ChangeSearch.{IsAsked, asked, nearest_either, nearest_moved},
-  ChangingYears.{calm_margin, calm_type, differ_by, none_calm, steady_alike},
+  ChangingYears.{calm_margin, calm_type, differ_by, none_calm},
   KindLaws.{IsMargin},
   Neighbours.{second_high, second_low},
   RuleChanges.{rule_second, same_or_not},

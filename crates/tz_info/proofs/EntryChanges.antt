@@ -1,15 +1,14 @@
 -- What a zone's entries say of it: the types in force, the clock changes, and the spans between them.
-use Rattle.tz_base.specs.declared.error.{Error.TheVariants.{FindLocalTimeType}, Expected.TheVariants.{YearThatRuleAnswersIn}}
 use Rattle.tz_info.proofs.{
   LeapOrder.{leap_times_answer},
   Prefixes.{last_taken},
   SegmentLaws.{begin_next, come_at_time, come_by_time, index_next, not_later, place_before, place_begin, place_most, segment_most, split_at, split_count},
   TableSearch.{search_found},
-  Words.{AreLeapSeconds, AreRising, Change, Counts, Err, Error, HasNoChange, HasType, IsBeforeLast, IsChange, IsFirst, IsFirstChange, IsFromLast, IsInTable},
-  Words.{IsLast, IsLastChange, IsLastOf, IsLeapTime, IsNear, IsRefusedBy, IsSpanAt, IsTrue, IsValid, LeapSecond, List, LocalType, MatchOption, MatchResult},
-  Words.{None, Ok, Option, Result, RoseWithin, RuleOrElse, RuleOrType, SFits, Some, Transition, TransitionRule, TypeAt, TypeAtLeapTime, Zone, [], ap, arith},
+  Words.{AreLeapSeconds, AreRising, Change, Counts, HasNoChange, HasType, IsBeforeLast, IsChange, IsFirst, IsFirstChange, IsInTable},
+  Words.{IsLast, IsLastChange, IsLastOf, IsLeapTime, IsNear, IsSpanAt, IsTrue, IsValid, LeapSecond, List, LocalType, MatchOption},
+  Words.{None, Option, RoseWithin, SFits, Some, Transition, TypeAt, Zone, ap, arith},
   Words.{begin_of, by_lt_z, cases_lt, correction_at, digits, digits-more, false, get_or, index_of, inl, inr, leap_time_at, least_time, length, length-take},
-  Words.{linear, passed, pos, refl, segment_of, slice_get, suc, sym, take, true, w64, zero, ℕ, ℤ, ◌+ℤ◌, ◌+◌, ◌-ℤ◌, ◌-◌, ◌<ℤ◌, ◌<◌, ◌==◌, ◌↔◌, ◌∙◌, ◌∷◌, ◌≡◌},
+  Words.{linear, passed, pos, refl, segment_of, slice_get, suc, sym, take, w64, zero, ℕ, ℤ, ◌+ℤ◌, ◌+◌, ◌-ℤ◌, ◌-◌, ◌<ℤ◌, ◌<◌, ◌==◌, ◌↔◌, ◌∙◌, ◌≡◌},
   Words.{◌≤ℤ◌, ◌≤◌},
   ZoneChanges.{out_before, out_from, refused_on, time_of},
   ZoneLaws.{before_or_from_last, inside_listed, last_index_below, leap_time_decided},

@@ -100,7 +100,8 @@ pub parted : (es : List LeapSecond) (x : ℤ) → AreLeapSeconds es → IsPartit
 parted es x valid i j d h l t = let r = times_rise es d valid i j h l in grind arith
 
 -- the first n entries have come by x if the last of them has and the next one hasn't
-pub come_here : (es : List LeapSecond) (x : ℤ) (n : ℕ) → AreLeapSeconds es → n ≤ length es → ((d : LeapSecond) → 0 < n → (get_or es (n - 1) d).unix_leap_time ≤ℤ x)
+pub come_here : (es : List LeapSecond) (x : ℤ) (n : ℕ) → AreLeapSeconds es → n ≤ length es
+    → ((d : LeapSecond) → 0 < n → (get_or es (n - 1) d).unix_leap_time ≤ℤ x)
     → ((d : LeapSecond) → n < length es → x <ℤ (get_or es n d).unix_leap_time) → HaveCome es x n
 come_here es x n valid within since until = record {
   within = within;

@@ -9,7 +9,7 @@ use Rattle.tz_info.proofs.{
 }
 use Rattle.tz_info.specs.declared.rule.transition_rule.TransitionRule.TheVariants.{Alternate}
 
--- a change that is one that keeps the offset is none of the offset
+-- a change that keeps the offset is no change of the offset
 kept_one : (z : Zone) (c d : Change) → IsOffsetChange (TypeAt z) d → IsChange (TypeAt z) c → d.at ≡ c.at → c.before.offset ≡ c.after.offset → ⊥
 kept_one z c d h is same kept =
     let one = one_change z d c h.is is same in

@@ -5,7 +5,7 @@ use Rattle.tz_info.proofs.{
   FooterLaws.{spelled_law},
   TextLaws.{text_low},
   TrimLaws.{fits_behind, front_counted, trim_again, trim_is, trims_both},
-  Words.{Bool, Decided, Err, Error, IfErr, IfOk, IsPosixFault, IsPosixZone, IsTextFault, IsTrimAscii, IsTrimAsciiStart, IsTzText, List, MatchResult, None, Ok},
+  Words.{Bool, Decided, Err, Error, IfErr, IsPosixFault, IsPosixZone, IsTextFault, IsTrimAscii, IsTrimAsciiStart, IsTzText, List, MatchResult, None, Ok},
   Words.{Option, Result, Some, TransitionRule, Zone, [], ap, apart, arith, done, error_number, false, fault_low, fault_once, inl, inr, length, like, made},
   Words.{nil_from_length, option_map, plain_zone, pos, posix_zone, refl, rule_in, subst, sym, trimmed, true, value_once, ℕ, ◌+◌, ◌-◌, ◌==◌, ◌>>=◌, ◌∙◌, ◌∷◌},
   Words.{◌≡◌, ◌≢◌, ◌≤◌},

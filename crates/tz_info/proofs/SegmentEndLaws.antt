@@ -5,12 +5,12 @@ use Rattle.tz_info.proofs.{
   LeapStarts.{saturated},
   SegmentLaws.{begin_first, begins_rise, come_from, place_most, places_rise},
   WallSegments.{near_of, type_there},
-  Words.{AreRising, IsFirstAtOrAfter, IsNear, IsRuleOrNone, IsTable, IsTrue, IsUtOffset, IsValid, IsWide, IsWindowOf, List, LocalType, SFits, Some, Transition},
-  Words.{TypeAt, Zone, [], ap, arith, begin_of, by_lt_z, cases_lt, get_or, get_or_append_left, get_or_push, index_of, inl, inr, int_lt, least_time, length},
-  Words.{length_push, linear, lt_is, lt_true, place_at, pos, rises, saturate_signed, slice_get, suc, w64, zero, ℕ, ℤ, ◌++◌, ◌+ℤ◌, ◌-ℤ◌, ◌-◌, ◌<ℤ◌, ◌<◌, ◌↔◌},
+  Words.{AreRising, IsFirstAtOrAfter, IsNear, IsRuleOrNone, IsTable, IsUtOffset, IsValid, IsWide, IsWindowOf, List, LocalType, SFits, Some, Transition},
+  Words.{TypeAt, Zone, [], ap, arith, begin_of, by_lt_z, cases_lt, get_or, get_or_append_left, get_or_push, index_of, inl, inr, least_time, length},
+  Words.{length_push, linear, place_at, pos, rises, saturate_signed, slice_get, suc, w64, zero, ℕ, ℤ, ◌++◌, ◌+ℤ◌, ◌-ℤ◌, ◌<ℤ◌, ◌<◌, ◌↔◌},
   Words.{◌∙◌, ◌∷◌, ◌≡◌, ◌≤ℤ◌, ◌≤◌, ◌⊎◌},
 }
-use Rattle.tz_info.specs.Steps.SegmentEnds.{AreEndsRising, AreMaxima, IsFirstOf, IsFirstSegment, IsReached, end_of}
+use Rattle.tz_info.specs.Steps.SegmentEnds.{AreEndsRising, IsFirstOf, IsFirstSegment, IsReached, end_of}
 
 -- ---- ends
 pub near_wide : (l : ℤ) → IsWide l → IsNear l

@@ -50,7 +50,9 @@ pub(crate) fn answer_of_two<'a>(
 
 // The types themselves.
 #[inline(always)]
-pub(crate) fn copied(answer: MappedLocalTime<&LocalTimeType>) -> MappedLocalTime<LocalTimeType>
+pub(crate) fn types_copied(
+    answer: MappedLocalTime<&LocalTimeType>,
+) -> MappedLocalTime<LocalTimeType>
     ensures { result ≡ map_of (λ r. r.now) answer.entry }
 {
     match answer {

@@ -117,7 +117,7 @@ pub(crate) fn change_between<'a>(
 }
 
 // The changes with the types themselves.
-pub(crate) fn copied(change: Option<HeldChange<'_>>) -> Option<Change>
+pub(crate) fn change_copied(change: Option<HeldChange<'_>>) -> Option<Change>
     ensures { result ≡ option_map change_held change.entry }
 {
     Some(change?.copied())

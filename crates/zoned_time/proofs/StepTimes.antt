@@ -45,7 +45,7 @@ first_whole_second h none = record {
 first_is_whole : {off : ℤ → ℤ} {l r : Reading} → IsFirstInstantFrom off l r → l.f ≡ 0 → r.f ≡ 0
 first_is_whole h none = let same = one_first h (first_whole none (first_whole_second h none)) in grind arith
 
--- a day from a to b, where its midnight and the next one come
+-- a day from its midnight at a to the next one at b
 module _ {off : ℤ → ℤ} (day : ℤ) {a : Reading} (starts : IsFirstInstantFrom off (midnight day) a) where
   day_fires : IsFire off (BeginsStep Day) a.s
   day_fires = record {

@@ -5,11 +5,11 @@ use Rattle.naive_base.specs.Range.{IsWide}
 use Rattle.offset_core.specs.declared.local_result.LocalResult.{LocalResult, TheVariants.{None, Single, Ambiguous}}
 use Rattle.tz_base.specs.{LocalTypes.{LocalType, IsUtOffset}, declared.change.Change.{Change}}
 use Rattle.tz_info.specs.{Steps.{Segments.{begin_of, index_of}, WallPieces.{AreInOrder, IsShownAmong, answer_at}}, Zones.{Zone}}
-use Rattle.tz_info.specs.declared.zone.made.{segments.{Segment.{Segment}, Lists.{Lists}}, pieces.Piece.{Piece}, shown.Shown.{Shown}}
+use Rattle.tz_info.specs.declared.zone.made.{segments.{Segment.{Segment}, ZoneLists.{ZoneLists}}, pieces.Piece.{Piece}, shown.Shown.{Shown}}
 use Rattle.tz_info.specs.declared.zone.{made.shown.Shown.TheVariants.{Skipped, Once, Several}, lists.transition.Transition.{Transition}}
 
 -- the zone of lists that are lent
-abbrev pub zone_in : Lists → Zone
+abbrev pub zone_in : ZoneLists → Zone
 zone_in l = record { transitions = l.transitions.now; types = l.types.now; leaps = l.leaps.now; rule = l.rule.now }
 
 -- the answer's indexes are less than n

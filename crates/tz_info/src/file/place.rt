@@ -33,7 +33,7 @@ pub fn place_of_fault(bytes: &[u8]) -> usize
     ensures { IsFilePlace bytes.now result }
 {
     match read_pieces(bytes) {
-        Ok(pieces) => place_in_contents(&pieces, part_places(bytes, &pieces)),
+        Ok(pieces) => place_in_contents(&pieces, places_of_parts(bytes, &pieces)),
         Err(_) => place_in_pieces(bytes),
     }
 }
@@ -46,7 +46,7 @@ fn place_in_pieces(bytes: &[u8]) -> usize
 
 // The parts follow one another, and the footer ends the file.
 #[tactic(auto, using(crate::proofs::FilePlaceLaws::fit))]
-fn part_places(bytes: &[u8], pieces: &Pieces<'_>) -> PartPlaces
+fn places_of_parts(bytes: &[u8], pieces: &Pieces<'_>) -> PartPlaces
     requires { HasPieces bytes.now (pieces_of pieces.now) }
     ensures places { ArePartPlaces (pieces_of pieces.now) result }
     ensures end { result.end ≡ length bytes.now }

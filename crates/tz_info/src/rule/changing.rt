@@ -102,13 +102,7 @@ fn kind_of_key(key: usize) -> usize
 }
 
 // Whether clocks change in the year, which is of that kind, if the types differ.
-fn is_changing(
-    starts: &[i64; 14],
-    ends: &[i64; 14],
-    calm: bool,
-    year: i32,
-    kind: usize,
-) -> bool
+fn is_changing(starts: &[i64; 14], ends: &[i64; 14], calm: bool, year: i32, kind: usize) -> bool
     requires starts { AreWithinYears starts.now }
     requires ends { AreWithinYears ends.now }
     requires year { (pos 2000 ≤ℤ year) × (year ≤ℤ pos 2299) }

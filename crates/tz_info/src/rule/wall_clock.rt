@@ -9,7 +9,7 @@ ghost use Rattle.tz_info.specs.{Rules.{IsAlternateRule}, RuleTypes.{RuleAt}, Wal
 ghost use Rattle.tz_info.specs.Steps.{Gaps.{IsNeverFrom, IsRuleGap}, Seasons.{IsSeasonFor, IsSeasonOf}};
 ghost use Rattle.tz_info.specs.Steps.RuleSeconds.{AreUtOffsets, IsAskedFrom, IsAskedSince, TypeFrom};
 
-use crate::answers::{answer_of_two, copied, joined, second_showing};
+use crate::answers::{answer_of_two, joined, second_showing, types_copied};
 use crate::change::HeldChange;
 use crate::rule::moments::Moment;
 use crate::rule::{AlternateTime, Season, TransitionRule};
@@ -36,7 +36,7 @@ impl TransitionRule {
         ensures { IsOkAnd result (IsWallAnswer (Shows (RuleAt self.now) (reading local).s)) }
     {
         let local = local.secs_since_epoch();
-        Ok(copied(self.answer_from(i64::MIN, local, &mut Probes::new()).1))
+        Ok(types_copied(self.answer_from(i64::MIN, local, &mut Probes::new()).1))
     }
 
     // The types in force at the seconds from that one on at which a clock by this rule shows the

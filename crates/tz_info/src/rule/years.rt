@@ -74,8 +74,8 @@ impl AlternateTime {
         if self.never_changes() {
             return None;
         }
-        let after = later_of(stretch.after, first_second(year));
-        let last = earlier_of(stretch.last, first_second(year + 1));
+        let after = later_of(stretch.after, first_second_of(year));
+        let last = earlier_of(stretch.last, first_second_of(year + 1));
         let moments = self.moments_near(year);
         self.nearest_of(&moments, Stretch { after, last }, forward)
     }
@@ -123,7 +123,7 @@ impl AlternateTime {
             here.end,
             after.start,
             after.end,
-            first_second(year + 1),
+            first_second_of(year + 1),
         ]
     }
 
@@ -186,7 +186,7 @@ pub(super) fn stretch_ahead(begin: i64, second: i64, forward: bool) -> Stretch
     }
 }
 
-fn first_second(year: i32) -> i64
+fn first_second_of(year: i32) -> i64
     ensures { result ≡ new_year year }
 {
     86_400 * year_start(year)

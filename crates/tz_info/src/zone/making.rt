@@ -19,7 +19,7 @@ use crate::zone::made::change_table::ChangeTable;
 use crate::zone::made::extremes::extremes_of;
 use crate::zone::made::index::Index;
 use crate::zone::made::last_span::LastSpan;
-use crate::zone::made::segments::Lists;
+use crate::zone::made::segments::ZoneLists;
 use crate::zone::time_zone::TimeZone;
 use std::alloc::Global;
 use tz_base::{Error, Expected, LocalTimeType};
@@ -88,7 +88,7 @@ impl TimeZone {
             return Ok(TimeZone::without_transitions(types, leaps, rule));
         }
         let list = ChangeList::new(alloc, transitions, &types, &leaps, &rule)?;
-        let lists = Lists {
+        let lists = ZoneLists {
             transitions: list.transitions(),
             types: &types,
             leaps: &leaps,
@@ -166,7 +166,7 @@ impl TimeZone {
     {
         let alloc = *types.allocator();
         let list = ChangeList::none(alloc);
-        let lists = Lists {
+        let lists = ZoneLists {
             transitions: list.transitions(),
             types: &types,
             leaps: &leaps,

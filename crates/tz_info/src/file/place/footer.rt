@@ -52,7 +52,7 @@ fn fault_in_text(extended: bool, text: &[u8]) -> Option<usize>
     if byte_or_zero(text, 0) == b':' {
         return Some(0);
     }
-    if let Some(place) = first_zero(text) {
+    if let Some(place) = find_zero(text) {
         return Some(place);
     }
     if text.is_empty() {
@@ -64,7 +64,7 @@ fn fault_in_text(extended: bool, text: &[u8]) -> Option<usize>
     }
 }
 
-fn first_zero(text: &[u8]) -> Option<usize>
+fn find_zero(text: &[u8]) -> Option<usize>
     ensures { MatchOption result
         (HoldsOfNone (λ i. slice_index text.now i ≡ 0) (length text.now))
         (IsFirstBelow (λ i. slice_index text.now i ≡ 0) (length text.now)) }

@@ -8,7 +8,7 @@ ghost use Rattle.tz_info.specs.{Changes.{HasNoChange, IsChange, IsFirst, IsLast,
 ghost use Rattle.tz_info.specs.Rules.{Alternate as AlternateRule};
 ghost use Rattle.tz_info.specs.{Steps.Changes.{IsAhead, IsBegin, IsChangeByRule, IsInTable}, Zones.{HasType, TypeAt}};
 
-use crate::change::{HeldChange, change_between, copied, held};
+use crate::change::{HeldChange, change_between, change_copied, held};
 use crate::rule::{AlternateTime, TransitionRule};
 use crate::timeline::Probes;
 use crate::zone::TimeZone;
@@ -30,7 +30,7 @@ impl TimeZone {
     pub fn next_change(&self, after: i64) -> Option<Change>
         ensures { IsFirst (TypeAt self.now) (λ u. after <ℤ u) result }
     {
-        copied(self.next_held_change(after))
+        change_copied(self.next_held_change(after))
     }
 
     /// As [`TimeZone::next_change`], with references to the zone's types.
@@ -100,7 +100,7 @@ impl TimeZone {
     pub fn previous_change(&self, before_or_at: i64) -> Option<Change>
         ensures { IsLast (TypeAt self.now) (λ u. u ≤ℤ before_or_at) result }
     {
-        copied(self.previous_held_change(before_or_at))
+        change_copied(self.previous_held_change(before_or_at))
     }
 
     /// As [`TimeZone::previous_change`], with references to the zone's types.

@@ -65,7 +65,7 @@ impl<'a> Spans<'a> {
         ensures { IsPreviousSpan self.old result self.new }
     {
         let span = self.span_of(self.at - 1)?;
-        self.at = begin_of(span);
+        self.at = span_begin(span);
         self.near = self.near.wrapping_sub(1);
         Some(span.copied())
     }
@@ -94,7 +94,7 @@ impl<'a> Iterator for Spans<'a> {
 
     fn next(&mut self) -> Option<Span> {
         let span = self.span_of(self.at)?;
-        self.at = end_of(span);
+        self.at = span_end(span);
         self.near = self.near.wrapping_add(1);
         Some(span.copied())
     }
@@ -103,7 +103,7 @@ impl<'a> Iterator for Spans<'a> {
 impl<'a> FusedIterator for Spans<'a> {}
 
 // The span's first second.
-fn begin_of(span: HeldSpan<'_>) -> i128
+fn span_begin(span: HeldSpan<'_>) -> i128
     ensures begin { result ≡ begin_of (span_held span.entry) }
     ensures place { IsPlace result }
 {
@@ -114,7 +114,7 @@ fn begin_of(span: HeldSpan<'_>) -> i128
 }
 
 // The second after its last one.
-fn end_of(span: HeldSpan<'_>) -> i128
+fn span_end(span: HeldSpan<'_>) -> i128
     ensures end { result ≡ end_of (span_held span.entry) }
     ensures place { IsPlace result }
 {

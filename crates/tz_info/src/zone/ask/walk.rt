@@ -8,7 +8,7 @@ ghost use Rattle.tz_info.specs.{Counts.{HasRoom, HasRoomFor, RoseWithin}, Steps.
 ghost use Rattle.tz_info.specs.{Looks.{RoseByWalk}, WallClocks.{Shows}, Zones.{TypeAt}};
 ghost use Rattle.tz_info.specs.{Questions.{IsAskedFor}, Steps.Walk.{IsCandidate, IsShownIn, IsTimeWithin, IsTried}};
 
-use crate::answers::{copied, joined, second_showing};
+use crate::answers::{joined, second_showing, types_copied};
 use crate::timeline::Probes;
 use crate::zone::{TimeZone, Transition};
 use naive_base::NaiveDateTime;
@@ -38,7 +38,7 @@ impl TimeZone {
         ensures questions { IsAskedFor self.now (reading local).s
             probes.old.rule_questions probes.new.rule_questions }
     {
-        Ok(copied(self.walked_answer(local.secs_since_epoch(), probes)))
+        Ok(types_copied(self.walked_answer(local.secs_since_epoch(), probes)))
     }
 
     // One search for the transitions near the local time, and a walk through those, segment by

@@ -8,7 +8,7 @@ ghost use Rattle.tz_info.specs.{Digits.{digits}, WallClocks.{Shows}, Zones.{Type
 ghost use Rattle.tz_info.specs.{Looks.{RoseByWallClock}, Questions.{IsAskedFor}, Steps.Walk.{IsShownIn}};
 ghost use Rattle.tz_info.specs.Steps.{Pieces.{AreBelow, AreListed}, WallPieces.{shown_indexes, IsTableAnswer}};
 
-use crate::answers::{copied, joined};
+use crate::answers::{joined, types_copied};
 use crate::rule::{Season, TransitionRule};
 use crate::timeline::Probes;
 use crate::zone::made::shown::Shown;
@@ -36,7 +36,7 @@ impl TimeZone {
     ) -> Result<MappedLocalTime<LocalTimeType>, Error>
         ensures { IsOkAnd result (IsWallAnswer (Shows (TypeAt self.now) (reading local).s)) }
     {
-        Ok(copied(self.local_time_types_at(local)))
+        Ok(types_copied(self.local_time_types_at(local)))
     }
 
     /// As [`TimeZone::find_local_time_type_from_local`], with references to the zone's types.
@@ -81,7 +81,7 @@ impl TimeZone {
         ensures questions { IsAskedFor self.now (reading local).s
             probes.old.rule_questions probes.new.rule_questions }
     {
-        Ok(copied(self.wall_answer_of(local.secs_since_epoch(), probes)))
+        Ok(types_copied(self.wall_answer_of(local.secs_since_epoch(), probes)))
     }
 
     // The answer of all seconds, by one search in the pieces.
@@ -131,7 +131,7 @@ impl TimeZone {
         ensures counted { IsAskedFor self.now local
             probes.old.rule_questions probes.new.rule_questions }
     {
-        let table = types_of(&self.local_types, shown);
+        let table = types_shown(&self.local_types, shown);
         match &self.last_rule {
             None => (None, table),
             Some(rule) => self.try_rule(rule, local, table, probes),
@@ -168,7 +168,7 @@ impl TimeZone {
 
 // The types of the indexes.
 #[inline(always)]
-fn types_of(types: &[LocalTimeType], shown: Shown) -> MappedLocalTime<&LocalTimeType>
+fn types_shown(types: &[LocalTimeType], shown: Shown) -> MappedLocalTime<&LocalTimeType>
     requires { AreBelow (length types.now) (shown_indexes shown) }
     ensures { AreListed types.now (shown_indexes shown) (map_of (λ r. r.now) result) }
 {

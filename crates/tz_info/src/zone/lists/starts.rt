@@ -9,11 +9,7 @@ use crate::zone::lists::leap_time::correction_after;
 
 // The first second at which the leap time has come: also one that 64 bits don't hold. It is found without
 // a search if `near` entries have come by then. Then as many as have come are near.
-pub(in crate::zone) fn first_second(
-    leaps: &[LeapSecond],
-    leap_time: i64,
-    near: &mut usize,
-) -> i128
+pub(in crate::zone) fn first_second(leaps: &[LeapSecond], leap_time: i64, near: &mut usize) -> i128
     requires { AreLeapSeconds leaps.now }
     ensures reached { (u y : ℤ) → IsLeapTime leaps.now u y → (leap_time ≤ℤ y) ↔ (result ≤ℤ u) }
     ensures bound { neg_ℤ (pos 9_223_372_036_854_775_808) ≤ℤ result }
@@ -24,10 +20,10 @@ pub(in crate::zone) fn first_second(
     }
     let passed = leaps[come - 1].unix_leap_time as i128 - correction_after(leaps, come - 1) as i128;
     let led_back = leap_time as i128 - correction_after(leaps, come) as i128;
-    later(passed, led_back)
+    later_second(passed, led_back)
 }
 
-fn later(a: i128, b: i128) -> i128
+fn later_second(a: i128, b: i128) -> i128
     ensures { (u : ℤ) → (result ≤ℤ u) ↔ ((a ≤ℤ u) × (b ≤ℤ u)) }
 {
     if a < b { b } else { a }

@@ -11,7 +11,7 @@ use crate::timeline::Timed;
 use crate::zone::lists::kept::Kept;
 use crate::zone::lists::leap_seconds::LeapSeconds;
 use crate::zone::lists::starts::first_second;
-use crate::zone::made::segments::Lists;
+use crate::zone::made::segments::ZoneLists;
 use std::alloc::{AllocError, Global};
 use std::marker::Model;
 use tz_base::{Error, LocalTimeType};
@@ -62,7 +62,7 @@ impl ChangeList {
           rule = rule.now;
         }) t) (λ e. e ≡ Error.OutOfMemory) }
     {
-        let lists = Lists {
+        let lists = ZoneLists {
             transitions: &transitions,
             types,
             leaps,
@@ -144,7 +144,7 @@ impl ChangeList {
 // Whether the transitions are the entries: there is no leap second, and each transition but the last
 // changes the type. It is not inlined, so that its loop has the registers.
 #[inline(never)]
-fn are_entries(lists: Lists) -> bool
+fn are_entries(lists: ZoneLists) -> bool
     requires { IsValid (zone_in lists) }
     ensures { IsTrue result → AreEntries (zone_in lists.entry) (record {
       items = lists.entry.transitions.now;
@@ -167,7 +167,7 @@ fn are_entries(lists: Lists) -> bool
 }
 
 // The entries of the zone of those lists, and how many of them have come once all transitions have.
-fn entries_of(alloc: Global, lists: Lists) -> Result<(Vec<Kept>, usize), AllocError>
+fn entries_of(alloc: Global, lists: ZoneLists) -> Result<(Vec<Kept>, usize), AllocError>
     requires { IsValid (zone_in lists) }
     ensures { MatchResult result (λ made. AreEntries (zone_in lists.entry) (record {
       items = made.0.items;

@@ -10,7 +10,7 @@ use crate::zone::made::change_list::ChangeList;
 use crate::zone::made::one_pass::pieces_in_one_pass;
 use crate::zone::made::pieces::Piece;
 use crate::zone::made::segment_ends::maxima_of;
-use crate::zone::made::segments::{Lists, Pieces, pieces_of, segment_at};
+use crate::zone::made::segments::{SegmentPieces, ZoneLists, pieces_of, segment_at};
 use crate::zone::made::shown::Shown;
 use std::alloc::Global;
 use std::marker::Model;
@@ -71,7 +71,7 @@ impl Index {
     // The index of the zone of those lists and of those entries.
     pub(in crate::zone) fn new(
         alloc: Global,
-        lists: Lists,
+        lists: ZoneLists,
         changes: &ChangeList,
     ) -> Result<Index, Error>
         requires valid { IsValid (zone_in lists) }
@@ -96,9 +96,9 @@ impl Index {
     #[tactic(auto, using(crate::proofs::WallPieces::starts_in_order))]
     fn of_pieces(
         alloc: Global,
-        lists: Lists,
+        lists: ZoneLists,
         changes: &ChangeList,
-        all: Pieces,
+        all: SegmentPieces,
         maxima: Vec<i64>,
     ) -> Result<Index, Error>
         requires list { AreEntries (zone_in lists) changes.now }
@@ -120,7 +120,7 @@ impl Index {
     // The index of a zone without entries, which takes no memory.
     pub(in crate::zone) fn without_pieces(
         alloc: Global,
-        lists: Lists,
+        lists: ZoneLists,
         changes: &ChangeList,
     ) -> Index
         requires valid { IsValid (zone_in lists) }

@@ -7,7 +7,7 @@ ghost use Rattle.tz_info.specs.Steps.{SegmentEnds.{AreEndsRising}, WallPieces.{I
 
 use crate::zone::lists::kept::Kept;
 use crate::zone::made::pieces::Piece;
-use crate::zone::made::segments::{Lists, Pieces, Segment, cut_of, segment_at};
+use crate::zone::made::segments::{Segment, SegmentPieces, ZoneLists, cut_of, segment_at};
 use crate::zone::made::shown::{Shown, must_be_packed};
 use std::alloc::Global;
 use tz_base::Error;
@@ -17,10 +17,10 @@ use tz_base::Error;
 #[inline(never)]
 pub(super) fn pieces_in_one_pass(
     alloc: Global,
-    lists: Lists,
+    lists: ZoneLists,
     entries: &[Kept],
     count: usize,
-) -> Result<Option<Pieces>, Error>
+) -> Result<Option<SegmentPieces>, Error>
     requires table { IsTable (zone_in lists) entries.now count }
     requires some { 0 < length entries.now }
     requires count { length entries.now ≤ count }
@@ -54,7 +54,7 @@ pub(super) fn pieces_in_one_pass(
         let piece = Piece::small(end, Shown::Less);
         pieces.push_reserved(piece);
     }
-    Ok(Some(Pieces {
+    Ok(Some(SegmentPieces {
         before: Shown::Once(segment_at(lists.types, entries, 0).index),
         pieces,
     }))
@@ -73,7 +73,7 @@ fn is_crossed(place: usize, latest: i64, cut: i64) -> bool
 // shows the local time, in a fold both do.
 #[inline(always)]
 fn pieces_at(
-    lists: Lists,
+    lists: ZoneLists,
     entries: &[Kept],
     place: usize,
     before: Segment,

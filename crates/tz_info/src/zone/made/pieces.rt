@@ -89,7 +89,7 @@ fn next_start(first: &[Piece], i: usize, last: &[Piece], j: usize) -> (i64, usiz
     requires some { i + j < length first.now + length last.now }
     ensures { IsStep first.now i last.now j result.0 result.1 result.2 }
 {
-    if is_next(first, i, last, j) {
+    if first_is_next(first, i, last, j) {
         (first[i].start, i + 1, j)
     } else {
         (last[j].start, i, j + 1)
@@ -98,7 +98,7 @@ fn next_start(first: &[Piece], i: usize, last: &[Piece], j: usize) -> (i64, usiz
 
 // Whether the piece at place `i` of the first is the next one, and not that at place `j` of the
 // last.
-fn is_next(first: &[Piece], i: usize, last: &[Piece], j: usize) -> bool
+fn first_is_next(first: &[Piece], i: usize, last: &[Piece], j: usize) -> bool
     requires i { i ≤ length first.now }
     requires j { j ≤ length last.now }
     requires some { i + j < length first.now + length last.now }

@@ -16,7 +16,7 @@ use tz_base::{Error, LocalTimeType};
 
 // The lists of a zone, lent.
 #[derive(Clone, Copy)]
-pub(in crate::zone) struct Lists<'a> {
+pub(in crate::zone) struct ZoneLists<'a> {
     pub(in crate::zone) transitions: &'a [Kept],
     pub(in crate::zone) types: &'a [LocalTimeType],
     pub(in crate::zone) leaps: &'a LeapSeconds,
@@ -71,7 +71,7 @@ pub(super) fn cut_of(entries: &[Kept], place: usize, offset: i64) -> i64
 
 // The pieces of some neighbouring segments, and what a clock shows before the first.
 #[derive(Debug, Drop)]
-pub(in crate::zone) struct Pieces {
+pub(in crate::zone) struct SegmentPieces {
     pub(in crate::zone) before: Shown,
     pub(super) pieces: Vec<Piece>,
 }
@@ -80,10 +80,10 @@ pub(in crate::zone) struct Pieces {
 // last no end.
 fn pieces_of_one(
     alloc: Global,
-    lists: Lists,
+    lists: ZoneLists,
     entries: &[Kept],
     place: usize,
-) -> Result<Pieces, Error>
+) -> Result<SegmentPieces, Error>
     requires table { IsTable (zone_in lists) entries.now (place + 1) }
     requires some { 0 < length entries.now }
     ensures { MatchResult result
@@ -94,7 +94,7 @@ fn pieces_of_one(
     if place == 0 {
         let end = Piece::new(cut_of(entries, 1, segment.offset), Shown::Less)?;
         let pieces = vec![in alloc; end]?;
-        return Ok(Pieces {
+        return Ok(SegmentPieces {
             before: Shown::Once(segment.index),
             pieces,
         });
@@ -106,21 +106,21 @@ fn pieces_of_one(
     let before = Shown::Skipped(place);
     if place == entries.len() {
         let pieces = vec![in alloc; start]?;
-        return Ok(Pieces { before, pieces });
+        return Ok(SegmentPieces { before, pieces });
     }
     let end = Piece::new(cut_of(entries, place + 1, segment.offset), Shown::Less)?;
     let pieces = vec![in alloc; start, end]?;
-    Ok(Pieces { before, pieces })
+    Ok(SegmentPieces { before, pieces })
 }
 
 // The pieces of the segments from `low` on and before `high`: those of two halves, merged.
 pub(super) fn pieces_of(
     alloc: Global,
-    lists: Lists,
+    lists: ZoneLists,
     entries: &[Kept],
     low: usize,
     high: usize,
-) -> Result<Pieces, Error>
+) -> Result<SegmentPieces, Error>
     requires table { IsTable (zone_in lists) entries.now high }
     requires some { 0 < length entries.now }
     requires order { low < high }
@@ -141,7 +141,7 @@ pub(super) fn pieces_of(
         &last.before,
         &last.pieces,
     )?;
-    Ok(Pieces {
+    Ok(SegmentPieces {
         before: together(first.before, last.before),
         pieces,
     })

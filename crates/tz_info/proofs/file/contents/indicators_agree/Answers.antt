@@ -1,4 +1,4 @@
-use Rattle.tz_info.proofs.{ListLaws.one_false, Words.{pair_agrees, sym}}
+use Rattle.tz_info.proofs.{ListLaws.one_false, Words.{sym}}
 use Rattle.tz_info.proofs.file.contents.indicators_agree.Goals as goal
 
 pub returns-then-not-pair_agrees : goal.returns-then-not-pair_agrees

@@ -1,4 +1,4 @@
-use Rattle.tz_info.proofs.{SearchSteps.{near_earlier, near_later, time_read}, SearchWords.{arith, length-map, linear, refl, ◌+◌, ◌-◌, ◌/◌}}
+use Rattle.tz_info.proofs.{SearchSteps.{near_earlier, near_later, time_read}, SearchWords.{arith, length-map, linear, refl, ◌+◌, ◌/◌}}
 use Rattle.tz_info.proofs.timeline.Timeline.narrowed.Goals as goal
 use Rattle.tz_info.proofs.timeline.Timeline.narrowed.Goals.{else-second, then-second}
 

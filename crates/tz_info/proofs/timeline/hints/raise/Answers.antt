@@ -1,4 +1,4 @@
-use Rattle.tz_info.proofs.{HintLaws.{raising_more}, SearchWords.{arith}}
+use Rattle.tz_info.proofs.{HintLaws.{raising_more}}
 use Rattle.tz_info.proofs.timeline.hints.raise.Goals.{else-numbers-i-ne0, then-numbers-i-ne0}
 use Rattle.tz_info.proofs.timeline.hints.raise.Goals as goal
 

@@ -13,7 +13,7 @@ returns-clause-moments c =
     let f3 : SFits w64 c.turns-here.result.end = search rules in
     let f4 : SFits w64 c.turns-after.result.start = search rules in
     let f5 : SFits w64 c.turns-after.result.end = search rules in
-    let f6 = c.first_second.type_inv in
+    let f6 = c.first_second_of.type_inv in
     simp fits (rw (
       simp fits at c.turns-before.ensures.start,
       simp fits at c.turns-before.ensures.end,
@@ -22,5 +22,5 @@ returns-clause-moments c =
           c.turns-here.ensures.end,
       simp fits at c.turns-after.ensures.start,
       simp fits at c.turns-after.ensures.end,
-      simp fits at c.first_second.ensures,
+      simp fits at c.first_second_of.ensures,
     ) refl)

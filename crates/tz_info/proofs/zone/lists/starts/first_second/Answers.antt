@@ -2,7 +2,7 @@ use Rattle.tz_info.proofs.{
   LeapStarts.{both_ways, reached_first},
   Words.{HaveCome, LeapSecond, SFits, arith, get_or, linear, pos, rules, to_z-of_z, w128, w32, w64, ℤ, ◌-ℤ◌, ◌-◌, ◌↔◌, ◌≤ℤ◌},
   ZoneChanges.{entry_late, reached_exactly},
-  zone.lists.starts.first_second.Goals.{After-later},
+  zone.lists.starts.first_second.Goals.{After-later_second},
 }
 use Rattle.tz_info.proofs.zone.lists.starts.first_second.Goals as goal
 
@@ -17,8 +17,8 @@ returns-then-come-eq0-clause-reached c = λ u y l.
     simp to_z-of_z (reached_first _ _ u y c.requires no_entry l)
 
 -- the later one of the entry's own second and of the leap time led back
-latest : (c : goal.After-later) → SFits w128 c.later.result × HaveCome c.args.leaps.now c.args.leap_time c.entries_come-come.result
-    × ((u : ℤ) → (c.later.result ≤ℤ u)
+latest : (c : goal.After-later_second) → SFits w128 c.later_second.result × HaveCome c.args.leaps.now c.args.leap_time c.entries_come-come.result
+    × ((u : ℤ) → (c.later_second.result ≤ℤ u)
     ↔ ((((get_or c.args.leaps.now (c.entries_come-come.result - 1) none).unix_leap_time -ℤ c.correction_after.result) ≤ℤ u)
     × ((c.args.leap_time -ℤ c.correction_after-2.result) ≤ℤ u)))
 latest c =
@@ -32,14 +32,14 @@ latest c =
     let g2 : SFits w128 c.correction_after-2.result = omega arith in
     let g3 : SFits w128 ((get_or c.args.leaps.now (c.entries_come-come.result - 1) none).unix_leap_time -ℤ c.correction_after.result) = omega linear in
     let g4 : SFits w128 (c.args.leap_time -ℤ c.correction_after-2.result) = omega linear in
-    let fl : SFits w128 c.later.result = search rules in
-    (fl, simp to_z-of_z at c.entries_come-come.ensures, simp to_z-of_z at c.later.ensures)
+    let fl : SFits w128 c.later_second.result = search rules in
+    (fl, simp to_z-of_z at c.entries_come-come.ensures, simp to_z-of_z at c.later_second.ensures)
 
 pub returns : goal.returns
 returns c =
-    let (fl, come, is) = latest (goal.at.returns c).After-later in
+    let (fl, come, is) = latest (goal.at.returns c).After-later_second in
     let late = entry_late _ (c.entries_come-come.result - 1) none c.requires (omega arith) in
-    let least = ((is c.later.result).0 (omega linear)).0 in
+    let least = ((is c.later_second.result).0 (omega linear)).0 in
     simp to_z-of_z (record {
       reached = λ u y l. both_ways (reached_exactly _ _ u y _ _ _ _ c.requires come (omega arith)
           c.correction_after.ensures c.correction_after-2.ensures l) (is u);

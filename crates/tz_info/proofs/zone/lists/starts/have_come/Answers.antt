@@ -7,4 +7,4 @@ returns c =
     let within : c.args.count ≤ length c.args.leaps.now = omega arith in λ t.
     let (since, until) = and_parts c.is_since.result c.is_until.result t in
     come_here c.args.leaps.now c.args.leap_time c.args.count c.requires within (simp to_z-of_z at (c.is_since.ensures since))
-        (simp to_z-of_z at (c.is_until.ensures until))
+    (simp to_z-of_z at (c.is_until.ensures until))

@@ -37,7 +37,8 @@ returns-then-is_crossed c =
     let crossed = simp to_z-of_z at (c.is_crossed.ensures.crossed c.if-is_crossed.true) in
     crossed_by (zone_in c.args.lists) c.args.entries.now c.loop-place.place _ _ _ c.pieces_at-first.result.0.start (omega arith)
     crossed.0 c.loop-place.invariant.pieces
-    (cuts_of c.args.lists.types.now c.args.entries.now c.loop-place.place c.pieces_at-first.result.0 c.pieces_at-first.result.1 c.pieces_at-first.ensures).0 crossed.1
+    (cuts_of c.args.lists.types.now c.args.entries.now c.loop-place.place
+    c.pieces_at-first.result.0 c.pieces_at-first.result.1 c.pieces_at-first.ensures).0 crossed.1
 
 pub returns-then-is_crossed-2 : goal.returns-then-is_crossed-2
 returns-then-is_crossed-2 c =

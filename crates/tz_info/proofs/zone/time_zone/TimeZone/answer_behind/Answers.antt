@@ -2,8 +2,8 @@ use Rattle.tz_info.proofs.{Fits.fits, TableLaws.{table_below, table_typed}, Wall
 use Rattle.tz_info.proofs.Words.{ap, arith, ints, sym, to_z-of_z, ◌∙◌}
 use Rattle.tz_info.proofs.zone.time_zone.TimeZone.answer_behind.Goals as goal
 
-pub types_of-table-requires : goal.types_of-table-requires
-types_of-table-requires c = rw (c.deref.ensures.value, ap (λ z. z.types) c.self.view_is) (table_below _ _ _ c.requires.shown)
+pub types_shown-table-requires : goal.types_shown-table-requires
+types_shown-table-requires c = rw (c.deref.ensures.value, ap (λ z. z.types) c.self.view_is) (table_below _ _ _ c.requires.shown)
 
 pub returns-in-None-clause-found : goal.returns-in-None-clause-found
 returns-in-None-clause-found c = grind (arith, ints, to_z-of_z, table_alone, table_typed)
@@ -11,7 +11,7 @@ returns-in-None-clause-found c = grind (arith, ints, to_z-of_z, table_alone, tab
 pub try_rule-requires-clause-seen : goal.try_rule-requires-clause-seen
 try_rule-requires-clause-seen c =
     let fl = c.ranges.local in
-    let listed = rw (c.deref.ensures.value, ap (λ z. z.types) c.self.view_is) at c.types_of-table.ensures in
+    let listed = rw (c.deref.ensures.value, ap (λ z. z.types) c.self.view_is) at c.types_shown-table.ensures in
     simp fits (table_first _ _ _ _ (ap (λ z. z.rule) (sym c.self.view_is) ∙ c.in-Some.is)
     (table_typed _ _ _ _ (rw (← c.self.view_is) c.self.invariant.valid) listed c.requires.shown))
 
