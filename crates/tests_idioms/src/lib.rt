@@ -1,12 +1,14 @@
 //! What is written every day over instants, dates, times of day and lengths of time, compiled, proved
 //! and tested: comparisons, sorting, maps, print, iteration, lookups. No function has a contract, a lemma
-//! or a proof file, and none is generic over the zone.
+//! or a proof file.
 //!
 //! The instants are those of a kept zone. Functions whose code differs over UTC are in [`utc`] too, and
 //! those whose code differs over a `TimeZoneRef` in [`borrowed`]. [`dates`], [`clocks`], [`lengths`] and
 //! [`plans`] have what programs do with the dates, local times and lengths of such instants and with
-//! plans, and [`agenda`] is a client of two structs that hold a zone and instants. [`naive`] needs no
-//! zone.
+//! plans, and [`agenda`] is a client of two structs that hold a zone and instants. [`naive`] and
+//! [`fields`] need no zone. The functions of [`choices`], [`moves`] and [`shown`] are generic over the
+//! zone: tests call them in borrowed zones, at fixed offsets and in a zone of one's own, also with an
+//! offset that isn't the one that the zone gives there. [`ends`] has both ends of the range.
 //!
 //! # What isn't covered
 //!
@@ -30,18 +32,24 @@
 
 pub mod agenda;
 pub mod borrowed;
+pub mod choices;
 pub mod clocks;
 pub mod closures;
 pub mod compare;
 pub mod copies;
 pub mod dates;
+pub mod ends;
 mod error;
+pub mod fields;
+pub mod fixed_zones;
 pub mod iterate;
 pub mod lengths;
 pub mod maps;
+pub mod moves;
 pub mod naive;
 pub mod plans;
 pub mod print;
+pub mod shown;
 pub mod sort;
 pub mod utc;
 pub mod zones;

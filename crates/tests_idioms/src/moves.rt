@@ -1,6 +1,6 @@
 //! Instants moved by operators, and instants that have the offset of another.
 
-use crate::values::{told, told_if};
+use crate::shown::{unix_and_offset, unix_and_offset_if_any};
 use naive_base::{Days, Months};
 use offset_core::TimeDelta;
 use std::time::Duration;
@@ -13,7 +13,7 @@ pub fn by_operators<Tz: TimeZone>(instant: DateTime<Tz>, by: TimeDelta) -> Optio
     }
     let mut moved = instant;
     moved += by;
-    Some([told(&(instant + by)), told(&moved)])
+    Some([unix_and_offset(&(instant + by)), unix_and_offset(&moved)])
 }
 
 pub fn back_by_operators<Tz: TimeZone>(
@@ -25,7 +25,7 @@ pub fn back_by_operators<Tz: TimeZone>(
     }
     let mut moved = instant;
     moved -= by;
-    Some([told(&(instant - by)), told(&moved)])
+    Some([unix_and_offset(&(instant - by)), unix_and_offset(&moved)])
 }
 
 /// By a duration of the standard library, if it is in range.
@@ -34,11 +34,11 @@ pub fn by_duration<Tz: TimeZone>(instant: DateTime<Tz>, by: Duration) -> Option<
     if instant.checked_add_signed(length).is_none() {
         return None;
     }
-    Some(told(&(instant + by)))
+    Some(unix_and_offset(&(instant + by)))
 }
 
 pub fn moved_by_nothing<Tz: TimeZone>(instant: &DateTime<Tz>) -> Option<(i64, i32)> {
-    told_if(instant.checked_add_signed(TimeDelta::zero()))
+    unix_and_offset_if_any(instant.checked_add_signed(TimeDelta::zero()))
 }
 
 /// Months and days by operators, if the checked calls return a value.

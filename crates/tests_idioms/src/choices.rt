@@ -1,6 +1,6 @@
 //! What a choice for gaps and folds takes.
 
-use crate::values::told;
+use crate::shown::unix_and_offset;
 use naive_base::NaiveDateTime;
 use offset_core::{Choice, FoldChoice, GapChoice};
 use zoned_series::SeriesError;
@@ -14,7 +14,7 @@ pub fn taken<Tz: TimeZone>(
     fold: FoldChoice,
 ) -> Result<(i64, i32), u8> {
     match zone.resolve(local, Choice { gap, fold }) {
-        Ok(instant) => Ok(told(&instant)),
+        Ok(instant) => Ok(unix_and_offset(&instant)),
         Err(e) => Err(e.number()),
     }
 }
