@@ -7,7 +7,7 @@ use zoned_time::TimeZone;
 
 /// The Unix time of 2020-01-01 00:00:00 five hours west of UTC. The zone's clocks show each time
 /// once, so that there is no gap and no fold to ask for.
-pub fn new_year(alloc: Global) -> Result<Option<i64>, Error> {
+pub fn new_year_five_hours_west(alloc: Global) -> Result<Option<i64>, Error> {
     let parsed = tz_info::TimeZone::fixed(alloc, -18_000)?;
     let Some(zone) = TimeZoneRef::new(&parsed) else {
         return Ok(None);
