@@ -34,6 +34,9 @@ fn entries_come(leaps: &[LeapSecond], leap_time: i64, near: &mut usize) -> usize
     requires { AreLeapSeconds leaps.now }
     ensures { HaveCome leaps.now leap_time result }
 {
+    if leaps.is_empty() {
+        return 0;
+    }
     if !have_come(leaps, *near, leap_time) {
         *near = leaps.partition_point(|entry| entry.unix_leap_time <= leap_time);
     }
