@@ -4,7 +4,7 @@ use Rattle.std.specs.Int.{w64}
 use Rattle.offset_core.specs.{LocalResult.{map_of}, Offset.{IsWithinDay}, TimeDelta.{nanos_of}, WallAnswer.{IsWallAnswer}}
 use Rattle.offset_core.specs.declared.local_result.LocalResult.{LocalResult}
 use Rattle.naive_base.specs.{Months.{days_of, months_of}, NaiveDateTime.{reading}, NaiveTime.{second_of, fraction_of}, Range.{IsWide}}
-use Rattle.naive_base.specs.Reading.{Reading, reading_at, day_at, moved, difference, total}
+use Rattle.naive_base.specs.Reading.{reading_at, day_at, moved, difference, total}
 use Rattle.tz_base.specs.{LocalTypes.{LocalType}, declared.error.Error.{Error, TheVariants.{OutOfMemory}}}
 use Rattle.tz_info.specs.{FilePieces.{FilePieces, HasPieces}, Looks.{RoseByWallClock}, PosixZones.{IsPosixZone, IsPosixFault}, RuleTypes.{RuleAt}}
 use Rattle.tz_info.specs.{TzFiles.{IsTzFile, IsFileFault}, TzGrammar.{IsTzText, IsTextFault}, WallClocks.{Shows}, Zones.{Zone, IsValid, TypeAt}}
