@@ -1,2 +1,4 @@
 pub mod InDay
+mod ListedTimes
+mod Waiting
 mod Wrapped

@@ -1,2 +1,4 @@
 pub mod AnyZone
+pub mod Fires
 pub mod Nepal
+pub mod Queues

@@ -5,9 +5,9 @@
 //! days, weeks, months and years start, `own_zone` and `any_zone` the zones of docs/OWN_ZONE.md, and `facts` contracts
 //! of a client's own.
 //!
-//! Three modules are clients as a user would write them: `calendar` has events at instants and on whole
-//! days, `log_reader` reads logs whose lines have local times, and `text` writes instants as text, for
-//! people and for other programs.
+//! Four modules are clients as a user would write them: `scheduler` runs jobs at times of day, `calendar`
+//! has events at instants and on whole days, `log_reader` reads logs whose lines have local times, and
+//! `text` writes instants as text, for people and for other programs.
 #![tactic(auto)]
 
 mod any_zone;
@@ -21,6 +21,7 @@ mod front_page;
 pub mod log_reader;
 mod own_zone;
 mod readme;
+pub mod scheduler;
 pub mod text;
 
 pub use any_zone::{AnyOffset, AnyZone};

@@ -11,17 +11,15 @@
 //!
 //! # Programs to read first
 //!
-//! Four small clients in the repository, a library and three modules of `demo_examples`, each written
-//! as a user would write it, tested against values from outside, and proved:
+//! Four small clients in the repository, modules of `demo_examples`, each written as a user would write
+//! it, tested against values from outside, and proved. They name only `zoned`:
 //!
 //! | you write | read | its fact |
 //! |---|---|---|
-//! | a scheduler | `demo_scheduler`: jobs of several zones, at several times of day, in a queue | no run is skipped, and one in a gap runs at its end |
+//! | a scheduler | `scheduler`: jobs of several zones, at several times of day, in a queue | no run is skipped, and one in a gap runs at its end |
 //! | a calendar | `calendar`: events, days of 23 and 25 hours, weeks, birthdays | no instant is in two days |
 //! | a reader of logs | `log_reader`: local times with and without offsets, in order through a fold | an instant's local time and offset spell that instant |
 //! | texts | `text`: RFC 3339, RFC 2822, HTTP, iCalendar, ISO weeks, lengths | the bytes of RFC 3339's form |
-//!
-//! The first names only the libraries that it needs, the other three `zoned`.
 //!
 //! # The types
 //!

@@ -1,2 +1,0 @@
-mod Times
-mod Waiting

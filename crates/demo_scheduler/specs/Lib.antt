@@ -1,2 +1,0 @@
-pub mod Fires
-pub mod Queues
