@@ -3,8 +3,8 @@ use Rattle.std.proofs.Common.{◌≡◌, ◌<◌, ◌≤◌, ◌+◌, ◌⊎◌,
 use Rattle.std.proofs.lemmas.{Bool.{cases_lt}, Int.{ints}, Option.{slice_get_read, slice_get_within}}
 use Rattle.std.specs.Prelude.{⊤, ◌≤ℤ◌, ◌<ℤ◌, IfSome, option_map, slice_get, slice_index_or, slice_set}
 use Rattle.zoned.specs.DateTime.{zoned}
-use Rattle.demo_examples.specs.{Fires.{IsNextRun}, declared.scheduler.queue.Fire.{Fire}, Queues.{IsFirstAt, IsFirstRun, IsNoneDue, IsTaken, NoneRuns, next_second}}
-use Rattle.demo_examples.specs.declared.scheduler.queued.Queued.{Queued}
+use Rattle.demo_examples.specs.{Fires.{IsNextRun}, Queues.{IsFirstAt, IsFirstRun, IsNoneDue, IsTaken, NoneRuns, next_second}}
+use Rattle.demo_examples.specs.declared.scheduler.{queue.Fire.{Fire}, queued.Queued.{Queued}}
 
 module _ (jobs : List Queued) where
   -- the job at a place before n runs no earlier than that second, or never again
