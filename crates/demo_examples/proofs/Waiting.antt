@@ -95,9 +95,6 @@ module _ (jobs : List Queued) where
   pub none_due : (t second : ℤ) (place : ℕ) → IsFirstAt jobs place second → t <ℤ second → IsNoneDue jobs t
   none_due t second place first less = λ k q there. strict_one t second (next_second q) less (first.first k q there)
 
-  pub none_runs_due : (t : ℤ) → NoneRuns jobs → IsNoneDue jobs t
-  none_runs_due t none = λ k q there. subst (λ o. MatchOption o ⊤ (λ s. t <ℤ s)) (sym (none k q there)) tt
-
   -- the job of the first run is the one at its place
   pub its_job : (place : ℕ) (second : ℤ) (first : IsFirstAt jobs place second) (q : Queued) → slice_get jobs place ≡ Some q → q ≡ first.its
   its_job place second first q there = let e : Some q ≡ Some first.its = sym there ∙ first.listed in grind arith
