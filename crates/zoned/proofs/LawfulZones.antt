@@ -15,4 +15,4 @@ law_of z off narrow of_zone = record {
 pub law_of_narrow : (z : Zone) (r : Option TimeZoneRef) → IsSome r ↔ IsNarrow z → IfSome r (λ r. AreOffsetsOf z (off_of r)) → IsNarrow z
     → (off : ℤ → ℤ) × IsLawOf z off
 law_of_narrow z (Some r) some of_zone narrow = (off_of r, law_of z (off_of r) narrow of_zone)
-law_of_narrow z None some of_zone narrow = let b = some.1 narrow in absurd (grind arith)
+law_of_narrow z None some of_zone narrow = absurd (grind arith)

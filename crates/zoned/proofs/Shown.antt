@@ -2,7 +2,7 @@
 use Rattle.offset_core.specs.declared.local_result.LocalResult.TheVariants.{Ambiguous, None as none, Single}
 use Rattle.zoned.proofs.Words.{AreInstantsOf, Each, HasInstant, IsFromFirstToLast, IsInRange, IsNeverShown, IsRelocal, IsShownBetween, IsShownOnce}
 use Rattle.zoned.proofs.Words.{IsWallAnswer, Law, LocalResult, Meaning, None, Option, Reading, ShowsByOffset, Some, SomeIff, Zoned, all_or_none, arith, inr}
-use Rattle.zoned.proofs.Words.{instant_of, ints, map_of, subst, sym, ℤ, ◌-ℤ◌, ◌∙◌, ◌≡◌, ◌≢◌, ◌⊎◌}
+use Rattle.zoned.proofs.Words.{instant_of, ints, map_of, sym, ℤ, ◌-ℤ◌, ◌∙◌, ◌≡◌, ◌≢◌, ◌⊎◌}
 
 -- the second u shows l, and is s
 abbrev pub IsSecond : (ℤ → ℤ) → ℤ → ℤ → ℤ → Type 0
@@ -13,14 +13,13 @@ abbrev pub ShowsOutside : (ℤ → ℤ) → ℤ → Type 0
 ShowsOutside off l = (u : ℤ) × (k : ℤ) × ShowsByOffset off l u k × (IsInRange u → ⊥)
 
 second_of : (off : ℤ → ℤ) (l u k : ℤ) → ShowsByOffset off l u k → l -ℤ k ≡ u
-second_of off l u k shows = let shown = shows.shown in omega (arith, ints, shown)
+second_of off l u k shows = let shown = shows.shown in grind (arith, ints)
 
 at_second : (off : ℤ → ℤ) (l u k s : ℤ) → ShowsByOffset off l u k → s ≡ l -ℤ k → IsSecond off l u s
-at_second off l u k s shows is =
-    let shown = shows.shown in let offset : k ≡ l -ℤ s = omega (arith, ints, is) in grind (arith, ints)
+at_second off l u k s shows is = let offset : k ≡ l -ℤ s = omega (arith, ints, is) in grind (arith, ints)
 
 once_second : (off : ℤ → ℤ) (l k s : ℤ) → IsShownOnce (ShowsByOffset off l) k → s ≡ l -ℤ k → IsShownOnce (IsSecond off l) s
-once_second off l k s h is = record { second = h.second; shown = at_second off l h.second k s h.shown is; only = λ u b there. h.only u (l -ℤ b) there.0 }
+once_second off l k s h is = record { second = h.second; shown = at_second off l h.second k s h.shown is; only = grind arith }
 
 between_seconds : (off : ℤ → ℤ) (l j k s t : ℤ) → IsShownBetween (ShowsByOffset off l) j k → s ≡ l -ℤ j → t ≡ l -ℤ k → IsShownBetween (IsSecond off l) s t
 between_seconds off l j k s t h is also = record {
@@ -34,7 +33,7 @@ between_seconds off l j k s t h is also = record {
 }
 
 outside : (off : ℤ → ℤ) (l u k : ℤ) → ShowsByOffset off l u k → (IsInRange (l -ℤ k) → ⊥) → ShowsOutside off l
-outside off l u k shows out = (u, k, shows, λ inside. out (subst IsInRange (sym (second_of off l u k shows)) inside))
+outside off l u k shows out = (u, k, shows, λ inside. grind arith)
 
 -- what is shown of the instants, if there are some and if there aren't any
 abbrev pub AreAllSeconds : {O : Type 0} → (ℤ → ℤ) → ℤ → LocalResult (Zoned O) → Type 0
@@ -75,8 +74,7 @@ none_shown show off l a h is = grind arith
 pub within_shown : {T O : Type 0} (show : T → Zoned O) (off : ℤ → ℤ) (l u k : ℤ) → ShowsByOffset off l u k → (a : LocalResult T)
     → AreAllSeconds off l (map_of show a) → IsFromFirstToLast u (map_of (λ t. (show t).utc.s) a)
 within_shown show off l u k shows none h = tt
-within_shown show off l u k shows (Single t) h =
-    h.only u u (at_second off l u k u shows (sym (second_of off l u k shows))) ∙ sym h.shown.1
+within_shown show off l u k shows (Single t) h = h.only u u (at_second off l u k u shows (grind arith)) ∙ sym h.shown.1
 within_shown show off l u k shows (Ambiguous t s) h = grind (arith, ints, at_second off l u k u shows (sym (second_of off l u k shows)))
 
 -- what holds of each value seen as another
