@@ -24,15 +24,14 @@ number_late y n m d e low high first =
 pub number_early : (y : ℤ) (n m d : ℕ) → y +ℤ pos 2_147_484_000 ≡ pos (suc n) → 1 ≤ m → m ≤ 2 → 1 ≤ d
     → day_number y m d +ℤ pos 784_353_144_338 ≡ pos (number_from_march n (m + 12) d)
 unfolding day_number
-number_early y n m d e low high first = grind (arith, floors, next_start (y -ℤ pos 1) n (omega (arith, floors)), months_early (is_leap y) m low high)
+number_early y n m d e low high first = grind (arith, next_start (y -ℤ pos 1) n (omega (arith, floors)), months_early (is_leap y) m low high)
 
 -- a year start, from that January on
 pub january_start : (y : ℤ) (n : ℕ) → y +ℤ pos 2_147_484_000 ≡ pos (suc n)
     → year_start y +ℤ pos 784_353_144_032 ≡ pos (days_of_years n)
-january_start y n e = grind (arith, floors, next_start (y -ℤ pos 1) n (omega (arith, floors)))
+january_start y n e = grind (arith, next_start (y -ℤ pos 1) n (omega (arith, floors)))
 
 -- a day that whole years and some days after that January lie before it, fewer than a year more, lies in the next year
 pub year_found : (day y : ℤ) (n passed k : ℕ) → day +ℤ pos 784_353_144_032 ≡ pos k → days_of_years n + passed ≡ k
     → k < days_of_years (n + 1) → y +ℤ pos 2_147_484_000 ≡ pos (n + 1) → LiesIn day y
-year_found day y n passed k e f below g =
-    grind (arith, floors, january_start y n (omega (arith, floors)), january_start (y +ℤ pos 1) (n + 1) (omega (arith, floors)))
+year_found day y n passed k e f below g = grind (arith, january_start y n (omega (arith, floors)), january_start (y +ℤ pos 1) (n + 1) (omega (arith, floors)))

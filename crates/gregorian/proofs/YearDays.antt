@@ -4,10 +4,10 @@ use Rattle.gregorian.specs.{Year.{is_leap, year_start}, DateOf.{year_of}, Steps.
 use Rattle.gregorian.proofs.{Floor.{floors}, Cycle.{january_start, year_found}, YearLaws.{one_year, lies_in}}
 
 pub leap_by : (y : ℤ) (c n : ℕ) → n < 100 → y +ℤ pos 2_147_484_000 ≡ pos (100 * c + n + 1) → is_leap y ≡ ((n % 4 == 3) && (not (n == 99) || (c % 4 == 3)))
-leap_by y c n h e = grind (arith, floors)
+leap_by y c n h e = grind arith
 
 pub first_by : (y : ℤ) (c n : ℕ) → n < 100 → y +ℤ pos 2_147_484_000 ≡ pos (100 * c + n + 1) → weekday_of (year_start y) ≡ (5 * (c % 4) + n + n / 4 + 1) % 7
-first_by y c n h e = let start = january_start y (100 * c + n) (omega (arith, floors)) in grind (arith, floors)
+first_by y c n h e = let start = january_start y (100 * c + n) (omega (arith, floors)) in grind arith
 
 -- the year of the day that lies there
 pub own_year : (day : ℤ) (c n passed k : ℕ) → day +ℤ pos 784_353_144_032 ≡ pos k → days_of_years (100 * c + n) + passed ≡ k
