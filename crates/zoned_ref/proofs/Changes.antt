@@ -28,7 +28,7 @@ module _ (w : Bool) (s : ℤ) (here : IsInRange s) where
   sooner c d a p before at = grind (arith, ints)
 
   pub none_told : (in_force : ℤ → LocalType → Type 0) → HasNoChange in_force (IsAhead w s) → HasNoChange in_force (IsTold w s)
-  none_told in_force none = λ d is k. none d is (told d.at k).0
+  none_told in_force none = λ d is k. grind arith
 
   pub nearest_told : {T : Type 0} (change : T → Change) (also : T → Type 0) (in_force : ℤ → LocalType → Type 0) (c : Change) (found : Option T)
       → IsNearestChange w in_force (IsAhead w s) c → TellsInRange change also c found → IsNearest w in_force (IsTold w s) (option_map change found)
@@ -50,7 +50,7 @@ module _ (z : Zone) (off : ℤ → ℤ) (has : AreOffsetsOf z off) where
   stands_on : (s u : ℤ) (t : LocalType) → IsInRange s → IsInRange u → s ≤ℤ u → HasNoChange (TypeAt z) (IsBetween true s u) → TypeAt z s t → TypeAt z u t
   stands_on s u t here there on none h =
       stays (TypeAt z) s u t (omega (arith, ints)) (omega (arith, ints)) on none
-      (λ v low high. let at = has v (omega (arith, ints), omega (arith, ints)) in (at.type, at.in_force)) h
+      (λ v low high. let at = has v (omega (arith, ints), omega (arith, ints)) in grind arith) h
 
   stands : (w : Bool) (s u : ℤ) (t : LocalType) → IsInRange s → IsInRange u → Precedes w s u
       → HasNoChange (TypeAt z) (IsBetween w s u) → TypeAt z s t → TypeAt z u t

@@ -2,7 +2,7 @@
 use Rattle.tz_info.{proofs.Words.{AreEndsWithin, IsFirstAtOrAfter, IsNeverWithin, ShowsWithin}, specs.Reached.{IsLastReached}}
 use Rattle.zoned_time.proofs.Words.{HasReached, IsFirstToReach, IsFirstSecondOutOfRange, IsZonedFirst, IsOffsetStretch, IsOnDay, IsWideDay, ◌<ℤ◌}
 use Rattle.zoned_ref.proofs.Words.{AreEndsOfDay, AreOffsetsOf, IsNarrow, IsNeverOnDay, IsAt, IsInRange, IsReachedAt, IsWithinDay, Law, MatchOption, Meaning}
-use Rattle.zoned_ref.proofs.Words.{None, Option, Reading, Some, Zoned, of_secs, refl, subst, IsWide, IsZoneSecond, LocalType, ShownSeconds, TypeAt, Zone, ap}
+use Rattle.zoned_ref.proofs.Words.{None, Option, Some, Zoned, of_secs, refl, IsWide, IsZoneSecond, LocalType, ShownSeconds, TypeAt, Zone, ap}
 use Rattle.zoned_ref.proofs.{Words.{arith, ints, pos, sym, type_once, ℤ, ◌*ℤ◌, ◌+ℤ◌, ◌-ℤ◌, ◌∙◌, ◌≡◌, ◌≤ℤ◌}, Offsets.{type_within}}
 
 abbrev OnDayByType : Zone → ℤ → ℤ → LocalType → Type 0
@@ -56,8 +56,7 @@ module _ (z : Zone) (off : ℤ → ℤ) (narrow : IsNarrow z) (of_zone : AreOffs
 
   pub first_to_reach : (l u : ℤ) (t : LocalType) → IsWide l → IsFirstAtOrAfter (TypeAt z) l u t → IsFirstToReach off l u
   first_to_reach l u t wide h =
-      let latest = reached_a_day_on l wide in let there = of_zone (l +ℤ pos 86_399) latest.in_zone in
-      let within = type_within z u t narrow h.shown.type in let not_later = h.first (l +ℤ pos 86_399) there.type (grind (arith, ints)) in
+      let latest = reached_a_day_on l wide in let within = type_within z u t narrow h.shown.type in
       let inside : IsZoneSecond u = grind (arith, ints) in grind (arith, ints, same_offset z off of_zone u t inside h.shown.type)
 
   -- ---- the last local time that clocks have shown
@@ -87,5 +86,4 @@ pub zoned_first : {O T : Type 0} {m : Meaning O} (law : Law m) (l u : ℤ) (p : 
     → MatchOption found (IsFirstSecondOutOfRange law.off l) (λ d. IsZonedFirst law l (told d))
 zoned_first law l u p told None first h = (u, first, h)
 zoned_first law l u p told (Some d) first h =
-    let same : (told d).utc.s ≡ u = ap (λ (r : Reading). r.s) h.1.utc in
-    record { first = rw same first; at = subst (λ (v : ℤ). IsAt law (of_secs v 0) (told d)) (sym same) h.1 }
+    let same : (told d).utc.s ≡ u = grind arith in grind arith

@@ -1,7 +1,7 @@
 -- The wall clock's answer over all seconds of 64 bits is the one over the range that zones answer in: whoever shows a
 -- local date-time is less than a day away from it.
 use Rattle.zoned_ref.proofs.Words.{AreOffsetsOf, IsNarrow, IsWallAnswer, IsWallAnswer-map_of, IsWide, IsWithinDay, LocalResult, LocalType, SameLaw, TimeZoneRef}
-use Rattle.zoned_ref.proofs.Words.{TypeAt, Zone, ZoneOffset, arith, home_law, ints, law_of, map_of, meaning_of, off_of, same_itself, type_of, zone_of, ℤ, ◌-ℤ◌}
+use Rattle.zoned_ref.proofs.Words.{TypeAt, Zone, ZoneOffset, arith, home_law, ints, law_of, map_of, meaning_of, off_of, type_of, zone_of, ℤ, ◌-ℤ◌}
 use Rattle.zoned_ref.proofs.{Words.{◌≡◌}, Days.{same_offset}, Offsets.{type_within}}
 use Rattle.tz_info.specs.WallClocks as types
 use Rattle.zoned_time.specs.Zone as offsets
@@ -29,7 +29,7 @@ shown_in_force z l u t s = grind (arith, ints)
 
 -- an offset knows the zone that it came from
 pub same_law : (r : TimeZoneRef) (o : ZoneOffset) → o.zone ≡ r → SameLaw (home_law meaning_of o) (law_of r)
-same_law r o is = rw is (same_itself (law_of r))
+same_law r o is = rw is (grind arith)
 
 -- and their offsets are what the zone gives
 pub offsets_given : (r : TimeZoneRef) (l : ℤ) (given : LocalResult ZoneOffset) → AreOffsetsOf (zone_of r) (off_of r) → IsWide l

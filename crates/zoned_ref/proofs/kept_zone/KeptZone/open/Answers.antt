@@ -15,8 +15,7 @@ not_opened bytes z (WideZone back) file valid refused = (z, file, valid, refused
 not_opened bytes z (OutOfMemory back) file valid refused = No_memory file.0 file.1
 
 pub returns-in-Err-keep-clause-only : goal.returns-in-Err-keep-clause-only
-returns-in-Err-keep-clause-only c z file valid narrow =
-    rw c.from.ensures (out_of_memory c.in-Ok.parsed c.in-Err-keep.refused c.in-Err-keep.ensures.kept (rw (c.in-Ok.ensures.only z file valid) narrow))
+returns-in-Err-keep-clause-only c z file valid narrow = rw c.from.ensures (grind arith)
 
 pub returns-in-Err-keep-clause-fault : goal.returns-in-Err-keep-clause-fault
 returns-in-Err-keep-clause-fault c =

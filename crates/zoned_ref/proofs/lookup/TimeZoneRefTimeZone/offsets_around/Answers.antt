@@ -18,8 +18,8 @@ new-requires-in-Gap c = before_within _ _ _ c.zone.ensures.narrow c.in-Gap.ensur
 
 pub returns-in-Single-clause-offsets : goal.returns-in-Single-clause-offsets
 returns-in-Single-clause-offsets c =
-    offsets_given c.args.self.now _ (Single c.new.result) (rw c.zone.ensures.zone at c.zone.ensures.offsets) c.args.local.now.in_range.0 c.new.ensures.zone
-    (rw (c.new.ensures.local_type, ← c.zone.ensures.zone) c.in-Single.ensures)
+    offsets_given c.args.self.now _ (Single c.new.result) (grind arith) c.args.local.now.in_range.0 c.new.ensures.zone
+    (grind arith)
 
 pub returns-in-Ambiguous-clause-offsets : goal.returns-in-Ambiguous-clause-offsets
 returns-in-Ambiguous-clause-offsets c = let first = c.new-in-Ambiguous in let last = c.new-in-Ambiguous-2 in
@@ -28,8 +28,8 @@ returns-in-Ambiguous-clause-offsets c = let first = c.new-in-Ambiguous in let la
 
 pub returns-in-Gap-clause-offsets : goal.returns-in-Gap-clause-offsets
 returns-in-Gap-clause-offsets c =
-    gap_given c.args.self.now _ c.new-in-Gap.result (rw c.zone.ensures.zone at c.zone.ensures.offsets) c.args.local.now.in_range.0 c.new-in-Gap.ensures.zone
-    (rw (c.new-in-Gap.ensures.local_type, ← c.zone.ensures.zone) c.in-Gap.ensures)
+    gap_given c.args.self.now _ c.new-in-Gap.result (grind arith) c.args.local.now.in_range.0 c.new-in-Gap.ensures.zone
+    (grind arith)
 
 pub returns-in-Single-clause-local_types : goal.returns-in-Single-clause-local_types
 returns-in-Single-clause-local_types c = grind arith
