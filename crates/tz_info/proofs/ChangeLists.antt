@@ -28,14 +28,10 @@ then_here : (f : InForce) (from last : ℤ) (c : Change) (cs : List Change) → 
 then_here f from last c cs apart is at low h = record {
   rising = all_pairs_push (λ a b. a.at <ℤ b.at) cs c h.rising (λ k d below. rw at ((h.each (get_or cs k d)).0 (Contains-get_or cs k d below)).1.1);
   each = λ d. (
-    λ inside. elim (Contains-push_cases cs c d inside) [
-      | inl earlier ↦ let k = (h.each d).0 earlier in let l = k.1.1 in (k.0, (k.1.0, omega linear))
-      | inr same ↦ subst (λ x. IsChange f x × IsFromUntil from (last +ℤ pos 1) x.at) same
-          (is, (omega linear, omega linear))
-    ],
+    λ inside. elim (Contains-push_cases cs c d inside) [ inl earlier ↦ let k = (h.each d).0 earlier in grind linear | inr same ↦ grind linear ],
     λ k. by_lt_z d.at last
-        (λ less. Contains-append_left cs (c ∷ []) d ((h.each d).1 (k.0, (k.1.0, less))))
-        (λ more. let l = k.1.1 in subst (λ x. Contains (cs ++ c ∷ []) x) (apart c d is k.0 (omega linear)) (Contains-push cs c)),
+        (λ less. Contains-append_left cs (c ∷ []) d ((h.each d).1 (grind linear)))
+        (λ more. let l = k.1.1 in rw (← apart c d is k.0 (omega linear)) (Contains-push cs c)),
   );
 }
 
@@ -160,4 +156,4 @@ all_left s from until valid limits before end =
 
 -- without its last element a list is shorter
 pub shorter : (cs ds : List Change) (c : Change) → cs ≡ ds ++ c ∷ [] → length ds < length cs
-shorter cs ds c e = let l = ap length e in let m = length-append ds (c ∷ []) in omega arith
+shorter cs ds c e = grind (arith, length-append)

@@ -16,8 +16,8 @@ one_more _ n _ _ u one = grind arith
 
 one_still : (seconds : List ℤ) (n : ℕ) (after last u : ℤ) → IsOneOf seconds n after last u ⊎ ((get_or seconds n (pos 0) ≡ u) × IsInStretch after last u)
     → IsOneOf seconds (n + 1) after last u
-one_still _ n _ _ u (inl one) = record { place = one.place; below = omega arith; is = one.is; inside = one.inside }
-one_still seconds n after last u (inr here) = record { place = n; below = omega arith; is = here.0; inside = here.1 }
+one_still _ n _ _ u (inl one) = grind arith
+one_still seconds n after last u (inr here) = grind arith
 
 -- the same changes, by other conditions
 pub nearest_moved : (w : Bool) (f g : InForce) (p q : ℤ → Type 0) (found : Option Change) → ((d : Change) → IsChange g d → q d.at → IsChange f d × p d.at)
@@ -30,8 +30,8 @@ nearest_moved w f g p q (Some c) to from h = grind arith
 pub nearest_either : (w : Bool) (f : InForce) (p q : ℤ → Type 0) (found other : Option Change) → IsNearest w f p found → IsNearest w f q other
     → IsNearest w f (λ u. p u ⊎ q u) (nearer_one w found other)
 nearest_either w f p q None None h k = grind linear
-nearest_either w f p q None (Some d) h k = record { is = k.is; inside = inr k.inside; nearest = λ e is. ⊎_elim (λ i. absurd (h e is i)) (k.nearest e is) }
-nearest_either w f p q (Some c) None h k = record { is = h.is; inside = inl h.inside; nearest = λ e is. ⊎_elim (h.nearest e is) (λ i. absurd (k e is i)) }
+nearest_either w f p q None (Some d) h k = grind linear
+nearest_either w f p q (Some c) None h k = grind linear
 nearest_either true f p q (Some c) (Some d) h k = grind linear
 nearest_either false f p q (Some c) (Some d) h k = grind linear
 
@@ -46,7 +46,7 @@ IsAsked f after last second other = MatchOption other (IsIdle f after last secon
 pub asked : (w : Bool) (f : InForce) (after last second : ℤ) (other : Option Change) → IsAsked f after last second other
     → IsNearest w f (λ u. (second ≡ u) × IsInStretch after last u) other
 asked w f _ _ _ None h = grind linear
-asked w f after last second (Some c) h = record { is = h.0; inside = (sym h.1, rw h.1 h.2); nearest = λ d is k. precedes_itself w _ _ (h.1 ∙ k.0) }
+asked w f after last second (Some c) h = grind (linear, precedes_itself)
 
 -- one second more
 pub nearest_more : (w : Bool) (f : InForce) (seconds : List ℤ) (n : ℕ) (after last : ℤ) (found other : Option Change)
@@ -99,8 +99,7 @@ pub change_made : (f : InForce) (second : ℤ) (s t : LocalType) (r : Option Cha
     → MatchOption r (s ≡ t) (λ c. (s ≢ t) × (c ≡ record { at = second; before = s; after = t }))
     → MatchOption r (HasNoChange f (λ u. u ≡ second)) (λ c. IsChange f c × (c.at ≡ second))
 change_made f _ s t None once fits fits_before h k e = grind arith
-change_made f second s t (Some c) once fits fits_before h k e =
-    rw e.1 (record { fits = fits; fits_before = fits_before; before = h; after = k; differ = e.0 }, refl)
+change_made f second s t (Some c) once fits fits_before h k e = grind linear
 
 -- no type is in force a second before, or at the second
 pub none_before : (f : InForce) (second : ℤ) → ((t : LocalType) → f (second -ℤ pos 1) t → ⊥) → HasNoChange f (λ u. u ≡ second)
@@ -122,9 +121,7 @@ decided P false d = grind linear
 step_up : (f : InForce) (v w : ℤ) (s t : LocalType) → v ≡ w -ℤ pos 1 → SFits w64 v → SFits w64 w → HasNoChange f (λ x. x ≡ w) → f v s → f w t → s ≡ t
 step_up f v w s t e fits fits_next none h k = elim (decided _ _ (type_exact s t)) [
   | inl same ↦ same
-  | inr differ ↦
-      let c : Change = record { at = w; before = s; after = t } in
-      absurd (none c (record { fits = fits_next; fits_before = rw e at fits; before = rw e at h; after = k; differ = differ }) refl)
+  | inr differ ↦ absurd (none (record { at = w; before = s; after = t }) (grind linear) refl)
 ]
 
 -- n seconds later

@@ -19,17 +19,11 @@ module _ (z w : Zone) (from until u : ℤ) (d e : Difference) (h : IsDifference 
     (k : IsDifference (TypeAt z) (TypeAt w) from until e) (old : d.old ≡ e.old) (new : d.new ≡ e.new) (i : IsInDifference u d) (j : IsInDifference u e) where
   not_earlier : d.from ≤ℤ e.from
   not_earlier = by_lt_z e.from d.from
-      (λ less.
-      let types = k.each (d.from -ℤ pos 1) (omega linear) (omega linear) in
-      absurd (h.begins (omega linear) (subst (TypeAt z (d.from -ℤ pos 1)) (sym old) types.0) (subst (TypeAt w (d.from -ℤ pos 1)) (sym new) types.1)))
+      (λ less. let types = k.each (d.from -ℤ pos 1) (omega linear) (omega linear) in absurd (grind linear))
       (λ m. m)
 
   not_later : e.until ≤ℤ d.until
-  not_later = by_lt_z d.until e.until
-      (λ less.
-      let types = k.each d.until (omega linear) less in
-      absurd (h.ends (omega linear) (subst (TypeAt z d.until) (sym old) types.0) (subst (TypeAt w d.until) (sym new) types.1)))
-      (λ m. m)
+  not_later = by_lt_z d.until e.until (λ less. let types = k.each d.until (omega linear) less in absurd (grind linear)) (λ m. m)
 
 equal : (u v : ℤ) → u ≤ℤ v → v ≤ℤ u → u ≡ v
 equal u v h k = omega linear

@@ -11,10 +11,7 @@ some_last : (ts : List Transition) (last : Transition) → last_transition ts �
 some_last ts last is = let l = slice_get_within ts (length ts - 1) last is in omega arith
 
 pub last_is : (ts : List Transition) (last : Transition) → last_transition ts ≡ Some last → get_or ts (length ts - 1) last ≡ last
-last_is ts last is =
-    let h = some_last ts _ is in
-    let g : Some (get_or ts (length ts - 1) last) ≡ Some last = sym (slice_get-get_or ts (length ts - 1) last (omega arith)) ∙ is in
-    cc
+last_is ts last is = grind (arith, slice_get-get_or, some_last)
 
 -- what the rule says at the transition's Unix time, or without a rule the transition's type
 said : (rule : Option TransitionRule) (types : List LocalType) (leaps : List LeapSecond) (ts : List Transition) (last : Transition) (u : ℤ) (t : LocalType)
@@ -23,8 +20,7 @@ said : (rule : Option TransitionRule) (types : List LocalType) (leaps : List Lea
 said None _ _ ts _ u t agrees is unix has = has
 said (Some r) types leaps ts last u t agrees is unix has =
     let a = rw is at agrees in
-    let same = a.of_transition.difference ∙ sym unix.difference in
-    rw (same, some_once _ _ t a.listed has) at a.of_rule
+    let same = some_once _ _ t a.listed has in grind arith
 
 -- if the last transition has come by its second, its type is in force there
 pub last_type : (z : Zone) (last : Transition) (u x : ℤ) (t : LocalType) → IsValid z → last_transition z.transitions ≡ Some last

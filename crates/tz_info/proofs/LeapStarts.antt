@@ -39,8 +39,8 @@ module _ (es : List LeapSecond) (d : LeapSecond) (valid : AreLeapSeconds es) whe
   below_law : (x u y : ℤ) (n : ℕ) → HaveCome es x n → IsLeapTime es u y → passed_count es u < n → y <ℤ x
   below_law x u y n h l less =
       let c = passed_count es u in
-      let s = (split _ u es c (follow es valid) (omega arith)).not_passed (omega arith) in
-      let t = threshold_at (pos 0) es c d (pos 0) (omega arith) in grind arith
+      let s = split (pos 0) u es c (follow es valid) in
+      let t = threshold_at (pos 0) es c d (pos 0) in grind arith
 
   -- more entries are passed at u than come by x
   above_law : (x u y : ℤ) (n c : ℕ) → HaveCome es x n → IsLeapTime es u y → passed_count es u ≡ suc c → n ≤ c → x ≤ℤ y

@@ -9,19 +9,14 @@ pub first_refusal : {X : Type 0} (n i : ℕ) (read : ℕ → Result X Error) (xs
 first_refusal zero i _ xs e l p q = absurd (omega arith)
 first_refusal {X = X} (suc n) i read xs e l p q = elim (cases_lt i n) as (λ _. values_below (suc n) read ≡ Err e) [
   | inl h ↦ rw (first_refusal n i _ xs e h p q)
-  | inr h ↦
-      let same : i ≡ n = omega arith in
-      let p' : values_below n read ≡ Ok xs = rw (sym same) p in
-      let q' : read n ≡ Err e = rw (sym same) q in rw (p', q')
+  | inr h ↦ let same : n ≡ i = omega arith in rw (same, p, q)
 ]
 
 pub one_false : (n i : ℕ) (test : ℕ → Bool) → i < n → test i ≡ false → all_below n test ≡ false
 one_false zero i _ l q = absurd (omega arith)
 one_false (suc n) i test l q = elim (cases_lt i n) as (λ _. all_below (suc n) test ≡ false) [
   | inl h ↦ rw (one_false n i _ h q)
-  | inr h ↦
-      let same : i ≡ n = omega arith in
-      let q' : test n ≡ false = rw (sym same) q in and_right (all_below n test) (test n) q'
+  | inr h ↦ let same : n ≡ i = omega arith in rw same (and_right (all_below i test) (test i) q)
 ]
 
 pub one_true : (n i : ℕ) (test : ℕ → Bool) → i < n → all_below n test ≡ true → test i ≡ true

@@ -34,9 +34,7 @@ year_after a b h =
 
 -- two years later at least 730 days later
 pub two_years_after : (a b : ℤ) → (a +ℤ pos 1) <ℤ b → (year_start a +ℤ pos 730) ≤ℤ year_start b
-two_years_after a b h =
-    let step = year_after a (a +ℤ pos 1) (omega (arith, floors)) in let next = year_after _ b h in
-    omega (arith, floors)
+two_years_after a b h = let step = year_after a (a +ℤ pos 1) in let next = year_after (a +ℤ pos 1) b in grind (linear, floors)
 
 -- a second of the year comes from the year's first day on, and before the next year
 pub second_low : (u year : ℤ) → IsYearOf u year → (pos 86_400 *ℤ year_start year) ≤ℤ u
@@ -70,7 +68,7 @@ between_is : (first last u : ℤ) → is_between first last u ≡ true → (firs
 between_is _ _ u h = grind arith
 
 between : (first last u : ℤ) → Decides (is_between first last u) ((first ≤ℤ u) × (u <ℤ last))
-between _ _ u = (between_is _ _ u, λ h. between_true _ _ u h.0 h.1)
+between _ _ u = (λ h. grind arith, λ h. grind arith)
 
 by_three : (firsts lasts : ℤ → ℤ) (year u : ℤ) → IsNear firsts → IsNear lasts → IsYearOf u year
     → Decides (is_in_three firsts lasts year u) (IsInSomeYear firsts lasts u)

@@ -19,10 +19,7 @@ kept_one z c d h is same kept =
 -- all transitions have come at a second with a type from `begin` on
 has_begun : (z : Zone) (begin u : ℤ) (t : LocalType) → IsValid z → IsBegin z begin → SFits w64 u → TypeAt z u t → begin ≤ℤ u
     → segment_of z u ≡ length z.transitions
-has_begun z _ u t valid h fits k from = elim (cases_lt 0 (length z.transitions)) [
-  | inl some ↦ let l = time_of z u t some k in sym (come_at_time z u _ l) ∙ (h.comes u k.leap_time fits l).1 from
-  | inr none ↦ let m = segment_most z u valid.transitions.rising in omega arith
-]
+has_begun z _ u t valid h fits k from = grind (linear, time_of, come_at_time, segment_most)
 
 of_two : (a : AlternateRule) (dst : Bool) → a.std.offset ≡ a.dst.offset → (type_when a dst).offset ≡ a.std.offset
 of_two a true same = sym same
@@ -45,11 +42,7 @@ module _ (z : Zone) (after reached : ℤ) (order : after ≤ℤ reached) (kept :
   -- ---- on from the second `after`
   pub found_on : (c : Change) → IsFirstChange (TypeAt z) (λ u. reached <ℤ u) c → (c.before.offset ≡ c.after.offset → ⊥)
       → IsNearestOffsetChange true (TypeAt z) (λ u. after <ℤ u) c
-  found_on c next other = let inside = next.inside in record {
-    is = record { is = next.is; other = other };
-    inside = omega linear;
-    nearest = λ d is later. by_lt_z reached d.at (λ l. next.nearest d is.is l) (λ m. absurd (kept d is (later, m)));
-  }
+  found_on c next other = grind linear
 
   pub goes_on : (c : Change) → IsFirstChange (TypeAt z) (λ u. reached <ℤ u) c → c.before.offset ≡ c.after.offset
       → KeepsOffset (TypeAt z) (λ u. (after <ℤ u) × (u ≤ℤ c.at))
@@ -61,11 +54,7 @@ module _ (z : Zone) (last reached : ℤ) (order : reached ≤ℤ last) (kept : K
   -- ---- back from the second `last`
   pub found_back : (c : Change) → IsLastChange (TypeAt z) (λ u. u ≤ℤ reached) c → (c.before.offset ≡ c.after.offset → ⊥)
       → IsNearestOffsetChange false (TypeAt z) (λ u. u ≤ℤ last) c
-  found_back c next other = let inside = next.inside in record {
-    is = record { is = next.is; other = other };
-    inside = omega linear;
-    nearest = λ d is earlier. by_lt_z reached d.at (λ l. absurd (kept d is (l, earlier))) (λ m. next.nearest d is.is m);
-  }
+  found_back c next other = grind linear
 
   pub goes_back : (c : Change) → IsLastChange (TypeAt z) (λ u. u ≤ℤ reached) c → c.before.offset ≡ c.after.offset
       → KeepsOffset (TypeAt z) (λ u. ((c.at -ℤ pos 1) <ℤ u) × (u ≤ℤ last))

@@ -26,22 +26,15 @@ one_type z s low _ _ end near near_high is starts ends u from until =
 pub next_run : (w : Bool) (s : Span) (low high start end : ℤ) → low <ℤ high → IsInSpan s (if w then low else high -ℤ pos 1) → StartsBy s.from low start
     → EndsBy s.until high end → IsNextRun w low high start end
 next_run true s low _ start end some here starts ends =
-    let first = (starts low).1 (omega linear, here.since) in let from = ((starts start).0 (omega linear)).0 in
-    let last = ((ends (end -ℤ pos 1)).0 (omega linear)).0 in
-    (omega linear, (ends low).1 (some, here.until), omega linear)
+    let a = starts low in let b = starts start in let c = ends (end -ℤ pos 1) in let d = ends low in grind linear
 next_run false s low high start end some here starts ends =
-    let last = (ends (high -ℤ pos 1)).1 (omega linear, here.until) in let until = ((ends (end -ℤ pos 1)).0 (omega linear)).0 in
-    let first = (starts _).1 (omega linear, here.since) in
-    (omega linear, ((starts _).0 (omega linear)).0, omega linear)
+    let a = starts (high -ℤ pos 1) in let b = starts start in let c = ends (end -ℤ pos 1) in let d = ends (high -ℤ pos 1) in grind linear
 
 -- a span that ends before the limit ends when its type is out of force
 turned : (z : Zone) (until : Option ℤ) (limit end : ℤ) (f : LocalType) → IfSome until (IsOutOfForce (TypeAt z) f) → EndsBy until limit end → end <ℤ limit
     → TypeAt z end f → ⊥
 turned z None limit end f out ends less here = grind (linear, ends)
-turned z (Some at) limit end f out ends less here = by_lt_z end at
-    (λ l. let beyond = (ends end).1 (less, l) in omega linear)
-    (λ m. by_lt_z at end (λ l. let before = ((ends at).0 l).1 in omega linear)
-    (λ n. let same : end ≡ at = omega linear in out.out (rw same at here)))
+turned z (Some at) limit end f out ends less here = let a = ends end in let b = ends at in grind linear
 
 pub run_until : (z : Zone) (s : Span) (at limit end : ℤ) → IsNear at → IsNear limit → at <ℤ limit → IsSpanAt (TypeAt z) at s → EndsBy s.until limit end
     → IsRunUntil (TypeAt z) at limit end

@@ -82,10 +82,7 @@ module _ (z : Zone) (a : AlternateRule) (u : ℤ) (t : LocalType) (rule : z.rule
 -- `begin` comes no later than a second with a type at which all have come
 pub begun : (z : Zone) (begin u : ℤ) (t : LocalType) → IsValid z → IsBegin z begin → SFits w64 u → TypeAt z u t → segment_of z u ≡ length z.transitions
     → begin ≤ℤ u
-begun z _ u t valid h fits k e = elim (cases_lt 0 (length z.transitions)) [
-  | inl some ↦ let l = time_of z u t some k in (h.comes u k.leap_time fits l).0 (come_at_time z u _ l ∙ e)
-  | inr none ↦ omega linear
-]
+begun z _ u t valid h fits k e = grind (linear, time_of, come_at_time)
 
 pub begins : (z : Zone) (begin u : ℤ) → IsValid z → IsBegin z begin → IsRuleTime u → begin ≤ℤ u → segment_of z u ≡ length z.transitions
 begins z _ u valid h within from =
