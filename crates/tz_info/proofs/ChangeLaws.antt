@@ -1,18 +1,14 @@
 -- At a second there is one change, and so one next change, one previous change and one list of them.
 use Rattle.std.proofs.lemmas.Map.Made.{Contains-tail}
 use Rattle.tz_info.proofs.{
+  ChangeSearch.{apart},
   Words.{AllPairs, AreChanges, Bool, Change, Contains, Contains-append_right, IsChange, IsFirst, IsNearest, IsTypeBeforeGap, List, LocalType, None, Option},
   Words.{Precedes, Some, TypeAt, Zone, [], ap, arith, by_lt_z, false, linear, pos, refl, subst, suc, sym, true, zero, ℤ, ◌-ℤ◌, ◌<ℤ◌, ◌∷◌, ◌≡◌, ◌≤ℤ◌},
   ZoneLaws.{type_once},
 }
 
-same_parts : (c d : Change) → c.at ≡ d.at → c.before ≡ d.before → c.after ≡ d.after → c ≡ d
-same_parts c d p q r = λ i. record { at = p i; before = q i; after = r i }
-
 pub one_change : (z : Zone) (c d : Change) → IsChange (TypeAt z) c → IsChange (TypeAt z) d → c.at ≡ d.at → c ≡ d
-one_change z c d a b same = same_parts c d same
-    (type_once z _ _ _ (subst (λ u. TypeAt z (u -ℤ pos 1) c.before) same a.before) b.before)
-    (type_once z _ _ _ (subst (λ u. TypeAt z u c.after) same a.after) b.after)
+one_change z = apart (TypeAt z) (type_once z)
 
 -- ---- the nearest one
 each_way : (w : Bool) (x y : ℤ) → Precedes w x y → Precedes w y x → x ≡ y
@@ -50,29 +46,27 @@ rest_same c cs ds rise same x h = Contains-tail c ds x
     (λ e. let l = subst (λ y. c.at <ℤ y.at) (sym e) (later c x cs rise h) in omega linear)
     (same x (Contains-append_right (c ∷ []) cs x h))
 
-one_list : (z : Zone) (a b : List Change) → Rise a → Rise b → ((c : Change) → Contains a c → IsChange (TypeAt z) c)
-    → ((c : Change) → Contains b c → IsChange (TypeAt z) c)
-    → ((c : Change) → Contains a c → Contains b c) → ((c : Change) → Contains b c → Contains a c) → a ≡ b
-one_list z [] [] p q are_a are_b to from = refl
-one_list z [] (d ∷ ds) p q are_a are_b to from = let h = from d (at_front d ds) in absurd (omega arith)
-one_list z (c ∷ cs) [] p q are_a are_b to from = let h = to c (at_front c cs) in absurd (omega arith)
-one_list z (c ∷ cs) (d ∷ ds) p q are_a are_b to from =
-    let l = not_before d c ds q (to c (at_front c cs)) in
-    let m = not_before c d cs p (from d (at_front d ds)) in
-    let same = one_change z c d (are_a c (at_front c cs)) (are_b d (at_front d ds)) (omega linear) in
-    let to' = subst (λ x. (y : Change) → Contains (c ∷ cs) y → Contains (x ∷ ds) y) (sym same) to in
-    let from' = subst (λ x. (y : Change) → Contains (x ∷ ds) y → Contains (c ∷ cs) y) (sym same) from in
+one_list : (z : Zone) (a b : List Change) → Rise a → Rise b → ((c : Change) → Contains a c → IsChange (TypeAt z) c × Contains b c)
+    → ((c : Change) → Contains b c → IsChange (TypeAt z) c × Contains a c) → a ≡ b
+one_list z [] [] p q to from = refl
+one_list z [] (d ∷ ds) p q to from = let h = (from d (at_front d ds)).1 in absurd (omega arith)
+one_list z (c ∷ cs) [] p q to from = let h = (to c (at_front c cs)).1 in absurd (omega arith)
+one_list z (c ∷ cs) (d ∷ ds) p q to from =
+    let (is, here) = to c (at_front c cs) in
+    let (other, there) = from d (at_front d ds) in
+    let l = not_before d c ds q here in
+    let m = not_before c d cs p there in
+    let same = one_change z c d is other (omega linear) in
     let q' = subst (λ x. Rise (x ∷ ds)) (sym same) q in
-    let rest = one_list z cs ds (rest_rises c cs p) (rest_rises c ds q') (λ x h. are_a x (Contains-append_right (c ∷ []) cs x h))
-    (λ x h. are_b x (Contains-append_right (d ∷ []) ds x h)) (rest_same c cs ds p to') (rest_same c ds cs q' from') in
+    let rest = one_list z cs ds (rest_rises c cs p) (rest_rises d ds q)
+    (λ x h. let k = to x (Contains-append_right (c ∷ []) cs x h) in (k.0, rest_same c cs ds p (λ y e. rw same ((to y e).1)) x h))
+    (λ x h. let k = from x (Contains-append_right (d ∷ []) ds x h) in (k.0, rest_same c ds cs q' (λ y e. (from y (rw same at e)).1) x h)) in
     λ i. same i ∷ rest i
 
 pub one_list_of_changes : (z : Zone) (from until : ℤ) (a b : List Change) → AreChanges (TypeAt z) from until a → AreChanges (TypeAt z) from until b → a ≡ b
 one_list_of_changes z _ _ a b h k = one_list z a b h.rising k.rising
-    (λ c inside. ((h.each c).0 inside).0)
-    (λ c inside. ((k.each c).0 inside).0)
-    (λ c inside. (k.each c).1 ((h.each c).0 inside))
-    (λ c inside. (h.each c).1 ((k.each c).0 inside))
+    (λ c inside. let is = (h.each c).0 inside in (is.0, (k.each c).1 is))
+    (λ c inside. let is = (k.each c).0 inside in (is.0, (h.each c).1 is))
 
 -- the front of a list is the first change at or after its first second
 pub front_is_first : (z : Zone) (from until : ℤ) (c : Change) (cs : List Change) → AreChanges (TypeAt z) from until (c ∷ cs)

@@ -3,7 +3,7 @@ use Rattle.std.specs.Bool.{Decides}
 use Rattle.tz_info.proofs.{
   Words.{Bool, Change, HasNoChange, IfSome, IsAhead, IsChange, IsIdle, IsInStretch, IsNearest, IsOneOf, IsStretchAhead, List, LocalType, MatchOption, None},
   Words.{Option, Precedes, SFits, Some, arith, false, get_or, inl, inr, linear, near_end, nearer_one, pos, refl, subst, suc, sym, true, type_exact},
-  Words.{unsigned_abs, w64, zero, ℕ, ℤ, ⊎_elim, ◌+ℤ◌, ◌+◌, ◌-ℤ◌, ◌<ℤ◌, ◌↔◌, ◌∙◌, ◌≡◌, ◌≢◌, ◌≤ℤ◌, ◌⊎◌},
+  Words.{unsigned_abs, w64, zero, ℕ, ℤ, ◌+ℤ◌, ◌+◌, ◌-ℤ◌, ◌<ℤ◌, ◌↔◌, ◌≡◌, ◌≢◌, ◌≤ℤ◌, ◌⊎◌},
 }
 
 abbrev pub InForce : Type 1
@@ -93,6 +93,16 @@ none_in_empty f _ _ h d is k = omega linear
 -- at each second one type is in force
 abbrev pub IsOnce : InForce → Type 0
 IsOnce f = (u : ℤ) (s t : LocalType) → f u s → f u t → s ≡ t
+
+abbrev one_change : ℤ → LocalType → LocalType → Change
+one_change at before after = record { at = at; before = before; after = after }
+
+the_same : (u v : ℤ) (a b s t : LocalType) → u ≡ v → a ≡ b → s ≡ t → one_change u a s ≡ one_change v b t
+the_same u v a b s t e g h = cc
+
+-- changes at one second are one
+pub apart : (f : InForce) → IsOnce f → (c d : Change) → IsChange f c → IsChange f d → c.at ≡ d.at → c ≡ d
+apart f once c d h k at = grind (linear, the_same, at)
 
 pub change_made : (f : InForce) (second : ℤ) (s t : LocalType) (r : Option Change) → IsOnce f → SFits w64 second → SFits w64 (second -ℤ pos 1)
     → f (second -ℤ pos 1) s → f second t

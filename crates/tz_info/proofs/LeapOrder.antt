@@ -74,7 +74,7 @@ pub record Bounded (p a u : ℤ) (es : List LeapSecond) (k : ℕ) : Type 0 where
   pub most : get_or (corrections es) k (pos 0) ≤ℤ (p +ℤ pos (suc k))
   pub least : p ≤ℤ (get_or (corrections es) k (pos 0) +ℤ pos (suc k))
 
-pub bounded : (p a u : ℤ) (es : List LeapSecond) (k : ℕ) → Follow p es → ((d : LeapSecond) → 0 < length es → a ≤ℤ ((get_or es 0 d).unix_leap_time -ℤ p))
+bounded : (p a u : ℤ) (es : List LeapSecond) (k : ℕ) → Follow p es → ((d : LeapSecond) → 0 < length es → a ≤ℤ ((get_or es 0 d).unix_leap_time -ℤ p))
     → k < counted_from p es u → Bounded p a u es k
 bounded p a u [] k f h l = absurd (omega arith)
 bounded p a u (e ∷ es) zero f h l =
@@ -91,11 +91,14 @@ bounded p a u (e ∷ es) (suc k) f h l =
       )) (omega arith),
     )
 
+-- a passed entry of a valid list
+pub passed_bounded : (es : List LeapSecond) (u : ℤ) (k : ℕ) → AreLeapSeconds es → k < passed_count es u → Bounded (pos 0) (pos 0) u es k
+passed_bounded es u k valid h = bounded _ (pos 0) u es k (follow es valid) (λ d l. let f = (valid.first d l).since_epoch in omega linear) h
+
 pub leap_times_answer : (es : List LeapSecond) (u : ℤ) → AreLeapSeconds es → neg_ℤ (pos 10_000_000_000_000) ≤ℤ u
     → u ≤ℤ pos 10_000_000_000_000 → IsLeapTimeRefused es u → ⊥
 leap_times_answer es u valid low high r =
-    let b = bounded _ (pos 0) u es _ (follow es valid) (λ d l. let f = (valid.first d l).since_epoch in omega linear) r.passed in
-    grind arith
+    let b = passed_bounded es u _ valid r.passed in grind arith
 
 -- the passed entries are those whose thresholds are not above u
 pub record Split (p u : ℤ) (es : List LeapSecond) (k : ℕ) : Type 0 where

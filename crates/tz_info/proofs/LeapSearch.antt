@@ -2,9 +2,9 @@
 use Rattle.std.proofs.lemmas.Int.{clamps}
 use Rattle.std.specs.{Int.{int_min, saturate_signed}, List.Sorted.{IsPartitionedBy}}
 use Rattle.tz_info.proofs.{
-  LeapEntries.{follow, threshold, threshold_at},
-  LeapOrder.{bounded, split},
-  LeapStarts.{correction_behind, passed_at_most, times_rise},
+  LeapEntries.{follow, threshold, threshold_at, times_rise},
+  LeapOrder.{passed_bounded, split},
+  LeapStarts.{correction_behind, passed_at_most, passed_when},
   Prefixes.{last_taken},
   Words.{AreLeapSeconds, IsLeapTime, LeapSecond, List, SFits, [], arith, by_lt_z, cases_lt, corrections, get_or, inl, inr, int_le, int_lt, le_is, le_true},
   Words.{length, linear, mapped_at, passed_count, pos, refl, suc, true, w64, zero, ℕ, ℤ, ◌+ℤ◌, ◌+◌, ◌-ℤ◌, ◌<ℤ◌, ◌<◌, ◌↔◌, ◌∷◌, ◌≡◌, ◌≤ℤ◌, ◌≤◌},
@@ -36,14 +36,7 @@ by_saturated l s r fits some e p = grind (linear, le_saturated, fits, some, le_t
 pub passed_here : (es : List LeapSecond) (u v : ℤ) (k : ℕ) (d : LeapSecond) → AreLeapSeconds es → k < length es → v ≡ correction_behind es k
     → (int_le (get_or es k d).unix_leap_time (u +ℤ v) ≡ true) ↔ (k < passed_count es u)
 passed_here es u v k d valid h e =
-    let s = split (pos 0) u es k (follow es valid) h in
-    let t = threshold_at (pos 0) es k d (pos 0) h in (
-      λ come. elim (cases_lt k (passed_count es u)) [
-        | inl l ↦ l
-        | inr m ↦ omega linear
-      ],
-      λ l. le_true _ (u +ℤ v) (omega linear),
-    )
+    let p = passed_when es d valid u k h in (λ come. p.1 (omega linear), λ l. le_true _ (u +ℤ v) (let q = p.0 l in omega linear))
 
 -- a leap time of a second of 64 bits is one of 64 bits
 pub leap_time_fits : (es : List LeapSecond) (u x : ℤ) → SFits w64 u → IsLeapTime es u x → SFits w64 x
@@ -102,7 +95,7 @@ last_with_leap_time es _ _ valid r e = record {
     fits = λ k l.
         let m = passed_at_most es u in
         let t = (split _ u es k (follow es valid) (omega arith)).passed l in
-        let b = bounded _ (pos 0) u es k (follow es valid) (λ d n. let f = (valid.first d n).since_epoch in omega linear) l in
+        let b = passed_bounded es u k valid l in
         by_lt_z (u +ℤ get_or (corrections es) k (pos 0)) (pos 9_223_372_036_854_775_808)
         (λ within. omega linear)
         (λ beyond. let o = r.only u k (omega arith) (t, beyond) in omega linear);

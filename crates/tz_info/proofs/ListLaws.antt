@@ -1,6 +1,6 @@
 -- Values by places.
 use Rattle.std.proofs.lemmas.Bool.{and_right}
-use Rattle.tz_info.proofs.Words.{Bool, Err, Error, List, Ok, Result, all_below, and_parts, arith, cases_lt, false, inl, inr, suc, sym, true, values_below, zero}
+use Rattle.tz_info.proofs.Words.{Bool, Err, Error, List, Ok, Result, all_below, and_parts, arith, cases_lt, false, inl, inr, suc, true, values_below, zero}
 use Rattle.tz_info.proofs.Words.{ℕ, ◌<◌, ◌≡◌}
 
 -- the first error is that of all

@@ -3,13 +3,13 @@ use Rattle.std.proofs.lemmas.Bool.Decides.{Decides-like}
 use Rattle.tz_info.proofs.{
   RuleDays.{day_within},
   Words.{Alternate, Bool, DayTime, Decides, Decides-or, IsAlternateRule, IsDstAt, IsInSomeYear, IsRuleDay, IsWithinDay, IsWithinWeek, IsYearOf, arith, by_lt_z},
-  Words.{cond, days_at_least, end_in, floors, inl, inr, int_le, is_between, is_dst_by_one, is_in_three, linear, moment, neg_ℤ, not, pos, refl, start_in},
+  Words.{cond, days_at_least, end_in, floors, inl, inr, int_le, is_between, is_dst_by_one, is_in_three, linear, moment, neg_ℤ, new_year, not, pos, refl, start_in},
   Words.{starts_rise, true, year_start, year_step, ℤ, ⊎_elim, ◌*ℤ◌, ◌+ℤ◌, ◌-ℤ◌, ◌<ℤ◌, ◌≡◌, ◌≤ℤ◌, ◌⊎◌},
 }
 
 -- the moments of each year lie less than eight days outside of it
 pub record IsNear (moments : ℤ → ℤ) : Type 0 where
-  pub low : (year : ℤ) → (pos 86_400 *ℤ year_start year -ℤ pos 691_198) ≤ℤ moments year
+  pub low : (year : ℤ) → (new_year year -ℤ pos 691_198) ≤ℤ moments year
   pub high : (year : ℤ) → moments year ≤ℤ (pos 86_400 *ℤ (year_start year +ℤ pos 365) +ℤ pos 691_198)
 
 pub near_years : (t : DayTime) (offset : ℤ) → IsRuleDay t.day → IsWithinWeek t.time → IsWithinDay offset → IsNear (moment t offset)
@@ -37,10 +37,10 @@ pub two_years_after : (a b : ℤ) → (a +ℤ pos 1) <ℤ b → (year_start a +�
 two_years_after a b h = let step = year_after a (a +ℤ pos 1) in let next = year_after (a +ℤ pos 1) b in grind (linear, floors)
 
 -- a second of the year comes from the year's first day on, and before the next year
-pub second_low : (u year : ℤ) → IsYearOf u year → (pos 86_400 *ℤ year_start year) ≤ℤ u
+pub second_low : (u year : ℤ) → IsYearOf u year → new_year year ≤ℤ u
 second_low u _ h = omega (arith, floors)
 
-pub second_high : (u year : ℤ) → IsYearOf u year → u <ℤ (pos 86_400 *ℤ year_start (year +ℤ pos 1))
+pub second_high : (u year : ℤ) → IsYearOf u year → u <ℤ new_year (year +ℤ pos 1)
 second_high u _ h = omega (arith, floors)
 
 pub not_earlier : (lasts : ℤ → ℤ) (u year other : ℤ) → IsNear lasts → IsYearOf u year → u <ℤ lasts other → (year -ℤ pos 1) ≤ℤ other
@@ -83,7 +83,7 @@ by_three firsts lasts year u near_first near_last of_second = Decides-like _
 
 -- the moments of each year keep that margin from its ends
 pub record KeepsMargin (moments : ℤ → ℤ) (margin : ℤ) : Type 0 where
-  pub low : (year : ℤ) → (pos 86_400 *ℤ year_start year +ℤ margin) ≤ℤ moments year
+  pub low : (year : ℤ) → (new_year year +ℤ margin) ≤ℤ moments year
   pub high : (year : ℤ) → moments year ≤ℤ (pos 86_400 *ℤ (year_start year +ℤ pos 365) -ℤ margin)
 
 pub near_margin : (moments : ℤ → ℤ) → IsNear moments → KeepsMargin moments (neg_ℤ (pos 691_200))
@@ -92,7 +92,7 @@ near_margin _ near = grind arith
 -- the second lies no further outside the year than its neighbours' moments lie inside theirs
 abbrev pub IsBeside : ℤ → ℤ → ℤ → Type 0
 IsBeside margin year u =
-    ((pos 86_400 *ℤ year_start year -ℤ margin) ≤ℤ u) × (u <ℤ (pos 86_400 *ℤ (year_start year +ℤ pos 365) +ℤ margin))
+    ((new_year year -ℤ margin) ≤ℤ u) × (u <ℤ (pos 86_400 *ℤ (year_start year +ℤ pos 365) +ℤ margin))
 
 -- there only the year's own moments can enclose it
 own_year : (firsts lasts : ℤ → ℤ) (margin year u other : ℤ) → KeepsMargin firsts margin → KeepsMargin lasts margin → IsBeside margin year u → firsts other ≤ℤ u

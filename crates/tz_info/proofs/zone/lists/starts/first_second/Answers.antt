@@ -1,7 +1,7 @@
 use Rattle.tz_info.proofs.{
-  LeapStarts.{both_ways, reached_first},
+  LeapSearch.{since_epoch},
+  LeapStarts.{both_ways, reached_first, reached_later},
   Words.{HaveCome, LeapSecond, SFits, arith, get_or, linear, pos, rules, to_z-of_z, w128, w32, w64, ℤ, ◌-ℤ◌, ◌-◌, ◌↔◌, ◌≤ℤ◌},
-  ZoneChanges.{entry_late, reached_exactly},
   zone.lists.starts.first_second.Goals.{After-later_second},
 }
 use Rattle.tz_info.proofs.zone.lists.starts.first_second.Goals as goal
@@ -38,10 +38,10 @@ latest c =
 pub returns : goal.returns
 returns c =
     let (fl, come, is) = latest (goal.at.returns c).After-later_second in
-    let late = entry_late _ (c.entries_come-come.result - 1) none c.requires (omega arith) in
+    let late = since_epoch _ (c.entries_come-come.result - 1) none c.requires (omega arith) in
     let least = ((is c.later_second.result).0 (omega linear)).0 in
     simp to_z-of_z (record {
-      reached = λ u y l. both_ways (reached_exactly _ _ u y _ _ _ _ c.requires come (omega arith)
-          c.correction_after.ensures c.correction_after-2.ensures l) (is u);
+      reached = λ u y l. both_ways (rw (← c.correction_after.ensures, ← c.correction_after-2.ensures)
+          at (reached_later _ none c.requires _ u y _ come (omega arith) l)) (is u);
       bound = omega linear;
     })
