@@ -5,13 +5,11 @@ use Rattle.tz_info.proofs.{
   SegmentLaws.{begin_first, begin_next, come_at_time, come_by_time, come_from, not_later, place_before, place_begin, place_most, places_rise, segment_most},
   SegmentLaws.{split_at, split_count},
   TableSearch.{search_found},
-  Words.{AreLeapSeconds, AreRising, Bool, Change, Counts, HasNoChange, HasType, IsBeforeLast, IsChange, IsFirst, IsFirstChange, IsInTable},
-  Words.{IsAhead, IsLast, IsLastChange, IsLastOf, IsNearestChange, Precedes, IsLeapTime, IsNear, IsSpanAt, IsTrue, IsValid, LeapSecond, List, LocalType},
-  Words.{MatchOption},
-  Words.{None, Option, RoseWithin, SFits, Some, Transition, TypeAt, Zone, ap, arith},
-  Words.{begin_of, true, index_at, cases_lt, correction_at, digits, digits-more, false, get_or, index_of, inl, inr, leap_time_at, length, length-take},
-  Words.{linear, passed, pos, refl, segment_of, slice_get, suc, sym, take, w64, zero, ℕ, ℤ, ◌+ℤ◌, ◌+◌, ◌-ℤ◌, ◌-◌, ◌<ℤ◌, ◌<◌, ◌==◌, ◌↔◌, ◌∙◌, ◌≡◌},
-  Words.{◌≤ℤ◌, ◌≤◌},
+  Words.{AreLeapSeconds, AreRising, Bool, Change, Counts, HasNoChange, HasType, IsBeforeLast, IsChange, IsFirst, IsFirstChange, IsInTable, IsAhead, IsLast},
+  Words.{IsLastChange, IsLastOf, IsNearestChange, Precedes, IsLeapTime, IsNear, IsSpanAt, IsTrue, IsValid, LeapSecond, List, LocalType, MatchOption, None},
+  Words.{Option, RoseWithin, SFits, Some, Transition, TypeAt, Zone, ap, arith, begin_of, true, index_at, cases_lt, correction_at, digits, digits-le},
+  Words.{digits-more, false, get_or, index_of, inl, inr, leap_time_at, length, length-take, linear, passed, pos, refl, segment_of, slice_get, suc, sym, take},
+  Words.{w64, zero, ℕ, ℤ, ◌+ℤ◌, ◌+◌, ◌-ℤ◌, ◌-◌, ◌<ℤ◌, ◌<◌, ◌==◌, ◌↔◌, ◌∙◌, ◌≡◌, ◌≤ℤ◌, ◌≤◌},
   ZoneChanges.{out_before, out_from, refused_on, time_of},
   ZoneLaws.{before_or_from_last, inside_listed, last_index_below, leap_time_decided},
 }
@@ -19,6 +17,8 @@ use Rattle.tz_info.specs.{
   Steps.Entries.{AreEntries, Entries, HaveComeAt, IsBetween, IsCome, IsEntryChange, last_index, most_looks},
   declared.zone.made.change_table.{Between.{Between}, Come.{Come}},
 }
+
+pub ruleset few_digits = digits-le
 
 abbrev count_at : Entries → ℤ → ℕ
 count_at e u = length (passed e.items u)
@@ -140,8 +140,7 @@ module _ (z : Zone) (e : Entries) (valid : IsValid z) (made : AreEntries z e) wh
   amid_type u n t fits some count more h =
       let l = time_of z u t some h in
       let last = made.come u h.leap_time fits l in
-      let most = place_most z.transitions h.leap_time valid.transitions.rising in
-      sym (type_here u _ n fits l count) ∙ h.in_force.before_last (grind arith)
+      sym (type_here u _ n fits l count) ∙ h.in_force.before_last (grind (arith, place_most))
 
   -- a change before the last transition comes with an entry
   table_change : (d : Change) → IsChange (TypeAt z) d → segment_of z (d.at -ℤ pos 1) < length z.transitions
@@ -191,9 +190,7 @@ module _ (z : Zone) (e : Entries) (valid : IsValid z) (made : AreEntries z e) wh
       let l = time_of z _ _ (omega arith) is.before in
       let n : count_at e (c.at -ℤ pos 1) ≡ k = rw at (count_before k h) in
       let last = made.come (c.at -ℤ pos 1) is.before.leap_time is.fits_before l in
-      let seg = come_at_time z (c.at -ℤ pos 1) is.before.leap_time l in
-      let most = segment_most z (c.at -ℤ pos 1) valid.transitions.rising in
-      grind arith
+      let seg = come_at_time z (c.at -ℤ pos 1) is.before.leap_time l in grind (arith, segment_most)
 
   -- ---- the nearest change of the table
   found : (w : Bool) (s : ℤ) (k : ℕ) (c : Change) → k < length e.items → IsChange (TypeAt z) c → c.at ≡ time_at e k → IsAhead w s c.at
@@ -294,7 +291,7 @@ pub index_below : (z : Zone) (e : Entries) (k : ℕ) → IsValid z → AreEntrie
 index_below z e k valid made h = index_within _ e.items k valid.some made.indexes h
 
 pub index_between : (z : Zone) (e : Entries) (u : ℤ) (b : Between) → IsValid z → AreEntries z e → IsBetween e u b → b.index < length z.types
-index_between z e u b valid made h = rw h.index (index_below z e _ valid made (omega arith))
+index_between z e u b valid made h = grind (arith, index_below)
 
 -- the second of which they are asked is one of them
 pub inside_between : (z : Zone) (e : Entries) (u : ℤ) (b : Between) → AreEntries z e → IsBetween e u b → SFits w64 u → (b.from ≤ℤ u) × (u <ℤ b.until)

@@ -3,12 +3,12 @@ use Rattle.std.proofs.{lemmas.{List.{take-append-le, Elements.{filter-append}}, 
 use Rattle.std.specs.Prelude.{option_to_list}
 use Rattle.tz_info.proofs.{
   LeapSearch.{own_leap_time},
-  Prefixes.{index_within, last_taken},
+  Prefixes.{index_within},
   SegmentLaws.{come_by_time, index_next, not_later, place_most},
   Words.{All, All-push, AreLeapSeconds, AreRising, IsFromLast, IsLeapTime, IsLeapTimeRefused, IsValid, LeapSecond, List, None, Option, Some, Transition, Zone},
-  Words.{[], all_pairs_push, ap, append-nil, arith, by_lt_z, cases_lt, get_or, get_or_append_left, get_or_default, get_or_push, index_of, inl, inr},
-  Words.{last_else, le_false, le_true, length, length_push, linear, map, nat_tests, passed, pos, refl, slice_get, slice_get-get_or, suc, sym, take},
-  Words.{take_all, take_more, zero, ℕ, ℤ, ◌++◌, ◌+◌, ◌-◌, ◌<ℤ◌, ◌<◌, ◌==◌, ◌↔◌, ◌∙◌, ◌∷◌, ◌≡◌, ◌≢◌, ◌≤ℤ◌, ◌≤◌, ◌⊎◌},
+  Words.{[], all_pairs_push, ap, append-nil, arith, by_lt_z, cases_lt, get_or, get_or_append_left, get_or_default, get_or_push, index_of, inl, inr, last_else},
+  Words.{le_false, le_true, length, length_push, linear, map, nat_tests, passed, pos, refl, slice_get, slice_get-get_or, suc, sym, take, take_all, take_more},
+  Words.{zero, ℕ, ℤ, ◌++◌, ◌+◌, ◌-◌, ◌<ℤ◌, ◌<◌, ◌==◌, ◌↔◌, ◌∙◌, ◌∷◌, ◌≡◌, ◌≢◌, ◌≤ℤ◌, ◌≤◌, ◌⊎◌},
   ZoneChanges.{refused_on},
 }
 use Rattle.tz_info.specs.Transitions.{NameTypes}
@@ -90,12 +90,9 @@ kept_all P entries kept s before all j d l =
 kept_earlier : (entries kept : List Transition) (s : ℤ) → AreRising entries → All (λ t. t.unix_leap_time ≤ℤ s) entries → AreBefore entries s kept
     → All (λ t. t.unix_leap_time <ℤ s) kept
 kept_earlier entries kept s rising until (none_there e other) = rw e (λ j d h.
-    let here = until j d h in
-    let last = until (length entries - 1) d (omega arith) in
-    by_lt_z _ s (λ q. q) (λ q. absurd (elim (cases_lt (j + 1) (length entries)) [
-      | inl m ↦ let r = rising j (length entries - 1) d (omega arith) (omega arith) in omega linear
-      | inr m ↦ other (get_or entries j d, grind (arith, slice_get-get_or), omega linear)
-    ])))
+    let last = until (length entries - 1) d in
+    let r = rising j (length entries - 1) d in
+    by_lt_z _ s (λ q. q) (λ q. absurd (other (get_or entries j d, grind (linear, slice_get-get_or), let here = until j d h in omega linear))))
 kept_earlier entries kept s rising until (one_there t e at) = λ j d h.
     let r = rw e at rising j (length kept) d h in grind (linear, get_or_append_left, get_or_push, length_push)
 
@@ -113,12 +110,10 @@ module _ (z : Zone) (old kept entries : List Transition) (k : ℕ) (s : ℤ) (t 
   earlier : All (λ e. e.unix_leap_time <ℤ s) kept
   earlier = kept_earlier old kept s h.made.rising (λ j d l.
       let (y, time) = h.start.leap_time in
-      let come = (h.start.reached s y time).1 (omega linear) in
       let (a, i, below, own, start) = h.made.own j d l in
       let r = h.valid.transitions.rising i k a below h.more in
-      let g = ap (λ (b : Transition). b.unix_leap_time) (own ∙ refl) in
-      let f = ap (λ (b : Transition). b.unix_leap_time) (get_or_default z.transitions k a t h.more ∙ sym h.item) in
-      (start.reached s y time).0 (omega linear)) h.before
+      let b = start.reached s y time in
+      let c = h.start.reached s y time in grind (linear, get_or_default)) h.before
 
   keep : AreKept old kept s
   keep = kept_of old kept s h.before
@@ -221,15 +216,11 @@ module _ (z : Zone) (entries : List Transition) (k all : ℕ) (valid : IsValid z
       some = ((λ h. omega arith), (λ h. omega arith));
       named = λ u x f l. rw (passed_first z.transitions k x (λ i d low h.
           let late = never u x f l in
-          let g = ap (λ (b : Transition). b.unix_leap_time) (get_or_default z.transitions k d t more ∙ sym item) in
-          let n = not_later z.transitions k i d valid.transitions.rising low h in omega linear)) (made.named u x l);
-      come = λ u x f l. (
-        λ come.
-            let late = never u x f l in
-            let c = (come_by_time z.transitions x k t valid.transitions.rising more).0 (omega arith) in
-            let g = ap (λ (b : Transition). b.unix_leap_time) item in omega linear,
-        λ come. let m = place_most entries u made.rising in omega arith,
-      );
+          let n = not_later z.transitions k i d valid.transitions.rising low h in grind (linear, get_or_default))) (made.named u x l);
+      come = λ u x f l.
+          let late = never u x f l in
+          let c = come_by_time z.transitions x k t valid.transitions.rising more in
+          let m = place_most entries u made.rising in grind linear;
       leap_time = λ j d h. (made.own j d h).4.leap_time;
       differ = λ j h m. made.differ j h (inr more);
     }
@@ -265,7 +256,7 @@ own_entries z valid none differ = record {
 -- ---- the second at which a transition comes
 pub never_then : (leaps : List LeapSecond) (x start : ℤ) → ((u y : ℤ) → IsLeapTime leaps u y → (x ≤ℤ y) ↔ (start ≤ℤ u))
     → pos 9_223_372_036_854_775_807 <ℤ start → NeverComes leaps x
-never_then leaps x start reached late u y f l = by_lt_z y x (λ h. h) (λ h. let a = (reached u y l).0 h in absurd (omega linear))
+never_then leaps x start reached late u y f l = let a = reached u y l in grind linear
 
 pub never_refused : (leaps : List LeapSecond) (x start : ℤ) → AreLeapSeconds leaps → ((u y : ℤ) → IsLeapTime leaps u y → (x ≤ℤ y) ↔ (start ≤ℤ u))
     → IsLeapTimeRefused leaps start
@@ -277,7 +268,7 @@ never_refused leaps x start valid reached refused u y f l =
 pub popped : (entries kept : List Transition) (r : Option Transition) (second : ℤ) → EndsAt entries second → entries ≡ kept ++ option_to_list r
     → ((d : Transition) → 0 < length entries → r ≡ Some (get_or entries (length entries - 1) d)) → AreBefore entries second kept
 popped entries kept None second (t, is, at) e value =
-    absurd (let some = slice_get_within entries (length entries - 1) t is in let v = value t (omega arith) in cc)
+    let some = slice_get_within entries (length entries - 1) t is in let v = value t (omega arith) in absurd cc
 popped entries kept (Some r) second (t, is, at) e value =
     let some = slice_get_within entries (length entries - 1) t is in
     let v = value t (omega arith) in
@@ -287,9 +278,8 @@ popped entries kept (Some r) second (t, is, at) e value =
 pub last_item : (entries : List Transition) (t : Transition) → 0 < length entries → t ≡ get_or entries (length entries - 1) t
     → t.type_index ≡ last_index entries
 last_item entries t some item =
-    let n : suc (length entries - 1) ≡ length entries = omega arith in
-    let e = last_taken (λ (a : Transition). a.type_index) 0 entries (length entries - 1) t (omega arith) in
-    ap (λ (a : Transition). a.type_index) item ∙ sym e ∙ ap (λ (a : List Transition). last_index a) (take_all (suc (length entries - 1)) entries (omega arith))
+    let n : length entries - 1 + 1 ≡ length entries = omega arith in
+    sym (rw (n, take_all (length entries) entries (omega arith), ← item) at (index_next entries (length entries - 1) t (omega arith)))
 
 pub last_below : (entries : List Transition) (n : ℕ) → 0 < n
     → NameTypes n entries → last_index entries < n

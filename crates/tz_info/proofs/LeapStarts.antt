@@ -5,8 +5,8 @@ use Rattle.tz_info.proofs.{
   LeapOrder.{split},
   Prefixes.{last_taken},
   Words.{AreLeapSeconds, HaveCome, IsLeapTime, IsNear, IsOneStep, LeapSecond, List, [], arith, by_lt_z, cases_lt, corrections, count_by-le-length, get_or, inl},
-  Words.{inr, int_le, last_else, length, linear, passed_count, pos, saturate_signed, suc, take, thresholds, w64, zero, ℕ, ℤ, ◌+ℤ◌, ◌-ℤ◌, ◌-◌, ◌<ℤ◌, ◌<◌},
-  Words.{◌↔◌, ◌∷◌, ◌≡◌, ◌≤ℤ◌, ◌≤◌},
+  Words.{inr, int_le, last_else, length, linear, passed_count, pos, saturate_signed, suc, take, thresholds, w64, zero, ℕ, ℤ, ◌+ℤ◌, ◌-ℤ◌, ◌-◌, ◌<ℤ◌, ◌<◌, ◌↔◌},
+  Words.{◌∷◌, ◌≡◌, ◌≤ℤ◌, ◌≤◌},
 }
 
 -- the correction in force after the first k entries

@@ -3,8 +3,8 @@ use Rattle.tz_info.proofs.{
   ChangeLaws.{one_change},
   SegmentLaws.{come_at_time, segment_most},
   Words.{Alternate as AlternateRule, AlternateAt, Bool, Change, IsBegin, IsChange, IsFirstChange, IsLastChange, IsNearestOffsetChange, IsOffsetChange, IsValid},
-  Words.{KeepsOffset, LocalType, SFits, Some, TypeAt, Zone, ap, by_lt_z, false, length, linear, pos, refl, segment_of, sym, true},
-  Words.{type_when, w64, ℤ, ◌-ℤ◌, ◌<ℤ◌, ◌∙◌, ◌≡◌, ◌≤ℤ◌},
+  Words.{KeepsOffset, LocalType, SFits, Some, TypeAt, Zone, ap, by_lt_z, false, length, linear, pos, refl, segment_of, sym, true, type_when, w64, ℤ, ◌-ℤ◌},
+  Words.{◌<ℤ◌, ◌∙◌, ◌≡◌, ◌≤ℤ◌},
   ZoneChanges.{last_too, time_of, to_rule},
 }
 use Rattle.tz_info.specs.declared.rule.transition_rule.TransitionRule.TheVariants.{Alternate}

@@ -1,4 +1,4 @@
-use Rattle.tz_info.proofs.{LeapSearch.AreRefusedFrom, LeapStarts.correction_behind}
+use Rattle.tz_info.proofs.{LeapSearch.AreRefusedFrom, LeapStarts.correction_behind, Words.◌≡◌}
 use Rattle.tz_info.proofs.zone.lists.leap_seconds.last_with_leap_time.Given as goal
 
 abbrev pub invariant-loop-entry : goal.invariant-loop-entry

@@ -5,9 +5,8 @@ pub returns-then-start : goal.returns-then-start
 returns-then-start c =
     let ft = c.ranges.time in
     let fs : SFits w128 c.first_second-start.result = search rules in
-    never_then c.args.leaps.now c.args.time c.first_second-start.result
-    (rw c.entries.ensures.entries at (simp to_z-of_z at c.first_second-start.ensures.reached))
-    (let late = simp to_z-of_z at c.if-start.true in omega (arith, ints))
+    let late = simp to_z-of_z at c.if-start.true in
+    never_then _ _ _ (rw c.entries.ensures.entries at (simp to_z-of_z at c.first_second-start.ensures.reached)) (omega (arith, ints))
 
 pub returns-then-has_leap_time : goal.returns-then-has_leap_time
 returns-then-has_leap_time c =
@@ -30,6 +29,6 @@ returns-else-has_leap_time c =
     let low = c.first_second-start.ensures.bound in
     let high = simp to_z-of_z at c.if-start.false in
     let f2 : SFits w64 c.first_second-start.result = omega (arith, ints) in
-    let refused = simp to_z-of_z at (c.has_leap_time.ensures.no c.if-has_leap_time.false) in
-    never_refused c.args.leaps.now c.args.time c.first_second-start.result c.entries.ensures.valid
-    (rw c.entries.ensures.entries at (simp to_z-of_z at c.first_second-start.ensures.reached)) refused
+    never_refused _ _ _ c.entries.ensures.valid
+    (rw c.entries.ensures.entries at (simp to_z-of_z at c.first_second-start.ensures.reached))
+    (simp to_z-of_z at (c.has_leap_time.ensures.no c.if-has_leap_time.false))

@@ -17,5 +17,4 @@ returns-clause-begun c = λ u fits.
     let same : k ≡ c.args.self.now.all = ap (λ e. e.all) c.self.view_is in
     let from = come_from ts k u c.requires.rising (omega arith) (omega arith) in
     let most = place_most ts u c.requires.rising in
-    let at = c.second.ensures none ∙ begin_at ts k none (omega arith) (omega arith) in
-    simp to_z-of_z (rw at ((λ e. from.0 (omega arith)), (λ h. omega arith)))
+    simp to_z-of_z (rw (c.second.ensures none ∙ begin_at ts k none (omega arith) (omega arith)) (grind arith))
