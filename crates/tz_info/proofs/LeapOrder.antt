@@ -5,7 +5,8 @@ use Rattle.tz_info.proofs.{
   Prefixes.{last_taken},
   Words.{AreCounted, AreLeapSeconds, IsLeapTime, IsLeapTimeRefused, IsUnixTime, LeapSecond, List, [], add-one, ap, arith, by_lt_z, cond, correction_at},
   Words.{corrections, count_by, count_by-le-length, filter, filter_first, get_or, inl, inr, int_le, int_lt, ints, last_else, le_false, le_true, length, linear},
-  Words.{mapped_at, neg_ℤ, passed_count, pos, refl, suc, sum_by-cons, sym, take, thresholds, zero, ℕ, ℤ, ◌*◌, ◌+ℤ◌, ◌-ℤ◌, ◌<ℤ◌, ◌<◌, ◌∙◌, ◌∷◌, ◌≡◌, ◌≤ℤ◌, ◌≤◌},
+  Words.{mapped_at, neg_ℤ, passed_count, pos, refl, suc, sum_by-cons, sym, take, thresholds, zero, ℕ, ℤ, ◌*◌, ◌+ℤ◌, ◌-ℤ◌, ◌<ℤ◌, ◌<◌, ◌↔◌, ◌∙◌, ◌∷◌, ◌≡◌, ◌≤ℤ◌},
+  Words.{◌≤◌},
 }
 
 -- how many entries after one of correction p are passed at u
@@ -101,21 +102,17 @@ leap_times_answer es u valid low high r =
     let b = passed_bounded es u _ valid r.passed in grind arith
 
 -- the passed entries are those whose thresholds are not above u
-pub record Split (p u : ℤ) (es : List LeapSecond) (k : ℕ) : Type 0 where
-  pub passed : k < counted_from p es u → get_or (thresholds p es) k (pos 0) ≤ℤ u
-  pub not_passed : counted_from p es u ≤ k → u <ℤ get_or (thresholds p es) k (pos 0)
-
-pub split : (p u : ℤ) (es : List LeapSecond) (k : ℕ) → Follow p es → k < length es → Split p u es k
+pub split : (p u : ℤ) (es : List LeapSecond) (k : ℕ) → Follow p es → k < length es → (k < counted_from p es u) ↔ (get_or (thresholds p es) k (pos 0) ≤ℤ u)
 split p u [] k f h = absurd (omega arith)
 split p u (e ∷ es) zero f h = by_lt_z u (e.unix_leap_time -ℤ p)
-    (λ below. let z = none_counted p u _ f (λ d m. below) in record { passed = λ l. absurd (omega arith); not_passed = λ l. below })
-    (λ above. let c = counted p e es u above in record { passed = λ l. above; not_passed = λ l. absurd (omega arith) })
+    (λ below. let z = none_counted p u _ f (λ d m. below) in (λ l. absurd (omega arith), λ l. absurd (omega linear)))
+    (λ above. let c = counted p e es u above in (λ l. above, λ l. omega arith))
 split p u (e ∷ es) (suc k) f h =
     let r = split _ u es k (follow_tail p e es f) (omega arith) in
     by_lt_z u (e.unix_leap_time -ℤ p)
     (λ below.
     let c = not_counted p e es u below in let z = none_counted p u _ f (λ d m. below) in
-    record { passed = λ l. omega arith; not_passed = λ l. r.not_passed (omega arith) })
+    (λ l. absurd (omega arith), λ l. let q = r.1 l in absurd (omega arith)))
     (λ above. grind (arith, counted))
 
 -- the correction of the last of the first k entries is k
@@ -135,9 +132,9 @@ leap_time_undone es u x v valid c a b =
     let f : filter (λ (e : LeapSecond). int_lt e.unix_leap_time x) es ≡ take n es =
     filter_first (λ (e : LeapSecond). int_lt e.unix_leap_time x) es n (omega arith)
     (λ k d j.
-    let t = (split _ u es k (follow es valid) (omega arith)).passed j in
+    let t = (split _ u es k (follow es valid) (omega arith)).0 j in
     let w = threshold_at (pos 0) es k d (pos 0) (omega arith) in grind (linear, counted_correction))
     (λ k d j i.
-    let t = (split (pos 0) u es k (follow es valid) i).not_passed j in
+    let t = split (pos 0) u es k (follow es valid) i in
     let w = threshold_at (pos 0) es k d (pos 0) i in grind (linear, counted_correction)) in
     grind arith

@@ -94,7 +94,7 @@ last_with_leap_time es _ _ valid r e = record {
     sum = refl;
     fits = λ k l.
         let m = passed_at_most es u in
-        let t = (split _ u es k (follow es valid) (omega arith)).passed l in
+        let t = (split _ u es k (follow es valid) (omega arith)).0 l in
         let b = passed_bounded es u k valid l in
         by_lt_z (u +ℤ get_or (corrections es) k (pos 0)) (pos 9_223_372_036_854_775_808)
         (λ within. omega linear)
@@ -104,10 +104,7 @@ last_with_leap_time es _ _ valid r e = record {
       let (j, less, is) = r.some u (omega linear) (omega linear) in
       record {
         place = j;
-        passed = elim (cases_lt j (passed_count es u)) [
-          | inl b ↦ b
-          | inr m ↦ let n = (split _ u es j (follow es valid) less).not_passed m in omega linear
-        ];
+        passed = (split _ u es j (follow es valid) less).1 is.0;
         leaves = λ f. omega linear;
       };
 }
