@@ -30,7 +30,7 @@ at_front : (c : Change) (cs : List Change) → Contains (c ∷ cs) c
 at_front c cs = (0, omega arith, refl)
 
 later : (c d : Change) (cs : List Change) → Rise (c ∷ cs) → Contains cs d → c.at <ℤ d.at
-later c d cs rise h = subst (λ x. c.at <ℤ x.at) h.2 (rise 0 (suc h.0) d (omega arith) (omega arith))
+later c d cs rise h = rw h.2 at (rise 0 (suc h.0) d (omega arith) (omega arith))
 
 not_before : (c d : Change) (cs : List Change) → Rise (c ∷ cs) → Contains (c ∷ cs) d → c.at ≤ℤ d.at
 not_before c d cs rise (zero, l, same) = grind linear
@@ -43,7 +43,7 @@ rest_rises c cs rise = λ i j d l m. rise (suc i) (suc j) d (omega arith) (omega
 rest_same : (c : Change) (cs ds : List Change) → Rise (c ∷ cs) → ((x : Change) → Contains (c ∷ cs) x → Contains (c ∷ ds) x) → (x : Change)
     → Contains cs x → Contains ds x
 rest_same c cs ds rise same x h = Contains-tail c ds x
-    (λ e. let l = subst (λ y. c.at <ℤ y.at) (sym e) (later c x cs rise h) in omega linear)
+    (λ e. let l = later c x cs rise h in absurd (grind linear))
     (same x (Contains-append_right (c ∷ []) cs x h))
 
 one_list : (z : Zone) (a b : List Change) → Rise a → Rise b → ((c : Change) → Contains a c → IsChange (TypeAt z) c × Contains b c)
@@ -73,13 +73,10 @@ pub front_is_first : (z : Zone) (from until : ℤ) (c : Change) (cs : List Chang
     → IsFirst (TypeAt z) (λ u. (from -ℤ pos 1) <ℤ u) (Some c)
 front_is_first z _ until c cs h =
     let here = (h.each c).0 (at_front c cs) in
-    let low = here.1.0 in
     record {
       is = here.0;
-      inside = omega (linear, low);
-      nearest = λ d is inside. by_lt_z {P = c.at ≤ℤ d.at} d.at until
-          (λ before. not_before c d cs h.rising ((h.each d).1 (is, (omega linear, before))))
-          (λ from_on. omega linear);
+      inside = grind linear;
+      nearest = λ d is inside. let m = not_before c d cs h.rising in let e = h.each d in grind linear;
     }
 
 -- ---- the type before a gap
@@ -88,4 +85,4 @@ one_type_before_gap z l s t a b =
     let less = a.least _ b.more in
     let more = b.least _ a.more in
     let same : a.first ≡ b.first = omega linear in
-    type_once z _ s t (subst (λ u. TypeAt z (u -ℤ pos 1) s) same a.before) b.before
+    type_once z _ s t (rw same at a.before) b.before

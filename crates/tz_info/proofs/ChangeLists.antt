@@ -43,8 +43,8 @@ changes_made f types from zero once told = grind (linear, no_changes)
 changes_made f types from (suc n) once told =
     let last = from +ℤ pos n in
     let earlier = changes_made f _ from n once told in
-    let end : last +ℤ pos 1 ≡ from +ℤ pos (suc n) = omega linear in
-    subst (λ until. AreChanges f from until (changes_in types from n ++ change_here types last)) end (elim (here_listed f types last once told) [
+    let end : from +ℤ pos (suc n) ≡ last +ℤ pos 1 = omega linear in
+    rw end (elim (here_listed f types last once told) [
       | inl none ↦ rw none.0 (rw (append-nil (changes_in types from n)) (same_without f from last (changes_in types from n) none.1 earlier))
       | inr one ↦ rw one.1 (then_here f _ _ _ _ once one.2 one.3 (omega linear) earlier)
     ])
@@ -136,8 +136,7 @@ pub all_left : (s : Changes) (from until : ℤ) → IsValid s.zone.now → IsRul
 unfolding changes_left
 all_left s from until valid limits before end =
     let all = changes_are _ valid limits (s.after +ℤ pos 1) (s.last +ℤ pos 1) in
-    let same : (c : Change) → IsChange (TypeAt s.zone.now) c → IsFromUntil (s.after +ℤ pos 1) (s.last +ℤ pos 1) c.at ↔ IsFromUntil from until c.at =
-    λ c is. same_stretch _ _ _ _ _ (omega linear) before end in grind arith
+    let same = λ (c : Change) (is : IsChange (TypeAt s.zone.now) c). same_stretch _ _ _ _ c.at (omega linear) before end in grind arith
 
 -- without its last element a list is shorter
 pub shorter : (cs ds : List Change) (c : Change) → cs ≡ ds ++ c ∷ [] → length ds < length cs

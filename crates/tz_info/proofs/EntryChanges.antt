@@ -34,8 +34,7 @@ pub index_there : (e : Entries) (u : ℤ) → AreRising e.items → last_index (
 index_there e u rising =
     let p = split_at _ u rising in
     let n = split_count _ u p.0 p.1 in
-    let first : passed e.items u ≡ take (count_at e u) e.items = rw n (search_found _ u p.0 p.0 (omega arith) p.1) in
-    ap (λ (s : List Transition). last_index s) first
+    rw (n, search_found _ u p.0 p.0 (omega arith) p.1) refl
 
 -- n entries have come if the last of them has and the next one hasn't
 pub count_here : (ts : List Transition) (u : ℤ) (n : ℕ) → AreRising ts → n ≤ length ts → ((d : Transition) → 0 < n → (get_or ts (n - 1) d).unix_leap_time ≤ℤ u)
@@ -65,7 +64,7 @@ have_come z e u c valid made fits l come =
     let last = made.come u (leap_time_at z u) fits l in
     record {
       of_second = l;
-      all = ((λ t. last.1 (come.all.0 t)), (λ q. come.all.1 (last.0 q)));
+      all = grind arith;
       named = rw come.index (made.named u (leap_time_at z u) fits l);
       below = rw come.index (last_index_below _ u 0 _ valid.some made.indexes);
     }
@@ -151,11 +150,12 @@ module _ (z : Zone) (e : Entries) (valid : IsValid z) (made : AreEntries z e) wh
       let l = time_of z u _ (omega arith) is.before in
       let seg = come_at_time z u _ l in
       let last = made.come u is.before.leap_time is.fits_before l in
-      let most = place_most e.items d.at made.rising in
       let rise = places_rise e.items u d.at made.rising (omega linear) in
-      let amid : m < e.all = grind arith in
+      let amid : m < e.all = grind (arith, place_most) in
       elim (cases_lt m (count_at e d.at)) [
-        | inl b ↦ (m, omega arith, let a = come_by m d.at (omega arith) in let r = come_by m u (omega arith) in grind linear)
+        | inl b ↦
+            let most = place_most e.items d.at made.rising in
+            (m, omega arith, let a = come_by m d.at (omega arith) in let r = come_by m u (omega arith) in grind linear)
         | inr b ↦
             let s = amid_type u m d.before is.fits_before (omega arith) refl amid is.before in
             let t = amid_type d.at m d.after is.fits (omega arith) (omega arith) amid is.after in
@@ -218,10 +218,8 @@ module _ (z : Zone) (e : Entries) (valid : IsValid z) (made : AreEntries z e) wh
       let first = come_by k last (omega arith) in
       found false last k c (omega arith) is at (grind linear) (λ j d below is_d time earlier.
       let there = (come_by j last below).1 (omega linear) in
-      elim (cases_lt k j) [
-        | inl b ↦ absurd (idle j (omega arith) there d is_d time)
-        | inr m ↦ let r = not_later _ j k any made.rising m (omega arith) in omega linear
-      ])
+      let r = not_later e.items j k any made.rising in
+      elim (cases_lt k j) [ inl b ↦ absurd (idle j (omega arith) there d is_d time) | inr m ↦ grind linear ])
 
 -- ---- the next change of the table
 module _ (z : Zone) (e : Entries) (after : ℤ) where
@@ -265,10 +263,8 @@ module _ (z : Zone) (e : Entries) (last : ℤ) where
   previous_by_entry k None valid made come more idle least = previous_none valid made (λ j _ below d is time.
       let most = place_most e.items last made.rising in
       let own = least any in
-      elim (cases_lt k j) [
-        | inl b ↦ idle j (omega arith) below d is time
-        | inr m ↦ let r = not_later _ j k any made.rising m (omega arith) in omega linear
-      ])
+      let r = not_later e.items j k any made.rising in
+      elim (cases_lt k j) [ inl b ↦ idle j (omega arith) below d is time | inr m ↦ grind linear ])
   previous_by_entry k (Some c) valid made come more idle h = let most = place_most e.items last made.rising in
       previous_found z e valid made last k c come idle (entry_change z e valid made k c (omega arith) more h) (h.0 any)
 

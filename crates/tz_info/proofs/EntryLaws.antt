@@ -190,14 +190,16 @@ module _ (z : Zone) (old kept entries : List Transition) (k : ℕ) (s : ℤ) (t 
 -- ---- all transitions
 module _ (z : Zone) (entries : List Transition) (k all : ℕ) (valid : IsValid z) (made : AreMadeOf z entries k) where
   pub all_come : k ≡ length z.transitions → all ≡ length entries → AreEntries z (record { items = entries; all = all; transitions = z.transitions })
-  all_come e a = record {
+  all_come e a =
+      let few = made.few in
+      let some = made.some in record {
       listed = refl;
       rising = made.rising;
       indexes = made.indexes;
-      few = let n = made.few in omega arith;
+      few = omega arith;
       more = omega arith;
       most = omega arith;
-      some = ((λ h. let m = made.some (omega arith) e in omega arith), (λ h. let n = made.few in omega arith));
+      some = grind arith;
       named = λ u x f l. rw (take_all k z.transitions (omega arith)) at (made.named u x l);
       come = λ u x f. rw a (made.come e u x);
       leap_time = λ j d h. (made.own j d h).4.leap_time;

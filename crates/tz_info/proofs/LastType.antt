@@ -8,7 +8,7 @@ use Rattle.tz_info.proofs.{
 }
 
 some_last : (ts : List Transition) (last : Transition) → last_transition ts ≡ Some last → 0 < length ts
-some_last ts last is = let l = slice_get_within ts (length ts - 1) last is in omega arith
+some_last ts last is = grind (arith, slice_get_within)
 
 pub last_is : (ts : List Transition) (last : Transition) → last_transition ts ≡ Some last → get_or ts (length ts - 1) last ≡ last
 last_is ts last is = grind (arith, slice_get-get_or, some_last)
@@ -34,8 +34,6 @@ last_type z last u x t valid is unix time come has =
     let n = split_count ts x p.0 p.1 in
     let passed = (come_by_time ts x (length ts - 1) last rising (omega arith)).1 (rw e come) in
     let all : p.0 ≡ length ts = omega arith in
-    let between = rw all at p.1 in
-    let same : length ts ≡ (length ts - 1) + 1 = omega arith in
-    let index =
-    ap (λ k. index_of ts k) same ∙ index_next ts _ _ (omega arith) ∙ ap (λ d. d.type_index) e in
-    (type_in_from z u x t time between (rw index (said _ _ _ ts _ u t valid.agrees is unix has))).type
+    let same : length ts - 1 + 1 ≡ length ts = omega arith in
+    let index = rw (same, e) at (index_next ts (length ts - 1) last (omega arith)) in
+    (type_in_from z u x t time (rw all at p.1) (rw index (said _ _ _ ts _ u t valid.agrees is unix has))).type

@@ -70,7 +70,5 @@ module _ (es : List LeapSecond) (d : LeapSecond) (valid : AreLeapSeconds es) whe
         value = rw (add-one, last_taken (λ (e : LeapSecond). e.correction) _ es k d (omega arith));
         before = λ j f l.
             let r = times_rise j k (omega arith) (omega arith) in
-            let n = (valid.next k d (omega arith)).later in
-            let g = ap (λ (e : LeapSecond). e.unix_leap_time) (get_or_default es j f d (omega arith)) in
-            omega linear;
+            let n = (valid.next k d (omega arith)).later in grind (linear, get_or_default);
       }) (λ _. omega linear))

@@ -54,8 +54,8 @@ sums_rise p u v (e ∷ es) f h = by_lt_z u (e.unix_leap_time -ℤ p)
     let t = follow_tail p e es f in
     let r = sums_rise _ _ v es t above in
     let q = summed_none _ (e.unix_leap_time -ℤ p) es t (λ d l. let t = tail_later p e es f d l in omega linear) in
-    rw (summed_none p u _ f (λ d l. below), summed_counted p e es v above)
-    (elim (f.step e (omega arith)) [ inl k ↦ omega linear | inr k ↦ omega linear ])))
+    let s = f.step e (omega arith) in
+    rw (summed_none p u _ f (λ d l. below), summed_counted p e es v above) (grind linear)))
     (λ above. rw (summed_counted p e es u above, summed_counted p e es v (omega linear)) (sums_rise e.correction u v es (follow_tail p e es f) h))
 
 pub leap_sums_rise : (es : List LeapSecond) (u v : ℤ) → AreLeapSeconds es → u ≤ℤ v → (u +ℤ correction_at es u) ≤ℤ (v +ℤ correction_at es v)

@@ -73,8 +73,7 @@ pub record AreRefusedFrom (es : List LeapSecond) (k : ℕ) (refused : ℤ) : Typ
 -- with the entry at place k, which refuses from `by` on
 pub refused_more : (es : List LeapSecond) (k : ℕ) (old by new : ℤ) → AreRefusedFrom es k old → pos 4_611_686_018_427_387_904 ≤ℤ by
     → ((u : ℤ) → (by ≤ℤ u) ↔ Refuses es k u) → new ≡ int_min old by → AreRefusedFrom es (k + 1) new
-refused_more es k old by new r late refuses e =
-    record {
+refused_more es k old by new r late refuses e = record {
       late = omega (linear, clamps);
       most = omega (linear, clamps);
       some = λ u h l. by_lt_z u old
@@ -82,7 +81,7 @@ refused_more es k old by new r late refuses e =
           (λ from. let (j, less, is) = r.some u from l in (j, omega arith, is));
       only = λ u j less is. elim (cases_lt j k) [
         | inl b ↦ let o = r.only u j b is in omega (linear, clamps)
-        | inr m ↦ let same : j ≡ k = omega arith in let o = (refuses u).1 (rw same at is) in omega (linear, clamps)
+        | inr m ↦ let o = refuses u in grind (linear, clamps)
       ];
     }
 
@@ -96,9 +95,7 @@ last_with_leap_time es _ _ valid r e = record {
         let m = passed_at_most es u in
         let t = (split _ u es k (follow es valid) (omega arith)).0 l in
         let b = passed_bounded es u k valid l in
-        by_lt_z (u +ℤ get_or (corrections es) k (pos 0)) (pos 9_223_372_036_854_775_808)
-        (λ within. omega linear)
-        (λ beyond. let o = r.only u k (omega arith) (t, beyond) in omega linear);
+        let o = r.only u k (omega arith) in grind linear;
   };
   refused = λ u h l.
       let (j, less, is) = r.some u (omega linear) (omega linear) in

@@ -56,9 +56,7 @@ module _ (es : List LeapSecond) (d : LeapSecond) (valid : AreLeapSeconds es) whe
 
   -- and then x less the correction in force at x comes before u
   above_start : (x u : ℤ) (n : ℕ) → HaveCome es x n → n < passed_count es u → (x -ℤ correction_behind es n) ≤ℤ u
-  above_start x u n h more =
-      let m = passed_at_most es u in
-      let s = (passed_when u n (omega arith)).0 more in grind arith
+  above_start x u n h more = let m = passed_at_most es u in let p = passed_when u n in grind arith
 
   -- else at the later of two seconds: the one at which the latest entry is passed, and the one that its correction leads back to
   pub reached_later : (x u y : ℤ) (n : ℕ) → HaveCome es x n → 0 < n → IsLeapTime es u y
@@ -66,16 +64,10 @@ module _ (es : List LeapSecond) (d : LeapSecond) (valid : AreLeapSeconds es) whe
   reached_later x u y n h some l =
       let w = h.within in
       let p = passed_when u (n - 1) (omega arith) in
-      elim (cases_lt (passed_count es u) n) [
-        | inl less ↦ let b = below_law x u y n h l less in grind linear
-        | inr from ↦
-            elim (cases_lt n (passed_count es u)) [
-              | inl more ↦
-                  let a = above_law x u y n (passed_count es u - 1) h l (omega arith) (omega arith) in
-                  let b = above_start x u n h more in grind linear
-              | inr most ↦ let z : passed_count es u ≡ n = omega arith in grind linear
-            ]
-      ]
+      let b = below_law x u y n h l in
+      let a = above_law x u y n (passed_count es u - 1) h l in
+      let c = above_start x u n h in
+      elim (cases_lt n (passed_count es u)) [ inl more ↦ grind linear | inr most ↦ grind linear ]
 
 -- if none has come, the leap time is reached at the same number
 pub reached_first : (es : List LeapSecond) (x u y : ℤ) → AreLeapSeconds es → HaveCome es x 0 → IsLeapTime es u y → (x ≤ℤ y) ↔ (x ≤ℤ u)
@@ -84,8 +76,7 @@ reached_first es x u y valid h l = elim (cases_lt 0 (passed_count es u)) [
       let m = passed_at_most es u in
       let d = no_first es 0 (omega arith) in
       let a = above_law es d valid x u y 0 (passed_count es u - 1) h l (omega arith) (omega arith) in
-      let b = above_start es d valid x u 0 h more in
-      ((λ _. omega linear), (λ _. a))
+      let b = above_start es d valid x u 0 h more in grind linear
   | inr none ↦ grind arith
 ]
 

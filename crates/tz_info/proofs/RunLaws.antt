@@ -45,9 +45,8 @@ run_until z s at limit end near near_limit ahead here ends =
       most = by_lt_z limit end (λ l. let before = ((ends _).0 l).0 in omega linear) (λ l. l);
       same = λ u from until t k.
           let (before, within) = (ends u).0 until in
-          subst (TypeAt z u) (its t k)
-          (here.span.each u (record { fits = omega linear; since = since_more _ at u here.inside.since from; until = within }));
-      turns = λ less t k l. turned z _ limit end _ here.span.ends ends less (subst (TypeAt z end) (sym (its t k)) l);
+          rw (← its t k) (here.span.each u (record { fits = omega linear; since = since_more _ at u here.inside.since from; until = within }));
+      turns = λ less t k l. turned z _ limit end _ here.span.ends ends less (rw (← its t k) at l);
     }
 
 -- the first second of a near interval, or its last one, is near
