@@ -3,7 +3,7 @@ use Rattle.std.proofs.lemmas.Map.Made.{Contains-tail}
 use Rattle.tz_info.proofs.{
   ChangeSearch.{apart},
   Words.{AllPairs, AreChanges, Bool, Change, Contains, Contains-append_right, IsChange, IsFirst, IsNearest, IsTypeBeforeGap, List, LocalType, None, Option},
-  Words.{Precedes, Some, TypeAt, Zone, [], ap, arith, by_lt_z, false, linear, pos, refl, subst, suc, sym, true, zero, ℤ, ◌-ℤ◌, ◌<ℤ◌, ◌∷◌, ◌≡◌, ◌≤ℤ◌},
+  Words.{Precedes, Some, TypeAt, Zone, [], ap, arith, false, linear, pos, refl, subst, suc, sym, true, zero, ℤ, ◌-ℤ◌, ◌<ℤ◌, ◌∷◌, ◌≡◌, ◌≤ℤ◌},
   ZoneLaws.{type_once},
 }
 

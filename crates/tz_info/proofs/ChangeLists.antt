@@ -15,9 +15,6 @@ empty [] none = refl
 empty (c ∷ cs) none = absurd (none c (0, omega arith, refl))
 
 -- ---- how lists are made
-no_changes : (f : InForce) (from until : ℤ) → HasNoChange f (IsFromUntil from until) → AreChanges f from until []
-no_changes f _ _ none = grind arith
-
 -- a change at the last second comes after those before it
 then_here : (f : InForce) (from last : ℤ) (c : Change) (cs : List Change) → IsOnce f → IsChange f c → c.at ≡ last → from ≤ℤ last → AreChanges f from last cs
     → AreChanges f from (last +ℤ pos 1) (cs ++ c ∷ [])
@@ -39,7 +36,7 @@ same_without f _ _ cs none h = grind linear
 -- ---- the list that is made second by second
 changes_made : (f : InForce) (types : ℤ → Option LocalType) (from : ℤ) (n : ℕ) → IsOnce f → AreTypes f types
     → AreChanges f from (from +ℤ pos n) (changes_in types from n)
-changes_made f types from zero once told = grind (linear, no_changes)
+changes_made f types from zero once told = grind linear
 changes_made f types from (suc n) once told =
     let last = from +ℤ pos n in
     let earlier = changes_made f _ from n once told in
@@ -74,7 +71,7 @@ module _ (z : Zone) (valid : IsValid z) (limits : IsRuleOrNone z.rule) (from unt
       (λ less. subst (λ u. AreChanges (TypeAt z) from u (changes_in (type_or_none z) from (seconds_between from until)))
       (until_is from _ (omega linear))
       (changes_made _ _ _ _ (type_once z) (types_told z valid limits)))
-      (λ late. rw (none_between _ _ late) (no_changes _ _ _ (λ d is inside. omega linear)))
+      (λ late. rw (none_between _ _ late) (grind linear))
 
   none_left : HasNoChange (TypeAt z) (IsFromUntil from until) → changes_of z from until ≡ []
   none_left none = empty _ (λ c inside. let k = (changes_are.each c).0 inside in none c k.0 k.1)

@@ -3,7 +3,7 @@ use Rattle.std.proofs.lemmas.Option.{slice_get_within}
 use Rattle.tz_info.proofs.{
   SegmentLaws.{come_by_time, index_next, split_at, split_count, type_in_from},
   Words.{Agrees, HasType, IfSome, IsLeapTime, IsUnixTime, IsValid, LeapSecond, List, LocalType, None, Option, RuleOrElse, Some, Transition, TransitionRule},
-  Words.{TypeAt, Zone, ap, arith, get_or, index_of, last_transition, length, slice_get, slice_get-get_or, ℤ, ◌+◌, ◌-◌, ◌<◌, ◌∙◌, ◌≡◌, ◌≤ℤ◌},
+  Words.{TypeAt, Zone, arith, get_or, last_transition, length, slice_get, slice_get-get_or, ℤ, ◌+◌, ◌-◌, ◌<◌, ◌≡◌, ◌≤ℤ◌},
   ZoneLaws.{some_once},
 }
 

@@ -4,7 +4,7 @@ use Rattle.tz_info.proofs.{
   LeapEntries.{Follow, follow, follow_tail, threshold_apart, threshold_at, threshold_count},
   Prefixes.{last_taken},
   Words.{AreCounted, AreLeapSeconds, IsLeapTime, IsLeapTimeRefused, IsUnixTime, LeapSecond, List, [], add-one, ap, arith, by_lt_z, cond, correction_at},
-  Words.{corrections, count_by, count_by-le-length, filter, filter_first, get_or, inl, inr, int_le, int_lt, ints, last_else, le_false, le_true, length, linear},
+  Words.{corrections, count_by, count_by-le-length, filter, filter_first, get_or, int_le, int_lt, ints, last_else, le_false, le_true, length, linear},
   Words.{mapped_at, neg_ℤ, passed_count, pos, refl, suc, sum_by-cons, sym, take, thresholds, zero, ℕ, ℤ, ◌*◌, ◌+ℤ◌, ◌-ℤ◌, ◌<ℤ◌, ◌<◌, ◌↔◌, ◌∙◌, ◌∷◌, ◌≡◌, ◌≤ℤ◌},
   Words.{◌≤◌},
 }

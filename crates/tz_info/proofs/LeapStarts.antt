@@ -92,6 +92,3 @@ come_here es x n valid within since until = record {
   before = λ k d l. let r = times_rise es d valid k (n - 1) (omega arith) (omega arith) in let q = since d (omega arith) in omega linear;
   after = λ k d a l t. let r = times_rise es d valid n k a l in let q = until d (omega arith) in omega linear;
 }
-
-pub both_ways : {P Q R : Type 0} → P ↔ Q → R ↔ Q → P ↔ R
-both_ways f g = ((λ p. g.1 (f.0 p)), (λ r. f.1 (g.0 r)))

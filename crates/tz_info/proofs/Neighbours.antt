@@ -61,12 +61,6 @@ not_later _ u year other near of_second from = by_lt_z (year +ℤ pos 1) other
 pub place : (year other : ℤ) → (year -ℤ pos 1) ≤ℤ other → other ≤ℤ (year +ℤ pos 1) → (other ≡ year -ℤ pos 1) ⊎ ((other ≡ year) ⊎ (other ≡ year +ℤ pos 1))
 place _ _ low high = grind arith
 
-between_true : (first last u : ℤ) → first ≤ℤ u → u <ℤ last → is_between first last u ≡ true
-between_true _ _ u from before = grind arith
-
-between_is : (first last u : ℤ) → is_between first last u ≡ true → (first ≤ℤ u) × (u <ℤ last)
-between_is _ _ u h = grind arith
-
 between : (first last u : ℤ) → Decides (is_between first last u) ((first ≤ℤ u) × (u <ℤ last))
 between _ _ u = (λ h. grind arith, λ h. grind arith)
 

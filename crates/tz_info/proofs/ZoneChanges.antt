@@ -8,22 +8,19 @@ use Rattle.tz_info.proofs.{
   SegmentLaws.{come_at_time, later_segment, segment_at, segment_most, segments_rise, type_from, type_in_from},
   Words.{Alternate as AlternateRule, AlternateAt, AreLeapSeconds, Bool, Change, HasNoChange, IsAhead, IsBegin, IsChange, IsChangeByRule, IsFirst},
   Words.{IsFirstChange, IsInTable, IsLast, IsLastChange, IsLeapTime, IsLeapTimeRefused, IsNearest, IsOutOfForce, IsRuleTime, IsValid, LeapSecond, List},
-  Words.{LocalType, Option, RuleOrType, SFits, Some, TypeAt, Zone, arith, cases_lt, cond, inl, inr, int_le, length, linear, passed_count, pos, refl},
-  Words.{segment_of, sym, thresholds, w64, ℕ, ℤ, ◌-ℤ◌, ◌<ℤ◌, ◌<◌, ◌↔◌, ◌∙◌, ◌≡◌, ◌≤ℤ◌, ◌≤◌, ◌⊎◌},
+  Words.{LocalType, Option, SFits, Some, TypeAt, Zone, arith, cases_lt, cond, inl, inr, int_le, length, linear, passed_count, pos, refl, segment_of, sym},
+  Words.{thresholds, w64, ℤ, ◌-ℤ◌, ◌<ℤ◌, ◌<◌, ◌↔◌, ◌∙◌, ◌≡◌, ◌≤ℤ◌, ◌≤◌, ◌⊎◌},
   ZoneLaws.{leap_time_decided, type_once},
 }
 use Rattle.tz_info.specs.declared.rule.transition_rule.TransitionRule.TheVariants.{Alternate}
 
 -- ---- which seconds have a leap time
-one_counted : (t u v : ℤ) → u ≤ℤ v → cond (int_le t u) 1 0 ≤ cond (int_le t v) 1 0
-one_counted t u v h = grind arith
-
 -- before a second with a leap time each has one
 pub refused_on : (es : List LeapSecond) (u v y : ℤ) → AreLeapSeconds es → u ≤ℤ v → IsLeapTimeRefused es u → IsLeapTime es v y → ⊥
 refused_on es u v y valid h r l =
     let b = passed_bounded es u _ valid r.passed in
     let more : passed_count es u ≤ passed_count es v =
-    sum_by-le-sum_by (λ t. cond (int_le t u) 1 0) (λ t. cond (int_le t v) 1 0) (thresholds (pos 0) es) (λ t. one_counted t u v h) in grind arith
+    sum_by-le-sum_by (λ t. cond (int_le t u) 1 0) (λ t. cond (int_le t v) 1 0) (thresholds (pos 0) es) (λ t. grind arith) in grind arith
 
 -- so has each second of the years that a rule answers in
 pub rule_leap_time : (es : List LeapSecond) (u : ℤ) → AreLeapSeconds es → IsRuleTime u → (x : ℤ) × IsLeapTime es u x
@@ -60,19 +57,13 @@ module _ (z : Zone) (a : AlternateRule) (u : ℤ) (t : LocalType) (rule : z.rule
   pub to_rule : IsValid z → segment_of z u ≡ length z.transitions → TypeAt z u t → AlternateAt a u t
   to_rule valid e k = rw rule at (type_from z u t valid.transitions.rising (record { type = k; segment = e }))
 
-  of_rule_or : (i : ℕ) → AlternateAt a u t → RuleOrType z u i t
-  of_rule_or i k = rw rule k
-
-  by_rule_alone : length z.transitions ≡ 0 → AlternateAt a u t → TypeAt z u t
-  by_rule_alone none k = grind arith
-
   pub from_rule : IsValid z → segment_of z u ≡ length z.transitions → AlternateAt a u t → TypeAt z u t
   from_rule valid e k = elim (cases_lt 0 (length z.transitions)) [
     | inl some ↦
         let x = rule_leap_time _ u valid.leaps (rule_second a u t k) in
         let b = segment_at z u _ valid.transitions.rising e in
-        (type_in_from z u x.0 t x.1 (rw (← x.1.sum) at b) (of_rule_or _ k)).type
-    | inr none ↦ by_rule_alone (omega arith) k
+        (type_in_from z u x.0 t x.1 (rw (← x.1.sum) at b) (rw rule k)).type
+    | inr none ↦ grind arith
   ]
 
 -- `begin` comes no later than a second with a type at which all have come

@@ -1,6 +1,6 @@
 use Rattle.tz_info.proofs.{
   LeapSearch.{since_epoch},
-  LeapStarts.{both_ways, reached_first, reached_later},
+  LeapStarts.{reached_first, reached_later},
   Words.{HaveCome, LeapSecond, SFits, arith, get_or, linear, pos, rules, to_z-of_z, w128, w32, w64, ℤ, ◌-ℤ◌, ◌-◌, ◌↔◌, ◌≤ℤ◌},
   zone.lists.starts.first_second.Goals.{After-later_second},
 }
@@ -41,7 +41,8 @@ returns c =
     let late = since_epoch _ (c.entries_come-come.result - 1) none c.requires (omega arith) in
     let least = ((is c.later_second.result).0 (omega linear)).0 in
     simp to_z-of_z (record {
-      reached = λ u y l. both_ways (rw (← c.correction_after.ensures, ← c.correction_after-2.ensures)
-          at (reached_later _ none c.requires _ u y _ come (omega arith) l)) (is u);
+      reached = λ u y l.
+          let a = rw (← c.correction_after.ensures, ← c.correction_after-2.ensures) at (reached_later _ none c.requires _ u y _ come (omega arith) l) in
+          let b = is u in grind arith;
       bound = omega linear;
     })

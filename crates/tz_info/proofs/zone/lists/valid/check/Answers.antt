@@ -28,11 +28,11 @@ returns-then-not-are_transitions g c =
 pub returns-then-not-are_leap_seconds : goal.returns-then-not-are_leap_seconds
 returns-then-not-are_leap_seconds g c =
     with_fault (Other_leaps (grind (arith, nat_tests))
-    (c.are_transitions.ensures.0 c.if-not-are_transitions.false)
-    (λ h. let t = c.are_leap_seconds.ensures.1 h in cc))
+    (grind arith)
+    (λ h. grind arith))
 
 pub returns-then-not-rule_agrees : goal.returns-then-not-rule_agrees
 returns-then-not-rule_agrees g c =
     with_fault (Other_rule (grind (arith, nat_tests))
-    (c.are_transitions.ensures.0 c.if-not-are_transitions.false) (c.are_leap_seconds.ensures.0 c.if-not-are_leap_seconds.false)
-    (λ h. let t = c.rule_agrees.ensures.1 h in cc))
+    (grind arith) (grind arith)
+    (λ h. grind arith))
