@@ -36,8 +36,7 @@ one_difference z w _ _ u d e h k i j =
     let old = type_once z u _ _ types.0 others.0 in
     let new = type_once w u _ _ types.1 others.1 in
     let a = covers z w _ _ u d e h k old new i j in
-    let b = covers z w _ _ u e d k h (sym old) (sym new) j i in
-    the_same _ _ _ _ _ _ _ _ (omega linear) (omega linear) old new
+    let b = covers z w _ _ u e d k h (sym old) (sym new) j i in grind (linear, the_same)
 
 -- ---- both zones keep their types
 pub pair_until : (f g : InForce) (at limit own end : ℤ) → IsRunUntil f at limit own → IsRunUntil g at own end → IsPairUntil f g at limit end

@@ -52,10 +52,7 @@ begin_at ts (suc k) d some within = grind (linear, begin_next)
 
 -- ---- which seconds have a leap time
 pub near_time : (es : List LeapSecond) (u : ℤ) → AreLeapSeconds es → IsNear u → IsLeapTime es u (u +ℤ correction_at es u)
-near_time es u valid near = elim (leap_time_decided es u) [
-  | inl x ↦ record { sum = refl; fits = x.1.fits }
-  | inr r ↦ absurd (leap_times_answer es u valid near.0 near.1 r)
-]
+near_time es u valid near = elim (leap_time_decided es u) [ inl x ↦ record { sum = refl; fits = x.1.fits } | inr r ↦ absurd (leap_times_answer es u valid near.0 near.1 r) ]
 
 -- ---- the type in force
 pub have_come : (z : Zone) (e : Entries) (u : ℤ) (c : Come) → IsValid z → AreEntries z e → SFits w64 u → IsLeapTime z.leaps u (leap_time_at z u)
@@ -89,7 +86,7 @@ is_come e u n _ c within come last index all =
         let p : suc n - 1 ≡ n = omega arith in
         let item = rw p at item2 in
         let some = rw is at index in
-        cc (last_taken (λ (a : Transition). a.type_index) 0 ts n t (omega arith))
+        cc (last_taken (λ a. a.type_index) 0 ts n t (omega arith))
 
 digits_one : digits 1 ≡ 1
 unfolding digits
@@ -121,7 +118,7 @@ module _ (z : Zone) (e : Entries) (valid : IsValid z) (made : AreEntries z e) wh
 
   type_here : (u x : ℤ) (n : ℕ) → SFits w64 u → IsLeapTime z.leaps u x → count_at e u ≡ n
       → slice_get z.types (index_at z x) ≡ slice_get z.types (index_of e.items n)
-  type_here u x n fits l count = rw count at (made.named u x fits l ∙ ap (λ i. slice_get z.types i) (index_there e u made.rising))
+  type_here u x n fits l count = let named = made.named u x fits l in let index = index_there e u made.rising in grind arith
 
   type_amid : (u x : ℤ) (n : ℕ) (t : LocalType) → SFits w64 u → IsLeapTime z.leaps u x → count_at e u ≡ n → n < e.all
       → slice_get z.types (index_of e.items n) ≡ Some t → TypeAt z u t
@@ -294,8 +291,7 @@ pub inside_between : (z : Zone) (e : Entries) (u : ℤ) (b : Between) → AreEnt
 inside_between z e u b made h fits =
     let end = h.until any in
     let c = come_by_time e.items u h.place any made.rising h.some in
-    let f = come_from e.items h.place u made.rising in
-    let first = begin_first e.items in (grind linear, grind linear)
+    let f = come_from e.items h.place u made.rising in (grind (linear, begin_first), grind linear)
 
 pub stretch_between : (z : Zone) (e : Entries) (u v : ℤ) (b : Between) (t : LocalType) → IsValid z → AreEntries z e → IsBetween e u b
     → SFits w64 b.from → SFits w64 b.until

@@ -69,7 +69,7 @@ record AreKept (entries kept : List Transition) (s : ℤ) : Type 0 where
 
 -- the index after the first j of a list is that of a longer one
 index_left : (ts us : List Transition) (j : ℕ) → j ≤ length ts → index_of (ts ++ us) j ≡ index_of ts j
-index_left ts us j h = ap (λ (s : List Transition). last_index s) (take-append-le j ts us h)
+index_left ts us j h = ap (λ s. last_index s) (take-append-le j ts us h)
 
 kept_of : (entries kept : List Transition) (s : ℤ) → AreBefore entries s kept → AreKept entries kept s
 kept_of entries kept s (none_there e other) = rw e (record { few = omega arith; item = λ j d h. refl; index = λ j h. refl; same = λ u h. refl })
@@ -125,8 +125,8 @@ module _ (z : Zone) (old kept entries : List Transition) (k : ℕ) (s : ℤ) (t 
   named_before : (u x : ℤ) → IsLeapTime z.leaps u x → u <ℤ s
       → slice_get z.types (last_index (passed (take (k + 1) z.transitions) x)) ≡ slice_get z.types (last_index (passed kept u))
   named_before u x l early =
-      let late : x <ℤ t.unix_leap_time = by_lt_z _ _ (λ q. q) (λ q. let a = (h.start.reached u x l).0 q in absurd (omega linear)) in
-      rw (taken, passed_out (take k z.transitions) t x late, keep.same u early) (h.made.named u x l)
+      let r = h.start.reached u x l in
+      rw (taken, passed_out (take k z.transitions) t x (grind linear), keep.same u early) (h.made.named u x l)
 
   named_from : (u x : ℤ) → IsLeapTime z.leaps u x → s ≤ℤ u → last_index (passed (take (k + 1) z.transitions) x) ≡ t.type_index
   named_from u x l late = rw (taken, passed_in (take k z.transitions) t x ((h.start.reached u x l).1 late)) (last_more (passed (take k z.transitions) x) t 0)
@@ -162,7 +162,7 @@ module _ (z : Zone) (old kept entries : List Transition) (k : ℕ) (s : ℤ) (t 
             all_pairs_push (λ (a b : Transition). a.unix_leap_time <ℤ b.unix_leap_time) kept entry rising earlier in
             rw e (record {
               rising = longer;
-              indexes = All-push (λ (a : Transition). a.type_index < length z.types) kept entry indexes
+              indexes = All-push (λ a. a.type_index < length z.types) kept entry indexes
                   (rw (← h.item) at (h.valid.transitions.indexes k t h.more));
               few = omega arith;
               named = λ u x l. by_lt_z u s
@@ -180,7 +180,7 @@ module _ (z : Zone) (old kept entries : List Transition) (k : ℕ) (s : ℤ) (t 
                 | inr over ↦
                     let here : j ≡ length kept = omega arith in
                     let one : index_of full (length kept) ≡ last_index kept = index_left kept (entry ∷ []) (length kept) (omega arith)
-                    ∙ ap (λ (a : List Transition). last_index a) (take_all (length kept) kept (omega arith)) in
+                    ∙ ap (λ a. last_index a) (take_all (length kept) kept (omega arith)) in
                     rw (here, one, index_next full (length kept) t (omega arith), own_last)
                     (elim why [ inl ends ↦ absurd (grind (arith, nat_tests)) | inr other ↦ other ])
               ];
@@ -273,9 +273,7 @@ popped entries kept None second (t, is, at) e value =
     let some = slice_get_within entries (length entries - 1) t is in let v = value t (omega arith) in absurd cc
 popped entries kept (Some r) second (t, is, at) e value =
     let some = slice_get_within entries (length entries - 1) t is in
-    let v = value t (omega arith) in
-    let g = slice_get-get_or entries (length entries - 1) t some in
-    one_there r e (grind arith)
+    let v = value t (omega arith) in one_there r e (grind (arith, slice_get-get_or))
 
 pub last_item : (entries : List Transition) (t : Transition) → 0 < length entries → t ≡ get_or entries (length entries - 1) t
     → t.type_index ≡ last_index entries

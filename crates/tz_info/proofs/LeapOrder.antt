@@ -121,16 +121,16 @@ counted_correction [] zero c h = refl
 counted_correction [] (suc k) c h = absurd (omega arith)
 counted_correction (e ∷ es) zero c h = refl
 counted_correction (e ∷ es) (suc k) c h =
-    last_taken (λ (e : LeapSecond). e.correction) (pos 0) (e ∷ es) k e (omega arith)
-    ∙ sym (mapped_at (λ (e : LeapSecond). e.correction) (e ∷ es) k e (pos 0) (omega arith)) ∙ c k (omega arith) ∙ ap pos (add-one k)
+    last_taken (λ e. e.correction) (pos 0) (e ∷ es) k e (omega arith)
+    ∙ sym (mapped_at (λ e. e.correction) (e ∷ es) k e (pos 0) (omega arith)) ∙ c k (omega arith) ∙ ap pos (add-one k)
 
 pub leap_time_undone : (es : List LeapSecond) (u x v : ℤ) → AreLeapSeconds es → AreCounted es → IsLeapTime es u x → IsUnixTime es x v → v ≡ u
 leap_time_undone es u x v valid c a b =
     let n = passed_count es u in
     let m = threshold_count (pos 0) es in
     let l = count_by-le-length (λ t. int_le t u) (thresholds (pos 0) es) in
-    let f : filter (λ (e : LeapSecond). int_lt e.unix_leap_time x) es ≡ take n es =
-    filter_first (λ (e : LeapSecond). int_lt e.unix_leap_time x) es n (omega arith)
+    let f : filter (λ e. int_lt e.unix_leap_time x) es ≡ take n es =
+    filter_first (λ e. int_lt e.unix_leap_time x) es n (omega arith)
     (λ k d j.
     let t = (split _ u es k (follow es valid) (omega arith)).0 j in
     let w = threshold_at (pos 0) es k d (pos 0) (omega arith) in grind (linear, counted_correction))

@@ -36,7 +36,7 @@ by_saturated l s r fits some e p = grind (linear, le_saturated, fits, some, le_t
 pub passed_here : (es : List LeapSecond) (u v : ℤ) (k : ℕ) (d : LeapSecond) → AreLeapSeconds es → k < length es → v ≡ correction_behind es k
     → (int_le (get_or es k d).unix_leap_time (u +ℤ v) ≡ true) ↔ (k < passed_count es u)
 passed_here es u v k d valid h e =
-    let p = passed_when es d valid u k h in (λ come. p.1 (omega linear), λ l. le_true _ (u +ℤ v) (let q = p.0 l in omega linear))
+    let p = passed_when es d valid u k h in grind (linear, le_true, le_is)
 
 -- a leap time of a second of 64 bits is one of 64 bits
 pub leap_time_fits : (es : List LeapSecond) (u x : ℤ) → SFits w64 u → IsLeapTime es u x → SFits w64 x
@@ -108,10 +108,7 @@ last_with_leap_time es _ _ valid r e = record {
 
 -- ---- the entries before a leap time
 pub parted_before : (es : List LeapSecond) (x : ℤ) → AreLeapSeconds es → IsPartitionedBy (λ e. int_lt e.unix_leap_time x) es
-parted_before es x valid i j d h l t = let r = times_rise es d valid i j h l in
-    earlier (get_or es i d).unix_leap_time (get_or es j d).unix_leap_time x r t where
-      earlier : (a b x : ℤ) → a ≤ℤ b → int_lt b x ≡ true → int_lt a x ≡ true
-      earlier a b x h t = grind arith
+parted_before es x valid i j d h l t = let r = times_rise es d valid i j h l in grind arith
 
 -- without leap seconds the leap time of a second is that second
 pub own_leap_time : (es : List LeapSecond) (u : ℤ) → length es ≡ 0 → IsLeapTime es u u

@@ -30,9 +30,9 @@ saturated_rise v w h = grind arith
 -- leap seconds in order
 module _ (es : List LeapSecond) (d : LeapSecond) (valid : AreLeapSeconds es) where
   one_step : (k : ℕ) → k < length es → IsOneStep (correction_behind es k) (correction_behind es (suc k))
-  one_step zero h = rw (last_taken (λ (e : LeapSecond). e.correction) _ es _ d h) ((follow es valid).step d (omega arith))
+  one_step zero h = rw (last_taken (λ e. e.correction) _ es _ d h) ((follow es valid).step d (omega arith))
   one_step (suc k) h =
-      rw (last_taken (λ (e : LeapSecond). e.correction) _ es _ d h, last_taken (λ (e : LeapSecond). e.correction) _ es k d (omega arith))
+      rw (last_taken (λ e. e.correction) _ es _ d h, last_taken (λ e. e.correction) _ es k d (omega arith))
       (((follow es valid).next k d h).step)
 
   -- an entry is passed if and only if its time has come with the correction before it
@@ -89,6 +89,6 @@ pub come_here : (es : List LeapSecond) (x : ℤ) (n : ℕ) → AreLeapSeconds es
     → ((d : LeapSecond) → n < length es → x <ℤ (get_or es n d).unix_leap_time) → HaveCome es x n
 come_here es x n valid within since until = record {
   within = within;
-  before = λ k d l. let r = times_rise es d valid k (n - 1) (omega arith) (omega arith) in let q = since d (omega arith) in omega linear;
-  after = λ k d a l t. let r = times_rise es d valid n k a l in let q = until d (omega arith) in omega linear;
+  before = λ k d l. let r = times_rise es d valid k (n - 1) in let q = since d in grind linear;
+  after = λ k d a l t. let r = times_rise es d valid n k in let q = until d in grind linear;
 }

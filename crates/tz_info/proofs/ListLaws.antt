@@ -23,7 +23,4 @@ pub one_true : (n i : ℕ) (test : ℕ → Bool) → i < n → all_below n test 
 one_true zero i _ l q = absurd (omega arith)
 one_true (suc n) i test l q =
     let parts = and_parts (all_below n test) (test n) q in
-    elim (cases_lt i n) as (λ _. test i ≡ true) [
-      | inl h ↦ one_true n i _ h parts.0
-      | inr h ↦ let same : i ≡ n = omega arith in rw same parts.1
-    ]
+    elim (cases_lt i n) as (λ _. test i ≡ true) [ inl h ↦ one_true n i _ h parts.0 | inr h ↦ let same : i ≡ n = omega arith in rw same parts.1 ]

@@ -12,4 +12,4 @@ last_taken f d (x ∷ xs) (suc i) e h = last_taken f _ xs i e (omega arith)
 pub index_within : (n : ℕ) (ts : List Transition) (k : ℕ) → 0 < n → NameTypes n ts → k ≤ length ts → index_of ts k < n
 index_within n ts zero some named h = some
 index_within n ts (suc k) some named h = let t : Transition = record { unix_leap_time = pos 0; type_index = 0 } in
-    rw (last_taken (λ (a : Transition). a.type_index) 0 ts k t (omega arith)) (named k t (omega arith))
+    rw (last_taken (λ a. a.type_index) 0 ts k t (omega arith)) (named k t (omega arith))

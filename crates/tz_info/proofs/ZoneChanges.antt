@@ -104,8 +104,8 @@ pub rule_found : (z : Zone) (a : AlternateRule) (w : Bool) (s begin : ℤ) (foun
     → IsNearest w (AlternateAt a) (λ u. (begin <ℤ u) × IsAhead w s u) found → IsNearest w (TypeAt z) (IsChangeByRule z (IsAhead w s)) found
 rule_found z a w s begin _ valid rule h =
     nearest_moved w _ _ (λ u. (begin <ℤ u) × IsAhead w s u) _ _
-    (λ d is inside. let k = (by_rule z a _ d valid rule h).0 (is, inside.by_rule) in (k.0, (k.1, inside.inside)))
-    (λ d is inside. let k = (by_rule z a _ d valid rule h).1 (is, inside.0) in (k.0, record { inside = inside.1; by_rule = k.1 }))
+    (λ d is inside. let k = (by_rule z a _ d valid rule h).0 in let b = inside.by_rule in let i = inside.inside in grind arith)
+    (λ d is inside. let k = (by_rule z a _ d valid rule h).1 in grind arith)
 
 -- if none of those seconds comes after `begin`, no change comes at one after the last transition
 pub none_begun : (z : Zone) (within : ℤ → Type 0) (begin : ℤ) → IsValid z → IsBegin z begin → ((u : ℤ) → SFits w64 u → within u → u ≤ℤ begin)
