@@ -3,7 +3,7 @@ use Rattle.std.proofs.lemmas.Map.Made.{Contains-tail}
 use Rattle.tz_info.proofs.{
   ChangeSearch.{apart},
   Words.{AllPairs, AreChanges, Bool, Change, Contains, Contains-append_right, IsChange, IsFirst, IsNearest, IsTypeBeforeGap, List, LocalType, None, Option},
-  Words.{Precedes, Some, TypeAt, Zone, [], ap, arith, false, linear, pos, refl, subst, suc, sym, true, zero, ℤ, ◌-ℤ◌, ◌<ℤ◌, ◌∷◌, ◌≡◌, ◌≤ℤ◌},
+  Words.{Precedes, Some, TypeAt, Zone, [], ap, arith, false, linear, pos, refl, suc, true, zero, ℤ, ◌+ℤ◌, ◌-ℤ◌, ◌<ℤ◌, ◌∷◌, ◌≡◌, ◌≤ℤ◌},
   ZoneLaws.{type_once},
 }
 
@@ -36,37 +36,31 @@ not_before : (c d : Change) (cs : List Change) → Rise (c ∷ cs) → Contains 
 not_before c d cs rise (zero, l, same) = grind linear
 not_before c d cs rise (suc k, l, same) = let m = later c d cs rise (k, omega arith, same) in omega linear
 
-rest_rises : (c : Change) (cs : List Change) → Rise (c ∷ cs) → Rise cs
-rest_rises c cs rise = λ i j d l m. rise (suc i) (suc j) d (omega arith) (omega arith)
-
--- two lists with the same items and the same first item have the same rest
-rest_same : (c : Change) (cs ds : List Change) → Rise (c ∷ cs) → ((x : Change) → Contains (c ∷ cs) x → Contains (c ∷ ds) x) → (x : Change)
-    → Contains cs x → Contains ds x
-rest_same c cs ds rise same x h = Contains-tail c ds x
-    (λ e. let l = later c x cs rise h in absurd (grind linear))
-    (same x (Contains-append_right (c ∷ []) cs x h))
-
-one_list : (z : Zone) (a b : List Change) → Rise a → Rise b → ((c : Change) → Contains a c → IsChange (TypeAt z) c × Contains b c)
-    → ((c : Change) → Contains b c → IsChange (TypeAt z) c × Contains a c) → a ≡ b
-one_list z [] [] p q to from = refl
-one_list z [] (d ∷ ds) p q to from = let h = (from d (at_front d ds)).1 in absurd (omega arith)
-one_list z (c ∷ cs) [] p q to from = let h = (to c (at_front c cs)).1 in absurd (omega arith)
-one_list z (c ∷ cs) (d ∷ ds) p q to from =
-    let (is, here) = to c (at_front c cs) in
-    let (other, there) = from d (at_front d ds) in
-    let l = not_before d c ds q here in
-    let m = not_before c d cs p there in
-    let same = one_change z c d is other (omega linear) in
-    let q' = subst (λ x. Rise (x ∷ ds)) (sym same) q in
-    let rest = one_list z cs ds (rest_rises c cs p) (rest_rises d ds q)
-    (λ x h. let k = to x (Contains-append_right (c ∷ []) cs x h) in (k.0, rest_same c cs ds p (λ y e. rw same ((to y e).1)) x h))
-    (λ x h. let k = from x (Contains-append_right (d ∷ []) ds x h) in (k.0, rest_same c ds cs q' (λ y e. (from y (rw same at e)).1) x h)) in
-    λ i. same i ∷ rest i
+-- the changes after the first
+rest : (z : Zone) (from until : ℤ) (c : Change) (cs : List Change) → AreChanges (TypeAt z) from until (c ∷ cs) → AreChanges (TypeAt z) (c.at +ℤ pos 1) until cs
+rest z from until c cs h = record {
+  rising = λ i j d l m. h.rising (suc i) (suc j) d (omega arith) (omega arith);
+  each = λ x. (
+    λ inside.
+        let l = later c x cs h.rising inside in
+        let k = (h.each x).0 (Contains-append_right (c ∷ []) cs x inside) in grind linear,
+    λ k. let low = k.1.0 in let first = ((h.each c).0 (at_front c cs)).1.0 in
+        Contains-tail c cs x (λ e. absurd (grind linear)) ((h.each x).1 (k.0, (omega linear, k.1.1))),
+  );
+}
 
 pub one_list_of_changes : (z : Zone) (from until : ℤ) (a b : List Change) → AreChanges (TypeAt z) from until a → AreChanges (TypeAt z) from until b → a ≡ b
-one_list_of_changes z _ _ a b h k = one_list z a b h.rising k.rising
-    (λ c inside. let is = (h.each c).0 inside in (is.0, (k.each c).1 is))
-    (λ c inside. let is = (k.each c).0 inside in (is.0, (h.each c).1 is))
+one_list_of_changes z from until [] [] h k = refl
+one_list_of_changes z from until [] (d ∷ ds) h k = let e = ((h.each d).1 ((k.each d).0 (at_front d ds))).1 in absurd (omega arith)
+one_list_of_changes z from until (c ∷ cs) [] h k = let e = ((k.each c).1 ((h.each c).0 (at_front c cs))).1 in absurd (omega arith)
+one_list_of_changes z from until (c ∷ cs) (d ∷ ds) h k =
+    let is = (h.each c).0 (at_front c cs) in
+    let other = (k.each d).0 (at_front d ds) in
+    let l = not_before d c ds k.rising ((k.each c).1 is) in
+    let m = not_before c d cs h.rising ((h.each d).1 other) in
+    let same = one_change z c d is.0 other.0 (omega linear) in
+    let others = one_list_of_changes z (c.at +ℤ pos 1) until cs ds (rest z _ _ c cs h) (rw (← same) at (rest z _ _ d ds k)) in
+    λ i. same i ∷ others i
 
 -- the front of a list is the first change at or after its first second
 pub front_is_first : (z : Zone) (from until : ℤ) (c : Change) (cs : List Change) → AreChanges (TypeAt z) from until (c ∷ cs)

@@ -1,7 +1,7 @@
 -- What a zone's entries say of it: the types in force, the clock changes, and the spans between them.
 use Rattle.tz_info.proofs.{
   LeapOrder.{leap_times_answer},
-  Prefixes.{index_within, last_taken},
+  Prefixes.{any, index_within, last_taken},
   SegmentLaws.{begin_first, begin_next, come_at_time, come_by_time, come_from, not_later, place_before, place_begin, place_most, places_rise, segment_most},
   SegmentLaws.{split_at, split_count},
   TableSearch.{search_found},
@@ -22,10 +22,6 @@ pub ruleset few_digits = digits-le
 
 abbrev count_at : Entries → ℤ → ℕ
 count_at e u = length (passed e.items u)
-
--- some entry
-abbrev any : Transition
-any = record { unix_leap_time = pos 0; type_index = 0 }
 
 abbrev time_at : Entries → ℕ → ℤ
 time_at e k = (get_or e.items k any).unix_leap_time
@@ -52,7 +48,10 @@ begin_at ts (suc k) d some within = grind (linear, begin_next)
 
 -- ---- which seconds have a leap time
 pub near_time : (es : List LeapSecond) (u : ℤ) → AreLeapSeconds es → IsNear u → IsLeapTime es u (u +ℤ correction_at es u)
-near_time es u valid near = elim (leap_time_decided es u) [ inl x ↦ record { sum = refl; fits = x.1.fits } | inr r ↦ absurd (leap_times_answer es u valid near.0 near.1 r) ]
+near_time es u valid near = elim (leap_time_decided es u) [
+  | inl x ↦ record { sum = refl; fits = x.1.fits }
+  | inr r ↦ absurd (leap_times_answer es u valid near.0 near.1 r)
+]
 
 -- ---- the type in force
 pub have_come : (z : Zone) (e : Entries) (u : ℤ) (c : Come) → IsValid z → AreEntries z e → SFits w64 u → IsLeapTime z.leaps u (leap_time_at z u)

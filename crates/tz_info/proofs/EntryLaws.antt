@@ -237,23 +237,21 @@ one_change z n some h last k below = grind linear
 
 pub own_entries : (z : Zone) → IsValid z → length z.leaps ≡ 0 → AreChanges z (length z.transitions)
     → AreEntries z (record { items = z.transitions; all = length z.transitions; transitions = z.transitions })
-own_entries z valid none differ = record {
-  listed = refl;
-  rising = valid.transitions.rising;
-  indexes = valid.transitions.indexes;
-  few = omega arith;
-  more = omega arith;
-  most = omega arith;
-  some = ((λ h. h), (λ h. h));
-  named = λ u x f l. rw (same z.leaps u x none l) refl;
-  come = λ u x f l. rw (same z.leaps u x none l) ((λ h. h), (λ h. h));
-  leap_time = λ k d h. ((get_or z.transitions k d).unix_leap_time, own_leap_time z.leaps (get_or z.transitions k d).unix_leap_time none);
-  differ = λ k h more. differ k more;
-}
-  where
-    same : (leaps : List LeapSecond) (u x : ℤ) → length leaps ≡ 0 → IsLeapTime leaps u x → x ≡ u
-    same [] u x none l = let s = l.sum in omega linear
-    same (e ∷ es) u x none l = absurd (omega arith)
+own_entries z valid none differ =
+    let same : (u x : ℤ) → IsLeapTime z.leaps u x → x ≡ u = λ u x l. let s = l.sum in let t = (own_leap_time z.leaps u none).sum in omega linear in
+    record {
+      listed = refl;
+      rising = valid.transitions.rising;
+      indexes = valid.transitions.indexes;
+      few = omega arith;
+      more = omega arith;
+      most = omega arith;
+      some = ((λ h. h), (λ h. h));
+      named = λ u x f l. rw (same u x l) refl;
+      come = λ u x f l. rw (same u x l) ((λ h. h), (λ h. h));
+      leap_time = λ k d h. (_, own_leap_time z.leaps _ none);
+      differ = λ k h more. differ k more;
+    }
 
 -- ---- the second at which a transition comes
 pub never_then : (leaps : List LeapSecond) (x start : ℤ) → ((u y : ℤ) → IsLeapTime leaps u y → (x ≤ℤ y) ↔ (start ≤ℤ u))

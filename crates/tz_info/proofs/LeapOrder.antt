@@ -30,9 +30,6 @@ module _ (p : ℤ) (e : LeapSecond) (es : List LeapSecond) where
   not_counted : (u : ℤ) → u <ℤ (e.unix_leap_time -ℤ p) → counted_from p (e ∷ es) u ≡ counted_from e.correction es u
   not_counted u h = grind (linear, le_false)
 
-  summed_counted : (u : ℤ) → (e.unix_leap_time -ℤ p) ≤ℤ u → summed p (e ∷ es) u ≡ summed e.correction es u
-  summed_counted u h = rw (counted u h)
-
 -- where u lies before the first threshold no entry is passed
 pub none_counted : (p u : ℤ) (es : List LeapSecond) → Follow p es
     → ((d : LeapSecond) → 0 < length es → u <ℤ ((get_or es 0 d).unix_leap_time -ℤ p)) → counted_from p es u ≡ 0
@@ -41,22 +38,19 @@ none_counted p u (e ∷ es) f h =
     let here = h e (omega arith) in
     not_counted p e es u here ∙ none_counted _ u es (follow_tail p e es f) (λ d l. let t = tail_later p e es f d l in omega linear)
 
-summed_none : (p u : ℤ) (es : List LeapSecond) → Follow p es
-    → ((d : LeapSecond) → 0 < length es → u <ℤ ((get_or es 0 d).unix_leap_time -ℤ p)) → summed p es u ≡ u +ℤ p
-summed_none p u es f h = rw (none_counted p u es f h)
-
 sums_rise : (p u v : ℤ) (es : List LeapSecond) → Follow p es → u ≤ℤ v → summed p es u ≤ℤ summed p es v
 sums_rise p u v [] f h = omega linear
-sums_rise p u v (e ∷ es) f h = by_lt_z u (e.unix_leap_time -ℤ p)
-    (λ below. by_lt_z v (e.unix_leap_time -ℤ p)
-    (λ under. rw (summed_none p u _ f (λ d l. below), summed_none p v _ f (λ d l. under)) (omega linear))
-    (λ above.
+sums_rise p u v (e ∷ es) f h =
     let t = follow_tail p e es f in
-    let r = sums_rise _ _ v es t above in
-    let q = summed_none _ (e.unix_leap_time -ℤ p) es t (λ d l. let t = tail_later p e es f d l in omega linear) in
+    by_lt_z u (e.unix_leap_time -ℤ p)
+    (λ below. by_lt_z v (e.unix_leap_time -ℤ p)
+    (λ under. rw (none_counted p u _ f (λ d l. below), none_counted p v _ f (λ d l. under)) (omega linear))
+    (λ above.
+    let q = none_counted _ (e.unix_leap_time -ℤ p) es t (λ d l. let t = tail_later p e es f d l in omega linear) in
+    let r = rw q at (sums_rise _ (e.unix_leap_time -ℤ p) v es t above) in
     let s = f.step e (omega arith) in
-    rw (summed_none p u _ f (λ d l. below), summed_counted p e es v above) (grind linear)))
-    (λ above. rw (summed_counted p e es u above, summed_counted p e es v (omega linear)) (sums_rise e.correction u v es (follow_tail p e es f) h))
+    rw (none_counted p u _ f (λ d l. below), counted p e es v above) (grind linear)))
+    (λ above. rw (counted p e es u above, counted p e es v (omega linear)) (sums_rise e.correction u v es t h))
 
 pub leap_sums_rise : (es : List LeapSecond) (u v : ℤ) → AreLeapSeconds es → u ≤ℤ v → (u +ℤ correction_at es u) ≤ℤ (v +ℤ correction_at es v)
 leap_sums_rise es u v valid h = sums_rise _ u v es (follow es valid) h

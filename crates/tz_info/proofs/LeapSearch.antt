@@ -5,7 +5,7 @@ use Rattle.tz_info.proofs.{
   LeapEntries.{follow, threshold, threshold_at, times_rise},
   LeapOrder.{passed_bounded, split},
   LeapStarts.{correction_behind, passed_at_most, passed_when},
-  Prefixes.{last_taken},
+  Prefixes.{any_leap, last_taken},
   Words.{AreLeapSeconds, IsLeapTime, LeapSecond, List, SFits, [], arith, by_lt_z, cases_lt, corrections, get_or, inl, inr, int_le, int_lt, le_is, le_true},
   Words.{length, linear, mapped_at, passed_count, pos, refl, suc, true, w64, zero, ℕ, ℤ, ◌+ℤ◌, ◌+◌, ◌-ℤ◌, ◌<ℤ◌, ◌<◌, ◌↔◌, ◌∷◌, ◌≡◌, ◌≤ℤ◌, ◌≤◌},
 }
@@ -44,10 +44,9 @@ leap_time_fits es u x f l = by_count (passed_count es u) refl where
   by_count : (n : ℕ) → passed_count es u ≡ n → SFits w64 x
   by_count zero e = let s = rw e at l.sum in omega linear
   by_count (suc m) e =
-      let d : LeapSecond = record { unix_leap_time = pos 0; correction = pos 0 } in
       let within = passed_at_most es u in
-      let s = rw (e, last_taken (λ e. e.correction) _ es m d (omega arith)) at l.sum in
-      let t = rw (mapped_at (λ e. e.correction) es m d (pos 0) (omega arith)) at (l.fits m (omega arith)) in
+      let s = rw (e, last_taken (λ e. e.correction) _ es m any_leap (omega arith)) at l.sum in
+      let t = rw (mapped_at (λ e. e.correction) es m any_leap (pos 0) (omega arith)) at (l.fits m (omega arith)) in
       rw s t
 
 -- ---- the last second that has a leap time

@@ -1,8 +1,5 @@
-use Rattle.tz_info.proofs.{Fits.fits, Words.{LeapSecond, arith, pos}, LeapEntries.{before_found}}
+use Rattle.tz_info.proofs.{Prefixes.any_leap, Fits.fits, Words.{arith}, LeapEntries.{before_found}}
 use Rattle.tz_info.proofs.zone.lists.leap_time.correction_before.Goals as goal
-
-abbrev none : LeapSecond
-none = record { unix_leap_time = pos 0; correction = pos 0 }
 
 pub correction_after-requires : goal.correction_after-requires
 correction_after-requires c = omega arith
@@ -13,4 +10,4 @@ returns c =
     let fr = c.correction_after.type_inv in
     let b = simp fits at c.entries_before.ensures in
     simp fits (before_found _ _ c.requires _ _ _ b.within
-    (record { value = c.correction_after.ensures; before = b.before }) (b.from none))
+    (record { value = c.correction_after.ensures; before = b.before }) (b.from any_leap))

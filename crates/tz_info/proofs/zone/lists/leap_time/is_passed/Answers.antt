@@ -1,8 +1,5 @@
-use Rattle.tz_info.proofs.{Fits.fits, LeapSearch.{by_saturated, passed_here, since_epoch}, Words.{LeapSecond, SFits, arith, get_or, pos, rules, w64}}
+use Rattle.tz_info.proofs.{Prefixes.any_leap, Fits.fits, LeapSearch.{by_saturated, passed_here, since_epoch}, Words.{SFits, arith, get_or, rules, w64}}
 use Rattle.tz_info.proofs.zone.lists.leap_time.is_passed.Goals as goal
-
-abbrev none : LeapSecond
-none = record { unix_leap_time = pos 0; correction = pos 0 }
 
 pub returns : goal.returns
 returns c =
@@ -10,7 +7,7 @@ returns c =
     let fb = c.correction_after-correction.type_inv in
     let fd : SFits w64 c.correction_after-correction.result = omega arith in
     let fs = c.saturating_add.type_inv in
-    let ft : SFits w64 (get_or c.args.entries.now c.args.place none).unix_leap_time = search rules in
+    let ft : SFits w64 (get_or c.args.entries.now c.args.place any_leap).unix_leap_time = search rules in
     let here = passed_here _ _ _ _ _ c.requires.leaps c.requires.place
     c.correction_after-correction.ensures in
     simp fits (by_saturated _ _ _ ft

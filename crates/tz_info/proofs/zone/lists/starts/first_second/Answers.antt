@@ -2,12 +2,10 @@ use Rattle.tz_info.proofs.{
   Fits.{fits},
   LeapSearch.{since_epoch},
   LeapStarts.{reached_first, reached_later},
-  Words.{LeapSecond, SFits, arith, get_or, linear, pos, rules, to_z-of_z, w128, w64, ◌-ℤ◌, ◌-◌},
+  Prefixes.{any_leap},
+  Words.{SFits, arith, get_or, linear, rules, to_z-of_z, w128, w64, ◌-ℤ◌, ◌-◌},
 }
 use Rattle.tz_info.proofs.zone.lists.starts.first_second.Goals as goal
-
-abbrev none : LeapSecond
-none = record { unix_leap_time = pos 0; correction = pos 0 }
 
 pub returns-then-come-eq0-clause-reached : goal.returns-then-come-eq0-clause-reached
 returns-then-come-eq0-clause-reached c = λ u y l.
@@ -22,7 +20,7 @@ returns c =
     let f1 = c.correction_after.type_inv in
     let f2 = c.correction_after-2.type_inv in
     let fl = c.later_second.type_inv in
-    let t = (get_or c.args.leaps.now (c.entries_come-come.result - 1) none).unix_leap_time in
+    let t = (get_or c.args.leaps.now (c.entries_come-come.result - 1) any_leap).unix_leap_time in
     let ft : SFits w64 t = search rules in
     let fw : SFits w128 c.args.leap_time = omega arith in
     let h1 : SFits w128 c.correction_after.result = omega arith in
@@ -32,11 +30,11 @@ returns c =
     let g3 : SFits w128 (c.args.leap_time -ℤ c.correction_after-2.result) = omega linear in
     let come = simp fits at c.entries_come-come.ensures in
     let is = simp fits at c.later_second.ensures in
-    let late = since_epoch _ (c.entries_come-come.result - 1) none c.requires (omega arith) in
+    let late = since_epoch _ (c.entries_come-come.result - 1) any_leap c.requires (omega arith) in
     let least = ((is c.later_second.result).0 (omega linear)).0 in
     simp fits (record {
       reached = λ u y l.
-          let a = rw (← c.correction_after.ensures, ← c.correction_after-2.ensures) at (reached_later _ none c.requires _ u y _ come (omega arith) l) in
+          let a = rw (← c.correction_after.ensures, ← c.correction_after-2.ensures) at (reached_later _ any_leap c.requires _ u y _ come (omega arith) l) in
           let b = is u in (λ h. b.1 (a.0 h), λ h. a.1 (b.0 h));
       bound = omega linear;
     })

@@ -1,9 +1,6 @@
-use Rattle.tz_info.proofs.{Fits.fits, EntryChanges.begin_at, SegmentLaws.{come_from, place_most}}
-use Rattle.tz_info.proofs.Words.{SFits, Transition, ap, arith, ints, pos, w128, ◌∙◌, ◌≡◌}
+use Rattle.tz_info.proofs.{Prefixes.any, Fits.fits, EntryChanges.begin_at, SegmentLaws.{come_from, place_most}}
+use Rattle.tz_info.proofs.Words.{SFits, ap, arith, ints, w128, ◌∙◌, ◌≡◌}
 use Rattle.tz_info.proofs.zone.made.change_table.ChangeTable.rule_begin.Goals as goal
-
-none : Transition
-none = record { unix_leap_time = pos 0; type_index = 0 }
 
 pub returns-then-self-len-clause-begun : goal.returns-then-self-len-clause-begun
 returns-then-self-len-clause-begun c = grind (arith, place_most)
@@ -17,4 +14,4 @@ returns-clause-begun c = λ u near.
     let same : k ≡ c.args.self.now.all = ap (λ e. e.all) c.self.view_is in
     let from = come_from ts k u c.requires.rising (omega arith) (omega arith) in
     let most = place_most ts u c.requires.rising in
-    simp fits (rw (c.second.ensures none ∙ begin_at ts k none (omega arith) (omega arith)) (grind arith))
+    simp fits (rw (c.second.ensures any ∙ begin_at ts k any (omega arith) (omega arith)) (grind arith))
