@@ -1,18 +1,14 @@
 -- At a second there is one change, and so one next change, one previous change and one list of them.
 use Rattle.std.proofs.lemmas.Map.Made.{Contains-tail}
 use Rattle.tz_info.proofs.{
+  ChangeSearch.{apart},
   Words.{AllPairs, AreChanges, Bool, Change, Contains, Contains-append_right, IsChange, IsFirst, IsNearest, IsTypeBeforeGap, List, LocalType, None, Option},
-  Words.{Precedes, Some, TypeAt, Zone, [], ap, arith, by_lt_z, false, linear, pos, refl, subst, suc, sym, true, zero, ℤ, ◌-ℤ◌, ◌<ℤ◌, ◌∷◌, ◌≡◌, ◌≤ℤ◌},
+  Words.{Precedes, Some, TypeAt, Zone, [], ap, arith, false, linear, pos, refl, suc, true, zero, ℤ, ◌+ℤ◌, ◌-ℤ◌, ◌<ℤ◌, ◌∷◌, ◌≡◌, ◌≤ℤ◌},
   ZoneLaws.{type_once},
 }
 
-same_parts : (c d : Change) → c.at ≡ d.at → c.before ≡ d.before → c.after ≡ d.after → c ≡ d
-same_parts c d p q r = λ i. record { at = p i; before = q i; after = r i }
-
 pub one_change : (z : Zone) (c d : Change) → IsChange (TypeAt z) c → IsChange (TypeAt z) d → c.at ≡ d.at → c ≡ d
-one_change z c d a b same = same_parts c d same
-    (type_once z _ _ _ (subst (λ u. TypeAt z (u -ℤ pos 1) c.before) same a.before) b.before)
-    (type_once z _ _ _ (subst (λ u. TypeAt z u c.after) same a.after) b.after)
+one_change z = apart (TypeAt z) (type_once z)
 
 -- ---- the nearest one
 each_way : (w : Bool) (x y : ℤ) → Precedes w x y → Precedes w y x → x ≡ y
@@ -34,58 +30,47 @@ at_front : (c : Change) (cs : List Change) → Contains (c ∷ cs) c
 at_front c cs = (0, omega arith, refl)
 
 later : (c d : Change) (cs : List Change) → Rise (c ∷ cs) → Contains cs d → c.at <ℤ d.at
-later c d cs rise h = subst (λ x. c.at <ℤ x.at) h.2 (rise 0 (suc h.0) d (omega arith) (omega arith))
+later c d cs rise h = rw h.2 at (rise 0 (suc h.0) d (omega arith) (omega arith))
 
 not_before : (c d : Change) (cs : List Change) → Rise (c ∷ cs) → Contains (c ∷ cs) d → c.at ≤ℤ d.at
 not_before c d cs rise (zero, l, same) = grind linear
 not_before c d cs rise (suc k, l, same) = let m = later c d cs rise (k, omega arith, same) in omega linear
 
-rest_rises : (c : Change) (cs : List Change) → Rise (c ∷ cs) → Rise cs
-rest_rises c cs rise = λ i j d l m. rise (suc i) (suc j) d (omega arith) (omega arith)
-
--- two lists with the same items and the same first item have the same rest
-rest_same : (c : Change) (cs ds : List Change) → Rise (c ∷ cs) → ((x : Change) → Contains (c ∷ cs) x → Contains (c ∷ ds) x) → (x : Change)
-    → Contains cs x → Contains ds x
-rest_same c cs ds rise same x h = Contains-tail c ds x
-    (λ e. let l = subst (λ y. c.at <ℤ y.at) (sym e) (later c x cs rise h) in omega linear)
-    (same x (Contains-append_right (c ∷ []) cs x h))
-
-one_list : (z : Zone) (a b : List Change) → Rise a → Rise b → ((c : Change) → Contains a c → IsChange (TypeAt z) c)
-    → ((c : Change) → Contains b c → IsChange (TypeAt z) c)
-    → ((c : Change) → Contains a c → Contains b c) → ((c : Change) → Contains b c → Contains a c) → a ≡ b
-one_list z [] [] p q are_a are_b to from = refl
-one_list z [] (d ∷ ds) p q are_a are_b to from = let h = from d (at_front d ds) in absurd (omega arith)
-one_list z (c ∷ cs) [] p q are_a are_b to from = let h = to c (at_front c cs) in absurd (omega arith)
-one_list z (c ∷ cs) (d ∷ ds) p q are_a are_b to from =
-    let l = not_before d c ds q (to c (at_front c cs)) in
-    let m = not_before c d cs p (from d (at_front d ds)) in
-    let same = one_change z c d (are_a c (at_front c cs)) (are_b d (at_front d ds)) (omega linear) in
-    let to' = subst (λ x. (y : Change) → Contains (c ∷ cs) y → Contains (x ∷ ds) y) (sym same) to in
-    let from' = subst (λ x. (y : Change) → Contains (x ∷ ds) y → Contains (c ∷ cs) y) (sym same) from in
-    let q' = subst (λ x. Rise (x ∷ ds)) (sym same) q in
-    let rest = one_list z cs ds (rest_rises c cs p) (rest_rises c ds q') (λ x h. are_a x (Contains-append_right (c ∷ []) cs x h))
-    (λ x h. are_b x (Contains-append_right (d ∷ []) ds x h)) (rest_same c cs ds p to') (rest_same c ds cs q' from') in
-    λ i. same i ∷ rest i
+-- the changes after the first
+rest : (z : Zone) (from until : ℤ) (c : Change) (cs : List Change) → AreChanges (TypeAt z) from until (c ∷ cs) → AreChanges (TypeAt z) (c.at +ℤ pos 1) until cs
+rest z from until c cs h = record {
+  rising = λ i j d l m. h.rising (suc i) (suc j) d (omega arith) (omega arith);
+  each = λ x. (
+    λ inside.
+        let l = later c x cs h.rising inside in
+        let k = (h.each x).0 (Contains-append_right (c ∷ []) cs x inside) in grind linear,
+    λ k. let low = k.1.0 in let first = ((h.each c).0 (at_front c cs)).1.0 in
+        Contains-tail c cs x (λ e. absurd (grind linear)) ((h.each x).1 (k.0, (omega linear, k.1.1))),
+  );
+}
 
 pub one_list_of_changes : (z : Zone) (from until : ℤ) (a b : List Change) → AreChanges (TypeAt z) from until a → AreChanges (TypeAt z) from until b → a ≡ b
-one_list_of_changes z _ _ a b h k = one_list z a b h.rising k.rising
-    (λ c inside. ((h.each c).0 inside).0)
-    (λ c inside. ((k.each c).0 inside).0)
-    (λ c inside. (k.each c).1 ((h.each c).0 inside))
-    (λ c inside. (h.each c).1 ((k.each c).0 inside))
+one_list_of_changes z from until [] [] h k = refl
+one_list_of_changes z from until [] (d ∷ ds) h k = let e = ((h.each d).1 ((k.each d).0 (at_front d ds))).1 in absurd (omega arith)
+one_list_of_changes z from until (c ∷ cs) [] h k = let e = ((k.each c).1 ((h.each c).0 (at_front c cs))).1 in absurd (omega arith)
+one_list_of_changes z from until (c ∷ cs) (d ∷ ds) h k =
+    let is = (h.each c).0 (at_front c cs) in
+    let other = (k.each d).0 (at_front d ds) in
+    let l = not_before d c ds k.rising ((k.each c).1 is) in
+    let m = not_before c d cs h.rising ((h.each d).1 other) in
+    let same = one_change z c d is.0 other.0 (omega linear) in
+    let others = one_list_of_changes z (c.at +ℤ pos 1) until cs ds (rest z _ _ c cs h) (rw (← same) at (rest z _ _ d ds k)) in
+    λ i. same i ∷ others i
 
 -- the front of a list is the first change at or after its first second
 pub front_is_first : (z : Zone) (from until : ℤ) (c : Change) (cs : List Change) → AreChanges (TypeAt z) from until (c ∷ cs)
     → IsFirst (TypeAt z) (λ u. (from -ℤ pos 1) <ℤ u) (Some c)
 front_is_first z _ until c cs h =
     let here = (h.each c).0 (at_front c cs) in
-    let low = here.1.0 in
     record {
       is = here.0;
-      inside = omega (linear, low);
-      nearest = λ d is inside. by_lt_z {P = c.at ≤ℤ d.at} d.at until
-          (λ before. not_before c d cs h.rising ((h.each d).1 (is, (omega linear, before))))
-          (λ from_on. omega linear);
+      inside = grind linear;
+      nearest = λ d is inside. let m = not_before c d cs h.rising in let e = h.each d in grind linear;
     }
 
 -- ---- the type before a gap
@@ -94,4 +79,4 @@ one_type_before_gap z l s t a b =
     let less = a.least _ b.more in
     let more = b.least _ a.more in
     let same : a.first ≡ b.first = omega linear in
-    type_once z _ s t (subst (λ u. TypeAt z (u -ℤ pos 1) s) same a.before) b.before
+    type_once z _ s t (rw same at a.before) b.before

@@ -1,6 +1,6 @@
 -- The list of a stretch's changes: there is no other, and how it begins and ends.
 use Rattle.tz_info.proofs.{
-  ChangeSearch.{InForce, IsOnce},
+  ChangeSearch.{InForce, IsOnce, apart},
   SecondTypes.{AreTypes, here_listed, types_told},
   Words.{AreChanges, Change, Changes, Contains, Contains-append_left, Contains-get_or, Contains-push, Contains-push_cases, HasNoChange, IsChange},
   Words.{IsFirstChange, IsFromUntil, IsInStretch, IsLastChange, IsRuleOrNone, IsValid, List, LocalType, Option, TypeAt, Zone, [], add-suc, add-zero},
@@ -15,55 +15,35 @@ empty [] none = refl
 empty (c ∷ cs) none = absurd (none c (0, omega arith, refl))
 
 -- ---- how lists are made
-pub no_changes : (f : InForce) (from until : ℤ) → HasNoChange f (IsFromUntil from until) → AreChanges f from until []
-no_changes f _ _ none = grind arith
-
--- changes at one second are one
-abbrev pub AreApart : InForce → Type 0
-AreApart f = (c d : Change) → IsChange f c → IsChange f d → c.at ≡ d.at → c ≡ d
-
 -- a change at the last second comes after those before it
-then_here : (f : InForce) (from last : ℤ) (c : Change) (cs : List Change) → AreApart f → IsChange f c → c.at ≡ last → from ≤ℤ last → AreChanges f from last cs
+then_here : (f : InForce) (from last : ℤ) (c : Change) (cs : List Change) → IsOnce f → IsChange f c → c.at ≡ last → from ≤ℤ last → AreChanges f from last cs
     → AreChanges f from (last +ℤ pos 1) (cs ++ c ∷ [])
-then_here f from last c cs apart is at low h = record {
+then_here f from last c cs once is at low h = record {
   rising = all_pairs_push (λ a b. a.at <ℤ b.at) cs c h.rising (λ k d below. rw at ((h.each (get_or cs k d)).0 (Contains-get_or cs k d below)).1.1);
   each = λ d. (
-    λ inside. elim (Contains-push_cases cs c d inside) [
-      | inl earlier ↦ let k = (h.each d).0 earlier in let l = k.1.1 in (k.0, (k.1.0, omega linear))
-      | inr same ↦ subst (λ x. IsChange f x × IsFromUntil from (last +ℤ pos 1) x.at) same
-          (is, (omega linear, omega linear))
-    ],
+    λ inside. elim (Contains-push_cases cs c d inside) [ inl earlier ↦ let k = (h.each d).0 earlier in grind linear | inr same ↦ grind linear ],
     λ k. by_lt_z d.at last
-        (λ less. Contains-append_left cs (c ∷ []) d ((h.each d).1 (k.0, (k.1.0, less))))
-        (λ more. let l = k.1.1 in subst (λ x. Contains (cs ++ c ∷ []) x) (apart c d is k.0 (omega linear)) (Contains-push cs c)),
+        (λ less. Contains-append_left cs (c ∷ []) d ((h.each d).1 (grind linear)))
+        (λ more. let l = k.1.1 in rw (← apart f once c d is k.0 (omega linear)) (Contains-push cs c)),
   );
 }
 
 -- if no change comes at the last second, the list is that of those before it
-pub same_without : (f : InForce) (from last : ℤ) (cs : List Change) → HasNoChange f (λ u. u ≡ last) → AreChanges f from last cs
+same_without : (f : InForce) (from last : ℤ) (cs : List Change) → HasNoChange f (λ u. u ≡ last) → AreChanges f from last cs
     → AreChanges f from (last +ℤ pos 1) cs
 same_without f _ _ cs none h = grind linear
 
 -- ---- the list that is made second by second
-abbrev one_change : ℤ → LocalType → LocalType → Change
-one_change at before after = record { at = at; before = before; after = after }
-
-the_same : (u v : ℤ) (a b s t : LocalType) → u ≡ v → a ≡ b → s ≡ t → one_change u a s ≡ one_change v b t
-the_same u v a b s t e g h = cc
-
-apart : (f : InForce) → IsOnce f → AreApart f
-apart f once c d h k at = grind (linear, the_same, at)
-
 changes_made : (f : InForce) (types : ℤ → Option LocalType) (from : ℤ) (n : ℕ) → IsOnce f → AreTypes f types
     → AreChanges f from (from +ℤ pos n) (changes_in types from n)
-changes_made f types from zero once told = grind (linear, no_changes)
+changes_made f types from zero once told = grind linear
 changes_made f types from (suc n) once told =
     let last = from +ℤ pos n in
     let earlier = changes_made f _ from n once told in
-    let end : last +ℤ pos 1 ≡ from +ℤ pos (suc n) = omega linear in
-    subst (λ until. AreChanges f from until (changes_in types from n ++ change_here types last)) end (elim (here_listed f types last once told) [
+    let end : from +ℤ pos (suc n) ≡ last +ℤ pos 1 = omega linear in
+    rw end (elim (here_listed f types last once told) [
       | inl none ↦ rw none.0 (rw (append-nil (changes_in types from n)) (same_without f from last (changes_in types from n) none.1 earlier))
-      | inr one ↦ rw one.1 (then_here f _ _ _ _ (apart f once) one.2 one.3 (omega linear) earlier)
+      | inr one ↦ rw one.1 (then_here f _ _ _ _ once one.2 one.3 (omega linear) earlier)
     ])
 
 until_is : (from until : ℤ) → from ≤ℤ until → from +ℤ pos (seconds_between from until) ≡ until
@@ -74,22 +54,6 @@ none_between : (from until : ℤ) → until ≤ℤ from → seconds_between from
 unfolding seconds_between
 none_between _ _ late = rw (lt_false _ _ late)
 
-once_of : (z : Zone) → IsOnce (TypeAt z)
-once_of z u s t h k = type_once z u s t h k
-
--- the list has exactly the changes of the stretch
-pub changes_are : (z : Zone) (from until : ℤ) → IsValid z → IsRuleOrNone z.rule → AreChanges (TypeAt z) from until (changes_of z from until)
-unfolding changes_of
-changes_are z from until valid limits = by_lt_z from until
-    (λ less. subst (λ u. AreChanges (TypeAt z) from u (changes_in (type_or_none z) from (seconds_between from until)))
-    (until_is from _ (omega linear))
-    (changes_made _ _ _ _ (once_of z) (types_told z valid limits)))
-    (λ late. rw (none_between _ _ late)
-    (no_changes _ _ _ (λ d is inside. let m = inside.1 in omega linear)))
-
-pub none_left : (z : Zone) (from until : ℤ) → IsValid z → IsRuleOrNone z.rule → HasNoChange (TypeAt z) (IsFromUntil from until) → changes_of z from until ≡ []
-none_left z from _ valid limits none = empty _ (λ c inside. let k = ((changes_are z _ _ valid limits).each c).0 inside in none c k.0 k.1)
-
 -- the seconds of two stretches, one after the other
 parts : (types : ℤ → Option LocalType) (from : ℤ) (m n : ℕ) → changes_in types from (m + n) ≡ changes_in types from m ++ changes_in types (from +ℤ pos m) n
 parts types from m zero = rw add-zero (sym (append-nil (changes_in types from m)))
@@ -98,22 +62,36 @@ parts types from m (suc n) =
     rw (add-suc, e, parts types from m n)
     (append_assoc (changes_in types from m) (changes_in types (from +ℤ pos m) n) (change_here types (from +ℤ pos (m + n))))
 
--- a change, those before it and those after it
-around : (z : Zone) (from until : ℤ) (c : Change) → IsValid z → IsRuleOrNone z.rule → IsChange (TypeAt z) c → IsFromUntil from until c.at
-    → changes_of z from until ≡ changes_of z from c.at ++ c ∷ changes_of z (c.at +ℤ pos 1) until
-unfolding changes_of
-around z from until c valid limits is inside =
-    let low = inside.0 in let m = seconds_between from c.at in let n = seconds_between (c.at +ℤ pos 1) until in
-    let all = until_is from until (omega linear) in let first = until_is _ _ low in
-    let last = until_is (c.at +ℤ pos 1) until (omega linear) in
-    let split : seconds_between from until ≡ m + (1 + n) = omega linear in
-    let at : c.at +ℤ pos 0 ≡ c.at = omega linear in
-    let here : change_here (type_or_none z) c.at ≡ c ∷ [] = elim (here_listed _ _ c.at (once_of z) (types_told z valid limits)) [
-      | inl none ↦ absurd (none.1 c is refl)
-      | inr one ↦ one.1 ∙ ap (λ d. d ∷ []) (apart (TypeAt z) (once_of z) one.0 c one.2 is one.3)
-    ] in
-    rw split (parts (type_or_none z) from m (1 + n)
-    ∙ rw first (ap (λ cs. changes_in (type_or_none z) from m ++ cs) (parts (type_or_none z) c.at 1 n ∙ rw (at, here))))
+-- a valid zone
+module _ (z : Zone) (valid : IsValid z) (limits : IsRuleOrNone z.rule) (from until : ℤ) where
+  -- the list has exactly the changes of the stretch
+  changes_are : AreChanges (TypeAt z) from until (changes_of z from until)
+  unfolding changes_of
+  changes_are = by_lt_z from until
+      (λ less. subst (λ u. AreChanges (TypeAt z) from u (changes_in (type_or_none z) from (seconds_between from until)))
+      (until_is from _ (omega linear))
+      (changes_made _ _ _ _ (type_once z) (types_told z valid limits)))
+      (λ late. rw (none_between _ _ late) (grind linear))
+
+  none_left : HasNoChange (TypeAt z) (IsFromUntil from until) → changes_of z from until ≡ []
+  none_left none = empty _ (λ c inside. let k = (changes_are.each c).0 inside in none c k.0 k.1)
+
+  -- a change, those before it and those after it
+  around : (c : Change) → IsChange (TypeAt z) c → IsFromUntil from until c.at
+      → changes_of z from until ≡ changes_of z from c.at ++ c ∷ changes_of z (c.at +ℤ pos 1) until
+  unfolding changes_of
+  around c is inside =
+      let low = inside.0 in let m = seconds_between from c.at in let n = seconds_between (c.at +ℤ pos 1) until in
+      let all = until_is from until (omega linear) in let first = until_is _ _ low in
+      let last = until_is (c.at +ℤ pos 1) until (omega linear) in
+      let split : seconds_between from until ≡ m + (1 + n) = omega linear in
+      let at : c.at +ℤ pos 0 ≡ c.at = omega linear in
+      let here : change_here (type_or_none z) c.at ≡ c ∷ [] = elim (here_listed _ _ c.at (type_once z) (types_told z valid limits)) [
+        | inl none ↦ absurd (none.1 c is refl)
+        | inr one ↦ one.1 ∙ ap (λ d. d ∷ []) (apart (TypeAt z) (type_once z) one.0 c one.2 is one.3)
+      ] in
+      rw split (parts (type_or_none z) from m (1 + n)
+      ∙ rw first (ap (λ cs. changes_in (type_or_none z) from m ++ cs) (parts (type_or_none z) c.at 1 n ∙ rw (at, here))))
 
 -- ---- a step of the iterator
 pub steps_first : (s t : Changes) (c : Change) → IsValid s.zone.now → IsRuleOrNone s.zone.now.rule
@@ -121,20 +99,20 @@ pub steps_first : (s t : Changes) (c : Change) → IsValid s.zone.now → IsRule
     → t.zone ≡ s.zone → t.after ≡ c.at → t.last ≡ s.last → changes_left s ≡ c ∷ changes_left t
 unfolding changes_left
 steps_first s t c valid limits h zone after last =
-    let none = none_left _ (s.after +ℤ pos 1) c.at valid limits
+    let none = none_left _ valid limits (s.after +ℤ pos 1) c.at
     (λ d is k. let m = h.nearest d is (omega linear, omega linear) in omega linear) in
-    rw (zone, after, last) (rw none at (around _ (s.after +ℤ pos 1) (s.last +ℤ pos 1) c valid limits h.is (omega linear, omega linear)))
+    rw (zone, after, last) (rw none at (around _ valid limits (s.after +ℤ pos 1) (s.last +ℤ pos 1) c h.is (omega linear, omega linear)))
 
 pub steps_last : (s t : Changes) (c : Change) → IsValid s.zone.now → IsRuleOrNone s.zone.now.rule
     → IsLastChange (TypeAt s.zone.now) (IsInStretch s.after s.last) c
     → t.zone ≡ s.zone → t.after ≡ s.after → t.last ≡ c.at -ℤ pos 1 → changes_left s ≡ changes_left t ++ c ∷ []
 unfolding changes_left
 steps_last s t c valid limits h zone after last =
-    let none = none_left _ (c.at +ℤ pos 1) (s.last +ℤ pos 1) valid limits
+    let none = none_left _ valid limits (c.at +ℤ pos 1) (s.last +ℤ pos 1)
     (λ d is k. let m = h.nearest d is (omega linear, omega linear) in omega linear) in
     let until : (c.at -ℤ pos 1) +ℤ pos 1 ≡ c.at = omega linear in
     rw (zone, after, last, until)
-    (rw none at (around _ (s.after +ℤ pos 1) (s.last +ℤ pos 1) c valid limits h.is (omega linear, omega linear)))
+    (rw none at (around _ valid limits (s.after +ℤ pos 1) (s.last +ℤ pos 1) c h.is (omega linear, omega linear)))
 
 pub steps_none : (s : Changes) → IsValid s.zone.now → IsRuleOrNone s.zone.now.rule → HasNoChange (TypeAt s.zone.now) (IsInStretch s.after s.last)
     → changes_left s ≡ []
@@ -154,10 +132,9 @@ pub all_left : (s : Changes) (from until : ℤ) → IsValid s.zone.now → IsRul
     → AreChanges (TypeAt s.zone.now) from until (changes_left s)
 unfolding changes_left
 all_left s from until valid limits before end =
-    let all = changes_are _ (s.after +ℤ pos 1) (s.last +ℤ pos 1) valid limits in
-    let same : (c : Change) → IsChange (TypeAt s.zone.now) c → IsFromUntil (s.after +ℤ pos 1) (s.last +ℤ pos 1) c.at ↔ IsFromUntil from until c.at =
-    λ c is. same_stretch _ _ _ _ _ (omega linear) before end in grind arith
+    let all = changes_are _ valid limits (s.after +ℤ pos 1) (s.last +ℤ pos 1) in
+    let same = λ (c : Change) (is : IsChange (TypeAt s.zone.now) c). same_stretch _ _ _ _ c.at (omega linear) before end in grind arith
 
 -- without its last element a list is shorter
 pub shorter : (cs ds : List Change) (c : Change) → cs ≡ ds ++ c ∷ [] → length ds < length cs
-shorter cs ds c e = let l = ap length e in let m = length-append ds (c ∷ []) in omega arith
+shorter cs ds c e = grind (arith, length-append)

@@ -2,8 +2,8 @@
 use Rattle.std.specs.Bool.{Decides}
 use Rattle.tz_info.proofs.{
   Words.{Bool, Change, HasNoChange, IfSome, IsAhead, IsChange, IsIdle, IsInStretch, IsNearest, IsOneOf, IsStretchAhead, List, LocalType, MatchOption, None},
-  Words.{Option, Precedes, SFits, Some, arith, false, get_or, inl, inr, linear, near_end, nearer_one, pos, refl, subst, suc, sym, true, type_exact},
-  Words.{unsigned_abs, w64, zero, ℕ, ℤ, ⊎_elim, ◌+ℤ◌, ◌+◌, ◌-ℤ◌, ◌<ℤ◌, ◌↔◌, ◌∙◌, ◌≡◌, ◌≢◌, ◌≤ℤ◌, ◌⊎◌},
+  Words.{Option, SFits, Some, arith, false, get_or, inl, inr, linear, near_end, nearer_one, pos, refl, suc, true, type_exact, unsigned_abs, w64, zero, ℕ, ℤ},
+  Words.{◌+ℤ◌, ◌+◌, ◌-ℤ◌, ◌<ℤ◌, ◌↔◌, ◌≡◌, ◌≢◌, ◌≤ℤ◌, ◌⊎◌},
 }
 
 abbrev pub InForce : Type 1
@@ -11,13 +11,8 @@ InForce = ℤ → LocalType → Type 0
 
 -- one of the first n, or the one at place n
 one_more : (seconds : List ℤ) (n : ℕ) (after last u : ℤ) → IsOneOf seconds (n + 1) after last u
-    → IsOneOf seconds n after last u ⊎ ((get_or seconds n (pos 0) ≡ u) × IsInStretch after last u)
-one_more _ n _ _ u one = grind arith
-
-one_still : (seconds : List ℤ) (n : ℕ) (after last u : ℤ) → IsOneOf seconds n after last u ⊎ ((get_or seconds n (pos 0) ≡ u) × IsInStretch after last u)
-    → IsOneOf seconds (n + 1) after last u
-one_still _ n _ _ u (inl one) = record { place = one.place; below = omega arith; is = one.is; inside = one.inside }
-one_still seconds n after last u (inr here) = record { place = n; below = omega arith; is = here.0; inside = here.1 }
+    ↔ (IsOneOf seconds n after last u ⊎ ((get_or seconds n (pos 0) ≡ u) × IsInStretch after last u))
+one_more _ n _ _ u = (λ one. grind arith, λ h. elim h [ inl one ↦ grind arith | inr here ↦ grind arith ])
 
 -- the same changes, by other conditions
 pub nearest_moved : (w : Bool) (f g : InForce) (p q : ℤ → Type 0) (found : Option Change) → ((d : Change) → IsChange g d → q d.at → IsChange f d × p d.at)
@@ -30,14 +25,10 @@ nearest_moved w f g p q (Some c) to from h = grind arith
 pub nearest_either : (w : Bool) (f : InForce) (p q : ℤ → Type 0) (found other : Option Change) → IsNearest w f p found → IsNearest w f q other
     → IsNearest w f (λ u. p u ⊎ q u) (nearer_one w found other)
 nearest_either w f p q None None h k = grind linear
-nearest_either w f p q None (Some d) h k = record { is = k.is; inside = inr k.inside; nearest = λ e is. ⊎_elim (λ i. absurd (h e is i)) (k.nearest e is) }
-nearest_either w f p q (Some c) None h k = record { is = h.is; inside = inl h.inside; nearest = λ e is. ⊎_elim (h.nearest e is) (λ i. absurd (k e is i)) }
+nearest_either w f p q None (Some d) h k = grind linear
+nearest_either w f p q (Some c) None h k = grind linear
 nearest_either true f p q (Some c) (Some d) h k = grind linear
 nearest_either false f p q (Some c) (Some d) h k = grind linear
-
-precedes_itself : (w : Bool) (x y : ℤ) → x ≡ y → Precedes w x y
-precedes_itself true x y e = omega linear
-precedes_itself false x y e = omega linear
 
 -- one second, of which is known whether it has a change in the stretch
 abbrev pub IsAsked : InForce → ℤ → ℤ → ℤ → Option Change → Type 0
@@ -46,7 +37,8 @@ IsAsked f after last second other = MatchOption other (IsIdle f after last secon
 pub asked : (w : Bool) (f : InForce) (after last second : ℤ) (other : Option Change) → IsAsked f after last second other
     → IsNearest w f (λ u. (second ≡ u) × IsInStretch after last u) other
 asked w f _ _ _ None h = grind linear
-asked w f after last second (Some c) h = record { is = h.0; inside = (sym h.1, rw h.1 h.2); nearest = λ d is k. precedes_itself w _ _ (h.1 ∙ k.0) }
+asked true f after last second (Some c) h = grind linear
+asked false f after last second (Some c) h = grind linear
 
 -- one second more
 pub nearest_more : (w : Bool) (f : InForce) (seconds : List ℤ) (n : ℕ) (after last : ℤ) (found other : Option Change)
@@ -54,8 +46,8 @@ pub nearest_more : (w : Bool) (f : InForce) (seconds : List ℤ) (n : ℕ) (afte
     → IsNearest w f (IsOneOf seconds n after last) found → IsNearest w f (IsOneOf seconds (n + 1) after last) (nearer_one w found other)
 nearest_more w f _ n _ _ _ _ told h =
     nearest_moved w f f _ _ _
-    (λ d is k. (is, one_more _ n _ _ _ k))
-    (λ d is k. (is, one_still _ n _ _ _ k))
+    (λ d is k. (is, (one_more _ n _ _ _).0 k))
+    (λ d is k. (is, (one_more _ n _ _ _).1 k))
     (nearest_either w f _ _ _ _ h (asked w f _ _ _ _ told))
 
 -- the stretch ahead of a second
@@ -94,13 +86,22 @@ none_in_empty f _ _ h d is k = omega linear
 abbrev pub IsOnce : InForce → Type 0
 IsOnce f = (u : ℤ) (s t : LocalType) → f u s → f u t → s ≡ t
 
+abbrev one_change : ℤ → LocalType → LocalType → Change
+one_change at before after = record { at = at; before = before; after = after }
+
+the_same : (u v : ℤ) (a b s t : LocalType) → u ≡ v → a ≡ b → s ≡ t → one_change u a s ≡ one_change v b t
+the_same u v a b s t e g h = cc
+
+-- changes at one second are one
+pub apart : (f : InForce) → IsOnce f → (c d : Change) → IsChange f c → IsChange f d → c.at ≡ d.at → c ≡ d
+apart f once c d h k at = grind (linear, the_same, at)
+
 pub change_made : (f : InForce) (second : ℤ) (s t : LocalType) (r : Option Change) → IsOnce f → SFits w64 second → SFits w64 (second -ℤ pos 1)
     → f (second -ℤ pos 1) s → f second t
     → MatchOption r (s ≡ t) (λ c. (s ≢ t) × (c ≡ record { at = second; before = s; after = t }))
     → MatchOption r (HasNoChange f (λ u. u ≡ second)) (λ c. IsChange f c × (c.at ≡ second))
 change_made f _ s t None once fits fits_before h k e = grind arith
-change_made f second s t (Some c) once fits fits_before h k e =
-    rw e.1 (record { fits = fits; fits_before = fits_before; before = h; after = k; differ = e.0 }, refl)
+change_made f second s t (Some c) once fits fits_before h k e = grind linear
 
 -- no type is in force a second before, or at the second
 pub none_before : (f : InForce) (second : ℤ) → ((t : LocalType) → f (second -ℤ pos 1) t → ⊥) → HasNoChange f (λ u. u ≡ second)
@@ -119,26 +120,16 @@ decided P true d = inl (d.0 refl)
 decided P false d = grind linear
 
 -- from one second to the next
-step_up : (f : InForce) (v w : ℤ) (s t : LocalType) → v ≡ w -ℤ pos 1 → SFits w64 v → SFits w64 w → HasNoChange f (λ x. x ≡ w) → f v s → f w t → s ≡ t
-step_up f v w s t e fits fits_next none h k = elim (decided _ _ (type_exact s t)) [
-  | inl same ↦ same
-  | inr differ ↦
-      let c : Change = record { at = w; before = s; after = t } in
-      absurd (none c (record { fits = fits_next; fits_before = rw e at fits; before = rw e at h; after = k; differ = differ }) refl)
-]
-
--- n seconds later
-steps_up : (f : InForce) (u v : ℤ) (t : LocalType) (n : ℕ) → v ≡ u +ℤ pos n → SFits w64 u → SFits w64 v → HasNoChange f (λ w. (u <ℤ w) × (w ≤ℤ v))
-    → ((w : ℤ) → u ≤ℤ w → w ≤ℤ v → Typed f w) → f u t → f v t
-steps_up f u v t zero e fits fits_end none typed h = grind linear
-steps_up f u v t (suc n) e fits fits_end none typed h =
-    let fits_n : SFits w64 (v -ℤ pos 1) = omega linear in
-    let before = steps_up f u (v -ℤ pos 1) t n (omega linear) fits fits_n (λ d is k. let a = k.0 in none d is (a, omega linear))
-    (λ w low high. typed w low (omega linear)) h in
-    let next = typed v (omega linear) (omega linear) in
-    let same = step_up f _ v t _ refl fits_n fits_end (λ d is k. none d is (omega linear, omega linear)) before next.1 in
-    subst (f v) (sym same) next.1
-
 pub stays : (f : InForce) (u v : ℤ) (t : LocalType) → SFits w64 u → SFits w64 v → u ≤ℤ v → HasNoChange f (λ w. (u <ℤ w) × (w ≤ℤ v))
     → ((w : ℤ) → u ≤ℤ w → w ≤ℤ v → Typed f w) → f u t → f v t
-stays f u v t fits fits_end h none typed k = steps_up f u v t (unsigned_abs (v -ℤ u)) (omega linear) fits fits_end none typed k
+stays f u v t fits fits_end h none typed k = up (unsigned_abs (v -ℤ u)) v (omega linear) (omega linear)
+  where
+    up : (n : ℕ) (w : ℤ) → w ≡ u +ℤ pos n → w ≤ℤ v → f w t
+    up zero w e l = let same : w ≡ u = omega linear in rw same k
+    up (suc n) w e l =
+        let before = up n (w -ℤ pos 1) (omega linear) (omega linear) in
+        let (s, here) = typed w (omega linear) l in
+        elim (decided _ _ (type_exact t s)) [
+          | inl same ↦ rw same here
+          | inr differ ↦ absurd (none (record { at = w; before = t; after = s }) (grind linear) (omega linear, l))
+        ]

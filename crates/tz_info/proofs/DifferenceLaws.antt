@@ -14,25 +14,18 @@ made u v s t = record { from = u; until = v; old = s; new = t }
 the_same : (u v a b : ℤ) (s t m n : LocalType) → u ≡ a → v ≡ b → s ≡ m → t ≡ n → made u v s t ≡ made a b m n
 the_same u v a b s t m n e g h k = cc
 
--- two differences of the same zones that share a second
-module _ (z w : Zone) (from until u : ℤ) (d e : Difference) (h : IsDifference (TypeAt z) (TypeAt w) from until d)
-    (k : IsDifference (TypeAt z) (TypeAt w) from until e) (old : d.old ≡ e.old) (new : d.new ≡ e.new) (i : IsInDifference u d) (j : IsInDifference u e) where
-  not_earlier : d.from ≤ℤ e.from
-  not_earlier = by_lt_z e.from d.from
-      (λ less.
-      let types = k.each (d.from -ℤ pos 1) (omega linear) (omega linear) in
-      absurd (h.begins (omega linear) (subst (TypeAt z (d.from -ℤ pos 1)) (sym old) types.0) (subst (TypeAt w (d.from -ℤ pos 1)) (sym new) types.1)))
-      (λ m. m)
-
-  not_later : e.until ≤ℤ d.until
-  not_later = by_lt_z d.until e.until
-      (λ less.
-      let types = k.each d.until (omega linear) less in
-      absurd (h.ends (omega linear) (subst (TypeAt z d.until) (sym old) types.0) (subst (TypeAt w d.until) (sym new) types.1)))
-      (λ m. m)
-
-equal : (u v : ℤ) → u ≤ℤ v → v ≤ℤ u → u ≡ v
-equal u v h k = omega linear
+-- of two differences of the same zones that share a second, the first has the second's seconds
+covers : (z w : Zone) (from until u : ℤ) (d e : Difference) → IsDifference (TypeAt z) (TypeAt w) from until d → IsDifference (TypeAt z) (TypeAt w) from until e
+    → d.old ≡ e.old → d.new ≡ e.new → IsInDifference u d → IsInDifference u e → (d.from ≤ℤ e.from) × (e.until ≤ℤ d.until)
+covers z w from until u d e h k old new i j = (
+  by_lt_z e.from d.from
+      (λ less. let types = k.each (d.from -ℤ pos 1) (omega linear) (omega linear) in
+      absurd (h.begins (omega linear) (rw (← old) at types.0) (rw (← new) at types.1)))
+      (λ m. m),
+  by_lt_z d.until e.until
+      (λ less. let types = k.each d.until (omega linear) less in absurd (h.ends (omega linear) (rw (← old) at types.0) (rw (← new) at types.1)))
+      (λ m. m),
+)
 
 pub one_difference : (z w : Zone) (from until u : ℤ) (d e : Difference) → IsDifference (TypeAt z) (TypeAt w) from until d
     → IsDifference (TypeAt z) (TypeAt w) from until e
@@ -42,29 +35,53 @@ one_difference z w _ _ u d e h k i j =
     let others = k.each u j.0 j.1 in
     let old = type_once z u _ _ types.0 others.0 in
     let new = type_once w u _ _ types.1 others.1 in
-    the_same _ _ _ _ _ _ _ _
-    (equal _ _ (not_earlier z w _ _ u d e h k old new i j) (not_earlier z w _ _ u e d k h (sym old) (sym new) j i))
-    (equal _ _ (not_later z w _ _ u e d k h (sym old) (sym new) j i) (not_later z w _ _ u d e h k old new i j)) old new
+    let a = covers z w _ _ u d e h k old new i j in
+    let b = covers z w _ _ u e d k h (sym old) (sym new) j i in grind (linear, the_same)
 
 -- ---- both zones keep their types
 pub pair_until : (f g : InForce) (at limit own end : ℤ) → IsRunUntil f at limit own → IsRunUntil g at own end → IsPairUntil f g at limit end
 pair_until f g at _ own end one other = grind linear
 
 -- ---- from pair to pair
--- the pair of two seconds
-turned_at : (z w : Zone) (from until at end : ℤ) (s t : LocalType) → IsPairUntil (TypeAt z) (TypeAt w) at until end → TypeAt z at s → TypeAt w at t
-    → end <ℤ until → (m n : LocalType) → TypeAt z end m → TypeAt w end n → TypeAt z (end -ℤ pos 1) m → TypeAt w (end -ℤ pos 1) n → ⊥
-turned_at z w _ _ at end s t pair h k less m n a b c d =
-    let same = type_once z _ m s c (pair.one (end -ℤ pos 1) (omega linear) (omega linear) s h) in
-    let same_other = type_once w _ n t d (pair.other (end -ℤ pos 1) (omega linear) (omega linear) t k) in
-    pair.turns less s t h k (subst (TypeAt z end) same a) (subst (TypeAt w end) same_other b)
-
--- what is made of a pair that differs
-is_difference : (z w : Zone) (from until at end : ℤ) (s t : LocalType) (ds : List Difference) → AreListedTo (TypeAt z) (TypeAt w) from until at ds
+pub listed_more : (z w : Zone) (from until at end : ℤ) (s t : LocalType) (ds es : List Difference) → AreListedTo (TypeAt z) (TypeAt w) from until at ds
     → IsPairUntil (TypeAt z) (TypeAt w) at until end
-    → TypeAt z at s → TypeAt w at t → s ≢ t → IsDifference (TypeAt z) (TypeAt w) from until (made at end s t)
-is_difference z w _ _ at end s t ds h pair k l differ =
-    record {
+    → TypeAt z at s → TypeAt w at t → IsListedIf ds (made at end s t) es → AreListedTo (TypeAt z) (TypeAt w) from until end es
+listed_more z w from until at end s t ds es h pair k l listed = let reached = h.reached in elim listed [
+  | inl (same, is) ↦ rw is (record {
+    reached = omega linear;
+    rising = h.rising;
+    each = λ d inside. let e = h.each d inside in let b = e.1 in (e.0, omega linear);
+    covered = λ u m n low high a b differ. by_lt_z u at
+        (λ less. h.covered u m n low less a b differ)
+        (λ more.
+        let one = type_once z u m s a (pair.one u more high s k) in
+        let other = type_once w u n t b (pair.other u more high t l) in
+        absurd (differ (one ∙ same ∙ sym other)));
+    turned = λ _. turned;
+  })
+  | inr (differ, is) ↦ rw is (record {
+    reached = omega linear;
+    rising = all_pairs_push (λ d e. d.until ≤ℤ e.from) ds (made at end s t) h.rising (λ i d below. (h.each (get_or ds i d) (Contains-get_or ds i d below)).1);
+    each = λ d inside. elim (Contains-push_cases ds (made at end s t) d inside) [
+      | inl earlier ↦ let e = h.each d earlier in let b = e.1 in (e.0, omega linear)
+      | inr same ↦ rw (← same) (new differ, omega linear)
+    ];
+    covered = λ u m n low high a b apart. by_lt_z u at
+        (λ less. let d = h.covered u m n low less a b apart in (d.0, Contains-append_left ds (made at end s t ∷ []) d.0 d.1, d.2))
+        (λ more. (made at end s t, Contains-push ds (made at end s t), (more, high)));
+    turned = λ _. turned;
+  })
+]
+  where
+    turned : end <ℤ until → (m n : LocalType) → TypeAt z end m → TypeAt w end n → TypeAt z (end -ℤ pos 1) m → TypeAt w (end -ℤ pos 1) n → ⊥
+    turned less m n a b c d =
+        let same = type_once z _ m s c (pair.one (end -ℤ pos 1) (omega linear) (omega linear) s k) in
+        let other = type_once w _ n t d (pair.other (end -ℤ pos 1) (omega linear) (omega linear) t l) in
+        pair.turns less s t k l (rw same at a) (rw other at b)
+
+    -- what is made of a pair that differs
+    new : s ≢ t → IsDifference (TypeAt z) (TypeAt w) from until (made at end s t)
+    new differ = record {
       low = h.reached;
       some = pair.later;
       high = pair.most;
@@ -73,39 +90,6 @@ is_difference z w _ _ at end s t ds h pair k l differ =
       begins = λ less m n. h.turned less (omega linear) s t k l m n;
       ends = λ less m n. pair.turns less s t k l m n;
     }
-
-pub listed_more : (z w : Zone) (from until at end : ℤ) (s t : LocalType) (ds es : List Difference) → AreListedTo (TypeAt z) (TypeAt w) from until at ds
-    → IsPairUntil (TypeAt z) (TypeAt w) at until end
-    → TypeAt z at s → TypeAt w at t → IsListedIf ds (made at end s t) es → AreListedTo (TypeAt z) (TypeAt w) from until end es
-listed_more z w from until at end s t ds es h pair k l (inl (same, is)) =
-    let reached = h.reached in
-    rw is (record {
-      reached = omega linear;
-      rising = h.rising;
-      each = λ d inside. let e = h.each d inside in let b = e.1 in (e.0, omega linear);
-      covered = λ u m n low high a b differ. by_lt_z u at
-          (λ less. h.covered u m n low less a b differ)
-          (λ more.
-          let one = type_once z u m s a (pair.one u more high s k) in
-          let other = type_once w u n t b (pair.other u more high t l) in
-          absurd (differ (one ∙ same ∙ sym other)));
-      turned = λ _ less m n a b c d. turned_at z w from _ at end s t pair k l less m n a b c d;
-    })
-listed_more z w from until at end s t ds es h pair k l (inr (differ, is)) =
-    let reached = h.reached in
-    let new = is_difference z w _ _ at end s t ds h pair k l differ in
-    rw is (record {
-      reached = omega linear;
-      rising = all_pairs_push (λ d e. d.until ≤ℤ e.from) ds (made at end s t) h.rising (λ i d below. (h.each (get_or ds i d) (Contains-get_or ds i d below)).1);
-      each = λ d inside. elim (Contains-push_cases ds (made at end s t) d inside) [
-        | inl earlier ↦ let e = h.each d earlier in let b = e.1 in (e.0, omega linear)
-        | inr same ↦ subst (λ (x : Difference). IsDifference (TypeAt z) (TypeAt w) from until x × (x.until ≤ℤ end)) same (new, omega linear)
-      ];
-      covered = λ u m n low high a b apart. by_lt_z u at
-          (λ less. let d = h.covered u m n low less a b apart in (d.0, Contains-append_left ds (made at end s t ∷ []) d.0 d.1, d.2))
-          (λ more. (made at end s t, Contains-push ds (made at end s t), (more, high)));
-      turned = λ _ less m n a b c d. turned_at z w from until at end s t pair k l less m n a b c d;
-    })
 
 -- a pair that begins at the second `at`
 pub listed_pair : (ds es : List Difference) (d : Difference) (at : ℤ) → d.from ≡ at → IsListedIf ds d es → IsListedIf ds (made at d.until d.old d.new) es

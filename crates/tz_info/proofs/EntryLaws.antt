@@ -1,283 +1,214 @@
 -- How the entries of a zone are made, one transition after another.
-use Rattle.std.proofs.{Math.Seq.{take-suc}, lemmas.{List.{take-append-le, Elements.{filter-append}}, Option.{slice_get_within}}}
+use Rattle.std.proofs.{lemmas.{List.{take-append-le, Elements.{filter-append}}, Option.{slice_get_within}}}
 use Rattle.std.specs.Prelude.{option_to_list}
 use Rattle.tz_info.proofs.{
   LeapSearch.{own_leap_time},
-  Prefixes.{last_taken},
-  SegmentLaws.{come_by_time, not_later, place_most},
-  Words.{AreLeapSeconds, AreRising, Bool, IsFromLast, IsLeapTime, IsLeapTimeRefused, IsValid, LeapSecond, List, None, Option, SFits, Some, Transition, Zone},
-  Words.{[], all_pairs_push, ap, append-nil, arith, by_lt_z, cases_lt, false, get_or, get_or_append_left, get_or_default, get_or_push, index_of, inl, inr},
-  Words.{int_le, last_else, le_false, le_true, length, length_push, linear, map, nat_tests, passed, pos, refl, slice_get, slice_get-get_or, suc, sym, take},
-  Words.{take_all, true, w64, zero, ℕ, ℤ, ◌++◌, ◌+◌, ◌-◌, ◌<ℤ◌, ◌<◌, ◌==◌, ◌↔◌, ◌∙◌, ◌∷◌, ◌≡◌, ◌≢◌, ◌≤ℤ◌, ◌≤◌, ◌⊎◌},
+  Prefixes.{index_within},
+  SegmentLaws.{come_by_time, index_next, not_later, place_most},
+  Words.{All, All-push, AreLeapSeconds, AreRising, IsFromLast, IsLeapTime, IsLeapTimeRefused, IsValid, LeapSecond, List, None, Option, Some, Transition, Zone},
+  Words.{[], all_pairs_push, ap, append-nil, arith, by_lt_z, cases_lt, get_or, get_or_append_left, get_or_default, get_or_push, index_of, inl, inr, last_else},
+  Words.{le_false, le_true, length, length_push, linear, map, nat_tests, passed, pos, refl, slice_get, slice_get-get_or, suc, sym, take, take_all, take_more},
+  Words.{zero, ℕ, ℤ, ◌++◌, ◌+◌, ◌-◌, ◌<ℤ◌, ◌<◌, ◌==◌, ◌↔◌, ◌∙◌, ◌∷◌, ◌≡◌, ◌≢◌, ◌≤ℤ◌, ◌≤◌, ◌⊎◌},
   ZoneChanges.{refused_on},
 }
+use Rattle.tz_info.specs.Transitions.{NameTypes}
 use Rattle.tz_info.specs.Steps.Entries.{AreBefore, AreEntries, EndsAt, IsAdded, IsStartIn, NeverComes, added, idle, last_index, none_there, one_there}
 
 -- ---- lists with one item more
-pub last_more : (ts : List Transition) (t : Transition) (i : ℕ) → last_else i (map (λ (s : Transition). s.type_index) (ts ++ (t ∷ []))) ≡ t.type_index
+last_more : (ts : List Transition) (t : Transition) (i : ℕ) → last_else i (map (λ (s : Transition). s.type_index) (ts ++ (t ∷ []))) ≡ t.type_index
 last_more [] t i = refl
 last_more (s ∷ ts) t i = last_more ts t s.type_index
 
-pub passed_in : (ts : List Transition) (t : Transition) (x : ℤ) → t.unix_leap_time ≤ℤ x → passed (ts ++ (t ∷ [])) x ≡ passed ts x ++ (t ∷ [])
-passed_in ts t x h = rw (filter-append (λ (s : Transition). int_le s.unix_leap_time x) ts (t ∷ []), le_true t.unix_leap_time x h) refl
+passed_in : (ts : List Transition) (t : Transition) (x : ℤ) → t.unix_leap_time ≤ℤ x → passed (ts ++ (t ∷ [])) x ≡ passed ts x ++ (t ∷ [])
+passed_in ts t x h = rw (filter-append, le_true t.unix_leap_time x h) refl
 
-pub passed_out : (ts : List Transition) (t : Transition) (x : ℤ) → x <ℤ t.unix_leap_time → passed (ts ++ (t ∷ [])) x ≡ passed ts x
-passed_out ts t x h = rw (filter-append (λ (s : Transition). int_le s.unix_leap_time x) ts (t ∷ []), le_false t.unix_leap_time x h) (append-nil (passed ts x))
+passed_out : (ts : List Transition) (t : Transition) (x : ℤ) → x <ℤ t.unix_leap_time → passed (ts ++ (t ∷ [])) x ≡ passed ts x
+passed_out ts t x h = rw (filter-append, le_false t.unix_leap_time x h) (append-nil (passed ts x))
 
-pub passed_all : (ts : List Transition) (x : ℤ) → ((k : ℕ) (d : Transition) → k < length ts → (get_or ts k d).unix_leap_time ≤ℤ x) → passed ts x ≡ ts
+passed_all : (ts : List Transition) (x : ℤ) → All (λ t. t.unix_leap_time ≤ℤ x) ts → passed ts x ≡ ts
 passed_all [] x h = refl
 passed_all (t ∷ ts) x h = rw (le_true t.unix_leap_time x (h 0 t (omega arith)), passed_all ts x (λ k d l. h (suc k) d (omega arith))) refl
 
-pub passed_none : (ts : List Transition) (x : ℤ) → ((k : ℕ) (d : Transition) → k < length ts → x <ℤ (get_or ts k d).unix_leap_time) → passed ts x ≡ []
-passed_none [] x h = refl
-passed_none (t ∷ ts) x h = rw (le_false t.unix_leap_time x (h 0 t (omega arith)), passed_none ts x (λ k d l. h (suc k) d (omega arith))) refl
-
 -- none after the first k has come
-pub passed_first : (ts : List Transition) (k : ℕ) (x : ℤ) → ((i : ℕ) (d : Transition) → k ≤ i → i < length ts → x <ℤ (get_or ts i d).unix_leap_time)
+passed_first : (ts : List Transition) (k : ℕ) (x : ℤ) → ((i : ℕ) (d : Transition) → k ≤ i → i < length ts → x <ℤ (get_or ts i d).unix_leap_time)
     → passed ts x ≡ passed (take k ts) x
 passed_first [] zero x h = refl
 passed_first [] (suc k) x h = refl
-passed_first (t ∷ ts) zero x h = passed_none (t ∷ ts) x (λ i d l. h i d (omega arith) l)
+passed_first (t ∷ ts) zero x h =
+    rw (le_false t.unix_leap_time x (h 0 t (omega arith) (omega arith))) (passed_first ts 0 x (λ i d l m. h (suc i) d (omega arith) (omega arith)))
 passed_first (t ∷ ts) (suc k) x h = grind (linear, le_false, le_true, passed_first ts k x (λ i d l m. h (suc i) d (omega arith) (omega arith)))
 
+-- all have come if and only if the last has
+last_come : (ts : List Transition) (i : ℕ) (d : Transition) (x : ℤ) → AreRising ts → i + 1 ≡ length ts
+    → (length (passed ts x) ≡ length ts) ↔ ((get_or ts i d).unix_leap_time ≤ℤ x)
+last_come ts i d x rising e = grind (linear, come_by_time, place_most)
+
 -- ---- the entries of the first k transitions
+abbrev IsOwn : Zone → ℕ → Transition → Type 0
+IsOwn z k e = (t : Transition) × (i : ℕ) × (i < k) × (t ≡ get_or z.transitions i t) × IsStartIn z.leaps t.unix_leap_time e.unix_leap_time
+
 pub record AreMadeOf (z : Zone) (entries : List Transition) (k : ℕ) : Type 0 where
   pub rising : AreRising entries
-  pub indexes : (j : ℕ) (d : Transition) → j < length entries → (get_or entries j d).type_index < length z.types
+  pub indexes : NameTypes (length z.types) entries
   pub few : length entries ≤ k
   pub named : (u x : ℤ) → IsLeapTime z.leaps u x
       → slice_get z.types (last_index (passed (take k z.transitions) x)) ≡ slice_get z.types (last_index (passed entries u))
-  pub leap_time : (j : ℕ) (d : Transition) → j < length entries → (x : ℤ) × IsLeapTime z.leaps (get_or entries j d).unix_leap_time x
-  -- they have come once the first k transitions have
-  pub until : (u y : ℤ) → IsLeapTime z.leaps u y → ((i : ℕ) (d : Transition) → i < k → (get_or z.transitions i d).unix_leap_time ≤ℤ y)
-      → (j : ℕ) (d : Transition) → j < length entries → (get_or entries j d).unix_leap_time ≤ℤ u
-  -- the last transition has come once they have
-  pub last : (i : ℕ) (d : Transition) → i + 1 ≡ k → k ≡ length z.transitions → (u y : ℤ) → IsLeapTime z.leaps u y
-      → ((j : ℕ) (e : Transition) → j < length entries → (get_or entries j e).unix_leap_time ≤ℤ u) → (get_or z.transitions i d).unix_leap_time ≤ℤ y
+  -- each comes when one of those does
+  pub own : All (IsOwn z k) entries
+  pub come : k ≡ length z.transitions → (u x : ℤ) → IsLeapTime z.leaps u x → IsFromLast z x ↔ (length (passed entries u) ≡ length entries)
   pub some : 0 < k → k ≡ length z.transitions → 0 < length entries
   pub differ : (j : ℕ) → j < length entries → (j + 1 < length entries) ⊎ (k < length z.transitions)
       → slice_get z.types (index_of entries (j + 1)) ≢ slice_get z.types (index_of entries j)
 
--- the entries that come before the second s at which the next transition does
-record AreKept (z : Zone) (entries kept : List Transition) (s : ℤ) : Type 0 where
-  rising : AreRising kept
-  indexes : (j : ℕ) (d : Transition) → j < length kept → (get_or kept j d).type_index < length z.types
+-- the entries that are kept: the first ones
+record AreKept (entries kept : List Transition) (s : ℤ) : Type 0 where
   few : length kept ≤ length entries
-  leap_time : (j : ℕ) (d : Transition) → j < length kept → (x : ℤ) × IsLeapTime z.leaps (get_or kept j d).unix_leap_time x
-  earlier : (j : ℕ) (d : Transition) → j < length kept → (get_or kept j d).unix_leap_time <ℤ s
-  same : (u : ℤ) → u <ℤ s → passed entries u ≡ passed kept u
-  differ : (j : ℕ) → j < length kept → slice_get z.types (index_of kept (j + 1)) ≢ slice_get z.types (index_of kept j)
+  item : (j : ℕ) (d : Transition) → j < length kept → get_or kept j d ≡ get_or entries j d
+  index : (j : ℕ) → j ≤ length kept → index_of kept j ≡ index_of entries j
+  same : (u : ℤ) → u <ℤ s → passed kept u ≡ passed entries u
 
 -- the index after the first j of a list is that of a longer one
 index_left : (ts us : List Transition) (j : ℕ) → j ≤ length ts → index_of (ts ++ us) j ≡ index_of ts j
-index_left ts us j h = ap (λ (s : List Transition). last_else 0 (map (λ (t : Transition). t.type_index) s)) (take-append-le j ts us h)
+index_left ts us j h = ap (λ s. last_index s) (take-append-le j ts us h)
 
-sub_one : {j n : ℕ} → j + 1 ≡ n → n - 1 ≡ j
-sub_one e = omega arith
-
-kept_of : (z : Zone) (entries kept : List Transition) (k : ℕ) (s : ℤ) → k < length z.transitions → AreMadeOf z entries k
-    → ((j : ℕ) (d : Transition) → j < length entries → (get_or entries j d).unix_leap_time ≤ℤ s) → AreBefore entries s kept → AreKept z entries kept s
-kept_of z entries kept k s more made until (none_there e other) = rw e (record {
-  rising = made.rising;
-  indexes = made.indexes;
-  few = omega arith;
-  leap_time = made.leap_time;
-  earlier = λ j d h. elim (cases_lt (j + 1) (length entries)) [
-    | inl m ↦
-        let last = until (length entries - 1) d (omega arith) in
-        let r = made.rising j (length entries - 1) d (omega arith) (omega arith) in omega linear
-    | inr m ↦ let a = until j d h in let b : ¬ ((get_or entries j d).unix_leap_time ≡ s) =
-        λ e2. other (get_or entries j d, ap (λ n. slice_get entries n) (sub_one (omega arith)) ∙ slice_get-get_or entries j d h, e2) in omega linear
-  ];
-  same = λ u h. refl;
-  differ = λ j h. made.differ j h (inr more);
+kept_of : (entries kept : List Transition) (s : ℤ) → AreBefore entries s kept → AreKept entries kept s
+kept_of entries kept s (none_there e other) = rw e (record { few = omega arith; item = λ j d h. refl; index = λ j h. refl; same = λ u h. refl })
+kept_of entries kept s (one_there t e at) = rw e (record {
+  few = grind (arith, length_push);
+  item = λ j d h. sym (get_or_append_left kept (t ∷ []) d j h);
+  index = λ j h. sym (index_left kept (t ∷ []) j h);
+  same = λ u h. sym (passed_out kept t u (omega linear));
 })
-kept_of z entries kept k s more made until (one_there t e at) =
-    let n : length entries ≡ length kept + 1 = ap length e ∙ length_push kept t in
-    let item : (j : ℕ) (d : Transition) → j < length kept → get_or entries j d ≡ get_or kept j d = λ j d h. rw e (get_or_append_left kept (t ∷ []) d j h) in
-    let last : (d : Transition) → get_or entries (length kept) d ≡ t = λ d. rw e (get_or_push kept t d (length kept) refl) in
-    record {
-      rising = λ i j d h l. rw (← item i d (omega arith), ← item j d l) (made.rising i j d h (omega arith));
-      indexes = λ j d h. rw (← item j d h) (made.indexes j d (omega arith));
-      few = omega arith;
-      leap_time = λ j d h. rw (← item j d h) (made.leap_time j d (omega arith));
-      earlier = λ j d h.
-          let r = made.rising j (length kept) d h (omega arith) in
-          rw (item j d h, last d, at) at r;
-      same = λ u h. rw e (passed_out kept t u (rw at h));
-      differ = λ j h.
-          let one = index_left kept (t ∷ []) j (omega arith) in
-          let two = index_left kept (t ∷ []) (j + 1) (omega arith) in
-          rw (e, one, two) at (made.differ j (omega arith) (inr more));
-    }
 
--- one transition more
-pub one_more : (z : Zone) (old kept entries : List Transition) (k : ℕ) (s : ℤ) (t entry : Transition) (is_last : Bool) → IsValid z → k < length z.transitions
-    → t ≡ get_or z.transitions k t → AreMadeOf z old k → IsStartIn z.leaps t.unix_leap_time s → AreBefore old s kept
-    → entry.unix_leap_time ≡ s → entry.type_index ≡ t.type_index → (is_last ≡ false → k + 1 < length z.transitions)
-    → (is_last ≡ true → k + 1 ≡ length z.transitions)
-    → IsAdded z.types kept entry is_last entries → AreMadeOf z entries (k + 1)
-one_more z old kept entries k s t entry is_last valid more item made start before at index not_last is_one change =
-    let until : (j : ℕ) (d : Transition) → j < length old → (get_or old j d).unix_leap_time ≤ℤ s = λ j d h.
-    let (y, l) = start.leap_time in
-    let come = (start.reached s y l).1 (omega linear) in
-    made.until s y l (λ i e below.
-    let r = valid.transitions.rising i k e below more in
-    let g = ap (λ (a : Transition). a.unix_leap_time) (get_or_default z.transitions k e t more ∙ sym item) in omega linear) j d h in
-    let k_of = kept_of z old kept k s more made until before in
-    more_of z old kept entries k s t entry is_last valid more item made start k_of at index not_last is_one change
-  where
-    one_taken : (z : Zone) (k : ℕ) (t : Transition) → k < length z.transitions → t ≡ get_or z.transitions k t
-        → take (k + 1) z.transitions ≡ take k z.transitions ++ (t ∷ [])
-    one_taken z k t more item = let e : k + 1 ≡ suc k = omega arith in
-        rw e (take-suc z.transitions k t more ∙ ap (λ (a : Transition). take k z.transitions ++ (a ∷ [])) (sym item))
+-- what holds of all holds of those
+pub kept_all : (P : Transition → Type 0) (entries kept : List Transition) (s : ℤ) → AreBefore entries s kept → All P entries → All P kept
+kept_all P entries kept s before all j d l =
+    let keep = kept_of entries kept s before in
+    let few = keep.few in rw (keep.item j d l) (all j d (omega arith))
 
-    -- before the second nothing is new
-    named_before : (z : Zone) (old kept : List Transition) (k : ℕ) (s u x : ℤ) (t : Transition) → k < length z.transitions
-        → t ≡ get_or z.transitions k t → AreMadeOf z old k
-        → IsStartIn z.leaps t.unix_leap_time s → AreKept z old kept s → IsLeapTime z.leaps u x → u <ℤ s
-        → slice_get z.types (last_index (passed (take (k + 1) z.transitions) x)) ≡ slice_get z.types (last_index (passed kept u))
-    named_before z old kept k s u x t more item made start kp l early =
-        let late : x <ℤ t.unix_leap_time = by_lt_z x t.unix_leap_time (λ h. h) (λ h. let a = (start.reached u x l).0 h in absurd (omega linear)) in
-        rw (one_taken z k t more item, passed_out (take k z.transitions) t x late, ← kp.same u early) (made.named u x l)
+-- all of them come before it
+kept_earlier : (entries kept : List Transition) (s : ℤ) → AreRising entries → All (λ t. t.unix_leap_time ≤ℤ s) entries → AreBefore entries s kept
+    → All (λ t. t.unix_leap_time <ℤ s) kept
+kept_earlier entries kept s rising until (none_there e other) = rw e (λ j d h.
+    let last = until (length entries - 1) d in
+    let r = rising j (length entries - 1) d in
+    by_lt_z _ s (λ q. q) (λ q. absurd (other (get_or entries j d, grind (linear, slice_get-get_or), let here = until j d h in omega linear))))
+kept_earlier entries kept s rising until (one_there t e at) = λ j d h.
+    let r = rw e at rising j (length kept) d h in grind (linear, get_or_append_left, get_or_push, length_push)
 
-    named_from : (z : Zone) (k : ℕ) (s u x : ℤ) (t : Transition) → k < length z.transitions → t ≡ get_or z.transitions k t
-        → IsStartIn z.leaps t.unix_leap_time s → IsLeapTime z.leaps u x → s ≤ℤ u
-        → last_index (passed (take (k + 1) z.transitions) x) ≡ t.type_index
-    named_from z k s u x t more item start l late =
-        rw (one_taken z k t more item, passed_in (take k z.transitions) t x ((start.reached u x l).1 late)) (last_more (passed (take k z.transitions) x) t 0)
+-- ---- one turn of the loop
+pub record IsTurn (z : Zone) (old kept entries : List Transition) (k : ℕ) (s : ℤ) (t : Transition) : Type 0 where
+  pub valid : IsValid z
+  pub more : k < length z.transitions
+  pub item : t ≡ get_or z.transitions k t
+  pub made : AreMadeOf z old k
+  pub start : IsStartIn z.leaps t.unix_leap_time s
+  pub before : AreBefore old s kept
+  pub change : IsAdded z.types kept (record t { unix_leap_time = s }) (k + 1 == length z.transitions) entries
 
-    come_in : (z : Zone) (k : ℕ) (t : Transition) (y : ℤ) → k < length z.transitions → t ≡ get_or z.transitions k t
-        → ((i : ℕ) (d : Transition) → i < k + 1 → (get_or z.transitions i d).unix_leap_time ≤ℤ y) → t.unix_leap_time ≤ℤ y
-    come_in z k t y more item come = let c = come k t (omega arith) in rw (← item) at c
+module _ (z : Zone) (old kept entries : List Transition) (k : ℕ) (s : ℤ) (t : Transition) (h : IsTurn z old kept entries k s t) where
+  earlier : All (λ e. e.unix_leap_time <ℤ s) kept
+  earlier = kept_earlier old kept s h.made.rising (λ j d l.
+      let (y, time) = h.start.leap_time in
+      let (a, i, below, own, start) = h.made.own j d l in
+      let r = h.valid.transitions.rising i k a below h.more in
+      let b = start.reached s y time in
+      let c = h.start.reached s y time in grind (linear, get_or_default)) h.before
 
-    more_of : (z : Zone) (old kept entries : List Transition) (k : ℕ) (s : ℤ) (t entry : Transition) (is_last : Bool) → IsValid z → k < length z.transitions
-        → t ≡ get_or z.transitions k t → AreMadeOf z old k → IsStartIn z.leaps t.unix_leap_time s → AreKept z old kept s
-        → entry.unix_leap_time ≡ s → entry.type_index ≡ t.type_index → (is_last ≡ false → k + 1 < length z.transitions)
-        → (is_last ≡ true → k + 1 ≡ length z.transitions)
-        → IsAdded z.types kept entry is_last entries → AreMadeOf z entries (k + 1)
-    more_of z old kept entries k s t entry is_last valid more item made start kp at index not_last is_one (idle e not same) = rw e (record {
-      rising = kp.rising;
-      indexes = kp.indexes;
-      few = let a = made.few in let b = kp.few in omega arith;
-      named = λ u x l. by_lt_z u s
-          (λ early. named_before z old kept k s u x t more item made start kp l early)
-          (λ late.
-          let all = passed_all kept u (λ j d h. let a = kp.earlier j d h in omega linear) in
-          rw (named_from z k s u x t more item start l late, all, ← index) same);
-      leap_time = kp.leap_time;
-      until = λ u y l come j d h.
-          let a = (start.reached u y l).0 (come_in z k t y more item come) in let b = kp.earlier j d h in omega linear;
-      last = λ i d e2 all. let m = not_last not in absurd (omega arith);
-      some = λ h all. let m = not_last not in absurd (omega arith);
-      differ = λ j h m. kp.differ j h;
-    })
-    more_of z old kept entries k s t entry is_last valid more item made start kp at index not_last is_one (added e why) =
-        let n : length entries ≡ length kept + 1 = ap length e ∙ length_push kept entry in
-        let item_of : (j : ℕ) (d : Transition) → j < length kept → get_or entries j d ≡ get_or kept j d =
-        λ j d h. rw e (get_or_append_left kept (entry ∷ []) d j h) in
-        let own : (d : Transition) → get_or entries (length kept) d ≡ entry = λ d. rw e (get_or_push kept entry d (length kept) refl) in
-        record {
-          rising = rw e (all_pairs_push (λ (a b : Transition). a.unix_leap_time <ℤ b.unix_leap_time) kept entry kp.rising (λ j d h. rw at (kp.earlier j d h)));
-          indexes = λ j d h. elim (cases_lt j (length kept)) [
-            | inl b ↦ rw (item_of j d b) (kp.indexes j d b)
-            | inr m ↦
-                let z2 : j ≡ length kept = omega arith in
-                let i = valid.transitions.indexes in
-                rw (z2, own d, index) (let j2 = i k t more in rw (← item) at j2)
-          ];
-          few = let a = made.few in let b = kp.few in omega arith;
-          named = λ u x l. by_lt_z u s
-              (λ early. rw (e, passed_out kept entry u (rw at early)) (named_before z old kept k s u x t more item made start kp l early))
-              (λ late. rw (
-                named_from z k s u x t more item start l late,
-                e,
-                passed_in kept entry u (rw at late),
-                last_more (passed kept u) entry 0,
-                index,
-              ) refl);
-          leap_time = λ j d h. elim (cases_lt j (length kept)) [
-            | inl b ↦ rw (item_of j d b) (kp.leap_time j d b)
-            | inr m ↦ let z2 : j ≡ length kept = omega arith in rw (z2, own d, at) start.leap_time
-          ];
-          until = λ u y l come j d h.
-              let a = (start.reached u y l).0 (come_in z k t y more item come) in
-              elim (cases_lt j (length kept)) [
-                | inl b ↦ rw (item_of j d b) (let c = kp.earlier j d b in omega linear)
-                | inr m ↦ let z2 : j ≡ length kept = omega arith in rw (z2, own d, at) a
+  keep : AreKept old kept s
+  keep = kept_of old kept s h.before
+
+  taken : take (k + 1) z.transitions ≡ take k z.transitions ++ (t ∷ [])
+  taken = rw (← h.item) at (take_more z.transitions k t h.more)
+
+  -- before the second nothing is new
+  named_before : (u x : ℤ) → IsLeapTime z.leaps u x → u <ℤ s
+      → slice_get z.types (last_index (passed (take (k + 1) z.transitions) x)) ≡ slice_get z.types (last_index (passed kept u))
+  named_before u x l early =
+      let r = h.start.reached u x l in
+      rw (taken, passed_out (take k z.transitions) t x (grind linear), keep.same u early) (h.made.named u x l)
+
+  named_from : (u x : ℤ) → IsLeapTime z.leaps u x → s ≤ℤ u → last_index (passed (take (k + 1) z.transitions) x) ≡ t.type_index
+  named_from u x l late = rw (taken, passed_in (take k z.transitions) t x ((h.start.reached u x l).1 late)) (last_more (passed (take k z.transitions) x) t 0)
+
+  pub turned : AreMadeOf z entries (k + 1)
+  turned =
+      let few = keep.few in
+      let most = h.made.few in
+      let rising : AreRising kept = λ i j d a l. rw (keep.item i d (omega arith), keep.item j d l) (h.made.rising i j d a (omega arith)) in
+      let indexes : NameTypes (length z.types) kept = kept_all (λ a. a.type_index < length z.types) old kept s h.before h.made.indexes in
+      let own : All (IsOwn z (k + 1)) kept = kept_all (IsOwn z (k + 1)) old kept s h.before (λ j d l.
+          let (a, i, below, own, start) = h.made.own j d l in (a, i, omega arith, own, start)) in
+      let differ : (j : ℕ) → j < length kept → slice_get z.types (index_of kept (j + 1)) ≢ slice_get z.types (index_of kept j) = λ j l.
+          rw (keep.index j (omega arith), keep.index (j + 1) (omega arith)) (h.made.differ j (omega arith) (inr h.more)) in
+      elim h.change [
+        | idle e not same ↦ rw e (record {
+          rising = rising;
+          indexes = indexes;
+          few = omega arith;
+          named = λ u x l. by_lt_z u s (named_before u x l) (λ late.
+              rw (named_from u x l late, passed_all kept u (λ j d m. let a = earlier j d m in omega linear)) same);
+          own = own;
+          come = λ n. absurd (grind (arith, nat_tests));
+          some = λ _ n. absurd (grind (arith, nat_tests));
+          differ = λ j l _. differ j l;
+        })
+        | added e why ↦
+            let entry : Transition = record t { unix_leap_time = s } in
+            let n = length_push kept entry in
+            let full = kept ++ (entry ∷ []) in
+            let own_last = get_or_push kept entry t (length kept) refl in
+            let longer : AreRising full =
+            all_pairs_push (λ (a b : Transition). a.unix_leap_time <ℤ b.unix_leap_time) kept entry rising earlier in
+            rw e (record {
+              rising = longer;
+              indexes = All-push (λ a. a.type_index < length z.types) kept entry indexes
+                  (rw (← h.item) at (h.valid.transitions.indexes k t h.more));
+              few = omega arith;
+              named = λ u x l. by_lt_z u s
+                  (λ early. rw (passed_out kept entry u early) (named_before u x l early))
+                  (λ late. rw (named_from u x l late, passed_in kept entry u late, last_more (passed kept u) entry 0) refl);
+              own = All-push (IsOwn z (k + 1)) kept entry own (t, k, omega arith, h.item, h.start);
+              come = λ m u x l.
+                  let first = last_come z.transitions k t x h.valid.transitions.rising m in
+                  let last = last_come full (length kept) t u longer (omega arith) in
+                  let reach = h.start.reached u x l in
+                  ((λ q. last.1 (rw own_last (reach.0 (rw (← h.item) at (first.0 q))))), (λ q. first.1 (rw (← h.item) (reach.1 (rw own_last at (last.0 q))))));
+              some = λ _ _. omega arith;
+              differ = λ j l m. elim (cases_lt j (length kept)) [
+                | inl b ↦ rw (index_left kept (entry ∷ []) j (omega arith), index_left kept (entry ∷ []) (j + 1) (omega arith)) (differ j b)
+                | inr over ↦
+                    let here : j ≡ length kept = omega arith in
+                    let one : index_of full (length kept) ≡ last_index kept = index_left kept (entry ∷ []) (length kept) (omega arith)
+                    ∙ ap (λ a. last_index a) (take_all (length kept) kept (omega arith)) in
+                    rw (here, one, index_next full (length kept) t (omega arith), own_last)
+                    (elim why [ inl ends ↦ absurd (grind (arith, nat_tests)) | inr other ↦ other ])
               ];
-          last = λ i d e2 all u y l come.
-              let c = come (length kept) d (omega arith) in
-              let i2 : i ≡ k = omega arith in
-              let g : (get_or z.transitions k d).unix_leap_time ≡ t.unix_leap_time =
-              ap (λ (a : Transition). a.unix_leap_time) (get_or_default z.transitions k d t more ∙ sym item) in
-              rw (i2, g) ((start.reached u y l).1 (rw (own d, at) at c));
-          some = λ h all. omega arith;
-          differ = λ j h m. elim (cases_lt j (length kept)) [
-            | inl b ↦ rw (e, index_left kept (entry ∷ []) j (omega arith), index_left kept (entry ∷ []) (j + 1) (omega arith)) (kp.differ j b)
-            | inr over ↦
-                let z2 : j ≡ length kept = omega arith in
-                let one = index_left kept (entry ∷ []) (length kept) (omega arith)
-                ∙ ap (λ (a : List Transition). last_index a) (take_all (length kept) kept (omega arith)) in
-                let two : index_of (kept ++ (entry ∷ [])) (length kept + 1) ≡ entry.type_index =
-                ap (λ (a : List Transition). last_index a)
-                (take_all (length kept + 1) (kept ++ (entry ∷ [])) (let p = length_push kept entry in omega arith)) ∙ last_more kept entry 0 in
-                rw (e, z2, one, two)
-                (elim why [ inl ends ↦ absurd (let a = is_one ends in elim m [ inl b ↦ omega arith | inr b ↦ omega arith ]) | inr other ↦ other ])
-          ];
-        }
+            })
+      ]
 
 -- ---- all transitions
--- those that have come are all, if and only if each has
-all_passed : (ts : List Transition) (x : ℤ) → AreRising ts → length (passed ts x) ≡ length ts → (k : ℕ) (d : Transition) → k < length ts
-    → (get_or ts k d).unix_leap_time ≤ℤ x
-all_passed ts x rising e k d h = grind (linear, come_by_time)
-
-from_last : (z : Zone) (entries : List Transition) (u x : ℤ) → IsValid z → AreMadeOf z entries (length z.transitions) → IsLeapTime z.leaps u x
-    → IsFromLast z x ↔ (length (passed entries u) ≡ length entries)
-from_last z entries u x valid made l = (
-  λ come.
-      let all = all_passed z.transitions x valid.transitions.rising come in
-      ap length (passed_all entries u (made.until u x l all)),
-  λ come. elim (cases_lt 0 (length z.transitions)) [
-    | inl some ↦
-        let k = length z.transitions - 1 in
-        let last : (d : Transition) → (get_or z.transitions k d).unix_leap_time ≤ℤ x =
-        λ d. made.last k d (omega arith) refl u x l (all_passed entries u made.rising come) in
-        ap length (passed_all z.transitions x (λ i d h.
-        let n = not_later z.transitions i k d valid.transitions.rising (omega arith) (omega arith) in let m = last d in omega linear))
-    | inr none ↦ let m = place_most z.transitions x valid.transitions.rising in omega arith
-  ],
-)
-
-pub all_come : (z : Zone) (entries : List Transition) (k all : ℕ) → IsValid z → k ≡ length z.transitions → all ≡ length entries → AreMadeOf z entries k
-    → AreEntries z (record { items = entries; all = all; transitions = z.transitions })
-all_come z entries k all valid e a made =
-    let made = rw e at made in
-    rw a (record {
+module _ (z : Zone) (entries : List Transition) (k all : ℕ) (valid : IsValid z) (made : AreMadeOf z entries k) where
+  pub all_come : k ≡ length z.transitions → all ≡ length entries → AreEntries z (record { items = entries; all = all; transitions = z.transitions })
+  all_come e a =
+      let few = made.few in
+      let some = made.some in record {
       listed = refl;
       rising = made.rising;
       indexes = made.indexes;
-      few = made.few;
+      few = omega arith;
       more = omega arith;
       most = omega arith;
-      some = ((λ h. made.some h refl), (λ h. let n = made.few in omega arith));
-      named = λ u x f l. rw (take_all (length z.transitions) z.transitions (omega arith)) at (made.named u x l);
-      come = λ u x f l. from_last z entries u x valid made l;
-      leap_time = made.leap_time;
-      differ = λ j h m. made.differ j h (inl m);
-    })
+      some = grind arith;
+      named = λ u x f l. rw (take_all k z.transitions (omega arith)) at (made.named u x l);
+      come = λ u x f. rw a (made.come e u x);
+      leap_time = λ j d h. (made.own j d h).4.leap_time;
+      differ = λ j h m. made.differ j h (inl (omega arith));
+    }
 
-pub never_come : (z : Zone) (entries : List Transition) (k all : ℕ) (t : Transition) → IsValid z → k < length z.transitions → t ≡ get_or z.transitions k t
-    → NeverComes z.leaps t.unix_leap_time → all ≡ length entries + 1 → AreMadeOf z entries k
-    → AreEntries z (record { items = entries; all = all; transitions = z.transitions })
-never_come z entries k all t valid more item never a made =
-    let first : (u x : ℤ) → SFits w64 u → IsLeapTime z.leaps u x → passed z.transitions x ≡ passed (take k z.transitions) x = λ u x f l.
-    passed_first z.transitions k x (λ i d low h.
-    let late = never u x f l in
-    let g = ap (λ (b : Transition). b.unix_leap_time) (get_or_default z.transitions k d t more ∙ sym item) in
-    let n = not_later z.transitions k i d valid.transitions.rising low h in omega linear) in
-    rw a (record {
+  pub never_come : (t : Transition) → k < length z.transitions → t ≡ get_or z.transitions k t → NeverComes z.leaps t.unix_leap_time
+      → all ≡ length entries + 1 → AreEntries z (record { items = entries; all = all; transitions = z.transitions })
+  never_come t more item never a = record {
       listed = refl;
       rising = made.rising;
       indexes = made.indexes;
@@ -285,17 +216,16 @@ never_come z entries k all t valid more item never a made =
       more = omega arith;
       most = omega arith;
       some = ((λ h. omega arith), (λ h. omega arith));
-      named = λ u x f l. rw (first u x f l) (made.named u x l);
-      come = λ u x f l. (
-        λ come.
-            let late = never u x f l in
-            let c = all_passed z.transitions x valid.transitions.rising come k t more in
-            let g = ap (λ (b : Transition). b.unix_leap_time) item in omega linear,
-        λ come. let m = place_most entries u made.rising in omega arith,
-      );
-      leap_time = made.leap_time;
+      named = λ u x f l. rw (passed_first z.transitions k x (λ i d low h.
+          let late = never u x f l in
+          let n = not_later z.transitions k i d valid.transitions.rising low h in grind (linear, get_or_default))) (made.named u x l);
+      come = λ u x f l.
+          let late = never u x f l in
+          let c = come_by_time z.transitions x k t valid.transitions.rising more in
+          let m = place_most entries u made.rising in grind linear;
+      leap_time = λ j d h. (made.own j d h).4.leap_time;
       differ = λ j h m. made.differ j h (inr more);
-    })
+    }
 
 -- the transitions are the entries, if there is no leap second and each but the last changes the type
 abbrev pub AreChanges : Zone → ℕ → Type 0
@@ -307,28 +237,26 @@ one_change z n some h last k below = grind linear
 
 pub own_entries : (z : Zone) → IsValid z → length z.leaps ≡ 0 → AreChanges z (length z.transitions)
     → AreEntries z (record { items = z.transitions; all = length z.transitions; transitions = z.transitions })
-own_entries z valid none differ = record {
-  listed = refl;
-  rising = valid.transitions.rising;
-  indexes = valid.transitions.indexes;
-  few = omega arith;
-  more = omega arith;
-  most = omega arith;
-  some = ((λ h. h), (λ h. h));
-  named = λ u x f l. rw (same z.leaps u x none l) refl;
-  come = λ u x f l. rw (same z.leaps u x none l) ((λ h. h), (λ h. h));
-  leap_time = λ k d h. ((get_or z.transitions k d).unix_leap_time, own_leap_time z.leaps (get_or z.transitions k d).unix_leap_time none);
-  differ = λ k h more. differ k more;
-}
-  where
-    same : (leaps : List LeapSecond) (u x : ℤ) → length leaps ≡ 0 → IsLeapTime leaps u x → x ≡ u
-    same [] u x none l = let s = l.sum in omega linear
-    same (e ∷ es) u x none l = absurd (omega arith)
+own_entries z valid none differ =
+    let same : (u x : ℤ) → IsLeapTime z.leaps u x → x ≡ u = λ u x l. let s = l.sum in let t = (own_leap_time z.leaps u none).sum in omega linear in
+    record {
+      listed = refl;
+      rising = valid.transitions.rising;
+      indexes = valid.transitions.indexes;
+      few = omega arith;
+      more = omega arith;
+      most = omega arith;
+      some = ((λ h. h), (λ h. h));
+      named = λ u x f l. rw (same u x l) refl;
+      come = λ u x f l. rw (same u x l) ((λ h. h), (λ h. h));
+      leap_time = λ k d h. (_, own_leap_time z.leaps _ none);
+      differ = λ k h more. differ k more;
+    }
 
 -- ---- the second at which a transition comes
 pub never_then : (leaps : List LeapSecond) (x start : ℤ) → ((u y : ℤ) → IsLeapTime leaps u y → (x ≤ℤ y) ↔ (start ≤ℤ u))
     → pos 9_223_372_036_854_775_807 <ℤ start → NeverComes leaps x
-never_then leaps x start reached late u y f l = by_lt_z y x (λ h. h) (λ h. let a = (reached u y l).0 h in absurd (omega linear))
+never_then leaps x start reached late u y f l = let a = reached u y l in grind linear
 
 pub never_refused : (leaps : List LeapSecond) (x start : ℤ) → AreLeapSeconds leaps → ((u y : ℤ) → IsLeapTime leaps u y → (x ≤ℤ y) ↔ (start ≤ℤ u))
     → IsLeapTimeRefused leaps start
@@ -340,53 +268,18 @@ never_refused leaps x start valid reached refused u y f l =
 pub popped : (entries kept : List Transition) (r : Option Transition) (second : ℤ) → EndsAt entries second → entries ≡ kept ++ option_to_list r
     → ((d : Transition) → 0 < length entries → r ≡ Some (get_or entries (length entries - 1) d)) → AreBefore entries second kept
 popped entries kept None second (t, is, at) e value =
-    absurd (let some = slice_get_within entries (length entries - 1) t is in let v = value t (omega arith) in cc)
+    let some = slice_get_within entries (length entries - 1) t is in let v = value t (omega arith) in absurd cc
 popped entries kept (Some r) second (t, is, at) e value =
     let some = slice_get_within entries (length entries - 1) t is in
-    let v = value t (omega arith) in
-    let g = slice_get-get_or entries (length entries - 1) t some in
-    one_there r e (grind arith)
+    let v = value t (omega arith) in one_there r e (grind (arith, slice_get-get_or))
 
 pub last_item : (entries : List Transition) (t : Transition) → 0 < length entries → t ≡ get_or entries (length entries - 1) t
     → t.type_index ≡ last_index entries
 last_item entries t some item =
-    let n : suc (length entries - 1) ≡ length entries = omega arith in
-    let e = last_taken (λ (a : Transition). a.type_index) 0 entries (length entries - 1) t (omega arith) in
-    ap (λ (a : Transition). a.type_index) item ∙ sym e ∙ ap (λ (a : List Transition). last_index a) (take_all (suc (length entries - 1)) entries (omega arith))
+    let n : length entries - 1 + 1 ≡ length entries = omega arith in
+    sym (rw (n, take_all (length entries) entries (omega arith), ← item) at (index_next entries (length entries - 1) t (omega arith)))
 
 pub last_below : (entries : List Transition) (n : ℕ) → 0 < n
-    → ((k : ℕ) (d : Transition) → k < length entries → (get_or entries k d).type_index < n) → last_index entries < n
-last_below entries n some named = below entries 0 n some named
-  where
-    below : (ts : List Transition) (i n : ℕ) → i < n → ((k : ℕ) (d : Transition) → k < length ts → (get_or ts k d).type_index < n)
-        → last_else i (map (λ (t : Transition). t.type_index) ts) < n
-    below [] i n h all = h
-    below (t ∷ ts) i n h all = below ts t.type_index n (all 0 t (omega arith)) (λ k d l. all (suc k) d (omega arith))
-
--- ---- one turn of the loop
-pub record IsTurn (z : Zone) (old kept entries : List Transition) (k : ℕ) (s : ℤ) (t entry : Transition) (is_last : Bool) : Type 0 where
-  pub more : k < length z.transitions
-  pub item : t ≡ get_or z.transitions k t
-  pub made : AreMadeOf z old k
-  pub start : IsStartIn z.leaps t.unix_leap_time s
-  pub before : AreBefore old s kept
-  pub at : entry ≡ record t { unix_leap_time = s }
-  pub last : is_last ≡ (k + 1 == length z.transitions)
-  pub change : IsAdded z.types kept entry is_last entries
-
-pub turned : (z : Zone) (old kept entries : List Transition) (k : ℕ) (s : ℤ) (t entry : Transition) (is_last : Bool) → IsValid z
-    → IsTurn z old kept entries k s t entry is_last → AreMadeOf z entries (k + 1)
-turned z old kept entries k s t entry is_last valid h =
-    one_more z old kept entries k s t entry is_last valid h.more h.item h.made h.start h.before (ap (λ (a : Transition). a.unix_leap_time) h.at)
-    (ap (λ (a : Transition). a.type_index) h.at)
-    (λ e. let m = h.more in let l = h.last in grind (arith, nat_tests)) (λ e. let l = h.last in grind (arith, nat_tests)) h.change
-
--- those that are kept name types
-pub kept_named : (entries kept : List Transition) (second : ℤ) (n : ℕ) → AreBefore entries second kept
-    → ((k : ℕ) (d : Transition) → k < length entries → (get_or entries k d).type_index < n)
-    → (k : ℕ) (d : Transition) → k < length kept → (get_or kept k d).type_index < n
-kept_named entries kept second n (none_there e other) named k d h = rw e (named k d (rw e at h))
-kept_named entries kept second n (one_there t e at) named k d h =
-    let m : length entries ≡ length kept + 1 = ap length e ∙ length_push kept t in
-    let g : get_or entries k d ≡ get_or kept k d = rw e (get_or_append_left kept (t ∷ []) d k h) in
-    rw (← g) (named k d (omega arith))
+    → NameTypes n entries → last_index entries < n
+last_below entries n some named =
+    rw (take_all (length entries) entries (omega arith)) at (index_within n entries (length entries) some named (omega arith))

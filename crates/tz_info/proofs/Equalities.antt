@@ -23,7 +23,7 @@ option_exact : {X : Type 0} (E : X → X → Bool) → IsExact E → IsExact (op
 option_exact E exact None None = (λ h. refl, λ e. refl)
 option_exact E exact None (Some y) = (λ h. cc, λ e. cc)
 option_exact E exact (Some x) None = (λ h. cc, λ e. cc)
-option_exact E exact (Some x) (Some y) = (λ h. ap Some ((exact x y).0 h), λ e. (exact x y).1 (cc))
+option_exact E exact (Some x) (Some y) = let e = exact x y in grind arith
 
 -- ---- records, as pairs of their fields
 abbrev pub pair_eq : {X Y : Type 0} → (X → X → Bool) → (Y → Y → Bool) → (X × Y) → (X × Y) → Bool

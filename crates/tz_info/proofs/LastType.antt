@@ -3,18 +3,15 @@ use Rattle.std.proofs.lemmas.Option.{slice_get_within}
 use Rattle.tz_info.proofs.{
   SegmentLaws.{come_by_time, index_next, split_at, split_count, type_in_from},
   Words.{Agrees, HasType, IfSome, IsLeapTime, IsUnixTime, IsValid, LeapSecond, List, LocalType, None, Option, RuleOrElse, Some, Transition, TransitionRule},
-  Words.{TypeAt, Zone, ap, arith, get_or, index_of, last_transition, length, slice_get, slice_get-get_or, sym, ℤ, ◌+◌, ◌-◌, ◌<◌, ◌∙◌, ◌≡◌, ◌≤ℤ◌},
+  Words.{TypeAt, Zone, arith, get_or, last_transition, length, slice_get, slice_get-get_or, ℤ, ◌+◌, ◌-◌, ◌<◌, ◌≡◌, ◌≤ℤ◌},
   ZoneLaws.{some_once},
 }
 
 some_last : (ts : List Transition) (last : Transition) → last_transition ts ≡ Some last → 0 < length ts
-some_last ts last is = let l = slice_get_within ts (length ts - 1) last is in omega arith
+some_last ts last is = grind (arith, slice_get_within)
 
 pub last_is : (ts : List Transition) (last : Transition) → last_transition ts ≡ Some last → get_or ts (length ts - 1) last ≡ last
-last_is ts last is =
-    let h = some_last ts _ is in
-    let g : Some (get_or ts (length ts - 1) last) ≡ Some last = sym (slice_get-get_or ts (length ts - 1) last (omega arith)) ∙ is in
-    cc
+last_is ts last is = grind (arith, slice_get-get_or, some_last)
 
 -- what the rule says at the transition's Unix time, or without a rule the transition's type
 said : (rule : Option TransitionRule) (types : List LocalType) (leaps : List LeapSecond) (ts : List Transition) (last : Transition) (u : ℤ) (t : LocalType)
@@ -23,8 +20,7 @@ said : (rule : Option TransitionRule) (types : List LocalType) (leaps : List Lea
 said None _ _ ts _ u t agrees is unix has = has
 said (Some r) types leaps ts last u t agrees is unix has =
     let a = rw is at agrees in
-    let same = a.of_transition.difference ∙ sym unix.difference in
-    rw (same, some_once _ _ t a.listed has) at a.of_rule
+    let same = some_once _ _ t a.listed has in grind arith
 
 -- if the last transition has come by its second, its type is in force there
 pub last_type : (z : Zone) (last : Transition) (u x : ℤ) (t : LocalType) → IsValid z → last_transition z.transitions ≡ Some last
@@ -38,8 +34,6 @@ last_type z last u x t valid is unix time come has =
     let n = split_count ts x p.0 p.1 in
     let passed = (come_by_time ts x (length ts - 1) last rising (omega arith)).1 (rw e come) in
     let all : p.0 ≡ length ts = omega arith in
-    let between = rw all at p.1 in
-    let same : length ts ≡ (length ts - 1) + 1 = omega arith in
-    let index =
-    ap (λ k. index_of ts k) same ∙ index_next ts _ _ (omega arith) ∙ ap (λ d. d.type_index) e in
-    (type_in_from z u x t time between (rw index (said _ _ _ ts _ u t valid.agrees is unix has))).type
+    let same : length ts - 1 + 1 ≡ length ts = omega arith in
+    let index = rw (same, e) at (index_next ts (length ts - 1) last (omega arith)) in
+    (type_in_from z u x t time (rw all at p.1) (rw index (said _ _ _ ts _ u t valid.agrees is unix has))).type

@@ -43,16 +43,16 @@ pub record Before (es : List LeapSecond) (x v : ℤ) (i : ℕ) : Type 0 where
 
 -- leap seconds in order
 module _ (es : List LeapSecond) (d : LeapSecond) (valid : AreLeapSeconds es) where
+  pub times_rise : (i j : ℕ) → i ≤ j → j < length es → (get_or es i d).unix_leap_time ≤ℤ (get_or es j d).unix_leap_time
+  times_rise i j h l =
+      rises (λ k. (get_or es k d).unix_leap_time) _ (λ k b. let t = ((follow es valid).next k d b).later in omega linear) i j h l
+
   pub before_found : (i : ℕ) (x v : ℤ) → i ≤ length es → Before es x v i → (i < length es → x ≤ℤ (get_or es i d).unix_leap_time) → v ≡ correction_before es x
   before_found i x v h p stops =
-      let e = filter_first (λ (e : LeapSecond). int_lt e.unix_leap_time x) es i h
+      rw (filter_first (λ e. int_lt e.unix_leap_time x) es i h
       (λ k f l. lt_true _ x (p.before k f l))
       (λ k f l m.
-      let r = rises (λ j. (get_or es j f).unix_leap_time) _ (λ j b. let t = ((follow es valid).next j f (omega arith)).later in
-      omega linear) i k l m in
-      let g = ap (λ (e : LeapSecond). e.unix_leap_time) (get_or_default es i f d (omega arith)) in
-      lt_false _ x (omega linear)) in
-      rw e p.value
+      let r = times_rise i k l m in lt_false _ x (grind (linear, get_or_default)))) p.value
 
   -- the correction before the first entry's own time, and before a later one's
   pub before_first : 0 < length es → correction_before es (get_or es 0 d).unix_leap_time ≡ pos 0
@@ -64,11 +64,8 @@ module _ (es : List LeapSecond) (d : LeapSecond) (valid : AreLeapSeconds es) whe
   before_later k h =
       let x = (get_or es (k + 1) d).unix_leap_time in
       sym (before_found (k + 1) x _ (omega arith) (record {
-        value = rw (add-one, last_taken (λ (e : LeapSecond). e.correction) _ es k d (omega arith));
+        value = rw (add-one, last_taken (λ e. e.correction) _ es k d (omega arith));
         before = λ j f l.
-            let r = rises (λ i. (get_or es i d).unix_leap_time) (length es) (λ i b. let t = ((follow es valid).next i d (omega arith)).later in
-            omega linear) j k (omega arith) (omega arith) in
-            let n = (valid.next k d (omega arith)).later in
-            let g = ap (λ (e : LeapSecond). e.unix_leap_time) (get_or_default es j f d (omega arith)) in
-            omega linear;
+            let r = times_rise j k (omega arith) (omega arith) in
+            let n = (valid.next k d (omega arith)).later in grind (linear, get_or_default);
       }) (λ _. omega linear))

@@ -4,8 +4,9 @@ use Rattle.tz_info.proofs.{
   LeapEntries.{Follow, follow, follow_tail, threshold_apart, threshold_at, threshold_count},
   Prefixes.{last_taken},
   Words.{AreCounted, AreLeapSeconds, IsLeapTime, IsLeapTimeRefused, IsUnixTime, LeapSecond, List, [], add-one, ap, arith, by_lt_z, cond, correction_at},
-  Words.{corrections, count_by, count_by-le-length, filter, filter_first, get_or, inl, inr, int_le, int_lt, ints, last_else, le_false, le_true, length, linear},
-  Words.{mapped_at, neg_ℤ, passed_count, pos, refl, suc, sum_by-cons, sym, take, thresholds, zero, ℕ, ℤ, ◌*◌, ◌+ℤ◌, ◌-ℤ◌, ◌<ℤ◌, ◌<◌, ◌∙◌, ◌∷◌, ◌≡◌, ◌≤ℤ◌, ◌≤◌},
+  Words.{corrections, count_by, count_by-le-length, filter, filter_first, get_or, int_le, int_lt, ints, last_else, le_false, le_true, length, linear},
+  Words.{mapped_at, neg_ℤ, passed_count, pos, refl, suc, sum_by-cons, sym, take, thresholds, zero, ℕ, ℤ, ◌*◌, ◌+ℤ◌, ◌-ℤ◌, ◌<ℤ◌, ◌<◌, ◌↔◌, ◌∙◌, ◌∷◌, ◌≡◌, ◌≤ℤ◌},
+  Words.{◌≤◌},
 }
 
 -- how many entries after one of correction p are passed at u
@@ -29,9 +30,6 @@ module _ (p : ℤ) (e : LeapSecond) (es : List LeapSecond) where
   not_counted : (u : ℤ) → u <ℤ (e.unix_leap_time -ℤ p) → counted_from p (e ∷ es) u ≡ counted_from e.correction es u
   not_counted u h = grind (linear, le_false)
 
-  summed_counted : (u : ℤ) → (e.unix_leap_time -ℤ p) ≤ℤ u → summed p (e ∷ es) u ≡ summed e.correction es u
-  summed_counted u h = rw (counted u h)
-
 -- where u lies before the first threshold no entry is passed
 pub none_counted : (p u : ℤ) (es : List LeapSecond) → Follow p es
     → ((d : LeapSecond) → 0 < length es → u <ℤ ((get_or es 0 d).unix_leap_time -ℤ p)) → counted_from p es u ≡ 0
@@ -40,22 +38,19 @@ none_counted p u (e ∷ es) f h =
     let here = h e (omega arith) in
     not_counted p e es u here ∙ none_counted _ u es (follow_tail p e es f) (λ d l. let t = tail_later p e es f d l in omega linear)
 
-summed_none : (p u : ℤ) (es : List LeapSecond) → Follow p es
-    → ((d : LeapSecond) → 0 < length es → u <ℤ ((get_or es 0 d).unix_leap_time -ℤ p)) → summed p es u ≡ u +ℤ p
-summed_none p u es f h = rw (none_counted p u es f h)
-
 sums_rise : (p u v : ℤ) (es : List LeapSecond) → Follow p es → u ≤ℤ v → summed p es u ≤ℤ summed p es v
 sums_rise p u v [] f h = omega linear
-sums_rise p u v (e ∷ es) f h = by_lt_z u (e.unix_leap_time -ℤ p)
-    (λ below. by_lt_z v (e.unix_leap_time -ℤ p)
-    (λ under. rw (summed_none p u _ f (λ d l. below), summed_none p v _ f (λ d l. under)) (omega linear))
-    (λ above.
+sums_rise p u v (e ∷ es) f h =
     let t = follow_tail p e es f in
-    let r = sums_rise _ _ v es t above in
-    let q = summed_none _ (e.unix_leap_time -ℤ p) es t (λ d l. let t = tail_later p e es f d l in omega linear) in
-    rw (summed_none p u _ f (λ d l. below), summed_counted p e es v above)
-    (elim (f.step e (omega arith)) [ inl k ↦ omega linear | inr k ↦ omega linear ])))
-    (λ above. rw (summed_counted p e es u above, summed_counted p e es v (omega linear)) (sums_rise e.correction u v es (follow_tail p e es f) h))
+    by_lt_z u (e.unix_leap_time -ℤ p)
+    (λ below. by_lt_z v (e.unix_leap_time -ℤ p)
+    (λ under. rw (none_counted p u _ f (λ d l. below), none_counted p v _ f (λ d l. under)) (omega linear))
+    (λ above.
+    let q = none_counted _ (e.unix_leap_time -ℤ p) es t (λ d l. let t = tail_later p e es f d l in omega linear) in
+    let r = rw q at (sums_rise _ (e.unix_leap_time -ℤ p) v es t above) in
+    let s = f.step e (omega arith) in
+    rw (none_counted p u _ f (λ d l. below), counted p e es v above) (grind linear)))
+    (λ above. rw (counted p e es u above, counted p e es v (omega linear)) (sums_rise e.correction u v es t h))
 
 pub leap_sums_rise : (es : List LeapSecond) (u v : ℤ) → AreLeapSeconds es → u ≤ℤ v → (u +ℤ correction_at es u) ≤ℤ (v +ℤ correction_at es v)
 leap_sums_rise es u v valid h = sums_rise _ u v es (follow es valid) h
@@ -74,7 +69,7 @@ pub record Bounded (p a u : ℤ) (es : List LeapSecond) (k : ℕ) : Type 0 where
   pub most : get_or (corrections es) k (pos 0) ≤ℤ (p +ℤ pos (suc k))
   pub least : p ≤ℤ (get_or (corrections es) k (pos 0) +ℤ pos (suc k))
 
-pub bounded : (p a u : ℤ) (es : List LeapSecond) (k : ℕ) → Follow p es → ((d : LeapSecond) → 0 < length es → a ≤ℤ ((get_or es 0 d).unix_leap_time -ℤ p))
+bounded : (p a u : ℤ) (es : List LeapSecond) (k : ℕ) → Follow p es → ((d : LeapSecond) → 0 < length es → a ≤ℤ ((get_or es 0 d).unix_leap_time -ℤ p))
     → k < counted_from p es u → Bounded p a u es k
 bounded p a u [] k f h l = absurd (omega arith)
 bounded p a u (e ∷ es) zero f h l =
@@ -91,28 +86,27 @@ bounded p a u (e ∷ es) (suc k) f h l =
       )) (omega arith),
     )
 
+-- a passed entry of a valid list
+pub passed_bounded : (es : List LeapSecond) (u : ℤ) (k : ℕ) → AreLeapSeconds es → k < passed_count es u → Bounded (pos 0) (pos 0) u es k
+passed_bounded es u k valid h = bounded _ (pos 0) u es k (follow es valid) (λ d l. let f = (valid.first d l).since_epoch in omega linear) h
+
 pub leap_times_answer : (es : List LeapSecond) (u : ℤ) → AreLeapSeconds es → neg_ℤ (pos 10_000_000_000_000) ≤ℤ u
     → u ≤ℤ pos 10_000_000_000_000 → IsLeapTimeRefused es u → ⊥
 leap_times_answer es u valid low high r =
-    let b = bounded _ (pos 0) u es _ (follow es valid) (λ d l. let f = (valid.first d l).since_epoch in omega linear) r.passed in
-    grind arith
+    let b = passed_bounded es u _ valid r.passed in grind arith
 
 -- the passed entries are those whose thresholds are not above u
-pub record Split (p u : ℤ) (es : List LeapSecond) (k : ℕ) : Type 0 where
-  pub passed : k < counted_from p es u → get_or (thresholds p es) k (pos 0) ≤ℤ u
-  pub not_passed : counted_from p es u ≤ k → u <ℤ get_or (thresholds p es) k (pos 0)
-
-pub split : (p u : ℤ) (es : List LeapSecond) (k : ℕ) → Follow p es → k < length es → Split p u es k
+pub split : (p u : ℤ) (es : List LeapSecond) (k : ℕ) → Follow p es → k < length es → (k < counted_from p es u) ↔ (get_or (thresholds p es) k (pos 0) ≤ℤ u)
 split p u [] k f h = absurd (omega arith)
 split p u (e ∷ es) zero f h = by_lt_z u (e.unix_leap_time -ℤ p)
-    (λ below. let z = none_counted p u _ f (λ d m. below) in record { passed = λ l. absurd (omega arith); not_passed = λ l. below })
-    (λ above. let c = counted p e es u above in record { passed = λ l. above; not_passed = λ l. absurd (omega arith) })
+    (λ below. let z = none_counted p u _ f (λ d m. below) in (λ l. absurd (omega arith), λ l. absurd (omega linear)))
+    (λ above. let c = counted p e es u above in (λ l. above, λ l. omega arith))
 split p u (e ∷ es) (suc k) f h =
     let r = split _ u es k (follow_tail p e es f) (omega arith) in
     by_lt_z u (e.unix_leap_time -ℤ p)
     (λ below.
     let c = not_counted p e es u below in let z = none_counted p u _ f (λ d m. below) in
-    record { passed = λ l. omega arith; not_passed = λ l. r.not_passed (omega arith) })
+    (λ l. absurd (omega arith), λ l. let q = r.1 l in absurd (omega arith)))
     (λ above. grind (arith, counted))
 
 -- the correction of the last of the first k entries is k
@@ -121,20 +115,20 @@ counted_correction [] zero c h = refl
 counted_correction [] (suc k) c h = absurd (omega arith)
 counted_correction (e ∷ es) zero c h = refl
 counted_correction (e ∷ es) (suc k) c h =
-    last_taken (λ (e : LeapSecond). e.correction) (pos 0) (e ∷ es) k e (omega arith)
-    ∙ sym (mapped_at (λ (e : LeapSecond). e.correction) (e ∷ es) k e (pos 0) (omega arith)) ∙ c k (omega arith) ∙ ap pos (add-one k)
+    last_taken (λ e. e.correction) (pos 0) (e ∷ es) k e (omega arith)
+    ∙ sym (mapped_at (λ e. e.correction) (e ∷ es) k e (pos 0) (omega arith)) ∙ c k (omega arith) ∙ ap pos (add-one k)
 
 pub leap_time_undone : (es : List LeapSecond) (u x v : ℤ) → AreLeapSeconds es → AreCounted es → IsLeapTime es u x → IsUnixTime es x v → v ≡ u
 leap_time_undone es u x v valid c a b =
     let n = passed_count es u in
     let m = threshold_count (pos 0) es in
     let l = count_by-le-length (λ t. int_le t u) (thresholds (pos 0) es) in
-    let f : filter (λ (e : LeapSecond). int_lt e.unix_leap_time x) es ≡ take n es =
-    filter_first (λ (e : LeapSecond). int_lt e.unix_leap_time x) es n (omega arith)
+    let f : filter (λ e. int_lt e.unix_leap_time x) es ≡ take n es =
+    filter_first (λ e. int_lt e.unix_leap_time x) es n (omega arith)
     (λ k d j.
-    let t = (split _ u es k (follow es valid) (omega arith)).passed j in
+    let t = (split _ u es k (follow es valid) (omega arith)).0 j in
     let w = threshold_at (pos 0) es k d (pos 0) (omega arith) in grind (linear, counted_correction))
     (λ k d j i.
-    let t = (split (pos 0) u es k (follow es valid) i).not_passed j in
+    let t = split (pos 0) u es k (follow es valid) i in
     let w = threshold_at (pos 0) es k d (pos 0) i in grind (linear, counted_correction)) in
     grind arith

@@ -2,10 +2,10 @@
 use Rattle.std.proofs.lemmas.Int.{clamps}
 use Rattle.std.specs.{Int.{int_min, saturate_signed}, List.Sorted.{IsPartitionedBy}}
 use Rattle.tz_info.proofs.{
-  LeapEntries.{follow, threshold, threshold_at},
-  LeapOrder.{bounded, split},
-  LeapStarts.{correction_behind, passed_at_most, times_rise},
-  Prefixes.{last_taken},
+  LeapEntries.{follow, threshold, threshold_at, times_rise},
+  LeapOrder.{passed_bounded, split},
+  LeapStarts.{correction_behind, passed_at_most, passed_when},
+  Prefixes.{any_leap, last_taken},
   Words.{AreLeapSeconds, IsLeapTime, LeapSecond, List, SFits, [], arith, by_lt_z, cases_lt, corrections, get_or, inl, inr, int_le, int_lt, le_is, le_true},
   Words.{length, linear, mapped_at, passed_count, pos, refl, suc, true, w64, zero, ℕ, ℤ, ◌+ℤ◌, ◌+◌, ◌-ℤ◌, ◌<ℤ◌, ◌<◌, ◌↔◌, ◌∷◌, ◌≡◌, ◌≤ℤ◌, ◌≤◌},
 }
@@ -36,14 +36,7 @@ by_saturated l s r fits some e p = grind (linear, le_saturated, fits, some, le_t
 pub passed_here : (es : List LeapSecond) (u v : ℤ) (k : ℕ) (d : LeapSecond) → AreLeapSeconds es → k < length es → v ≡ correction_behind es k
     → (int_le (get_or es k d).unix_leap_time (u +ℤ v) ≡ true) ↔ (k < passed_count es u)
 passed_here es u v k d valid h e =
-    let s = split (pos 0) u es k (follow es valid) h in
-    let t = threshold_at (pos 0) es k d (pos 0) h in (
-      λ come. elim (cases_lt k (passed_count es u)) [
-        | inl l ↦ l
-        | inr m ↦ omega linear
-      ],
-      λ l. le_true _ (u +ℤ v) (omega linear),
-    )
+    let p = passed_when es d valid u k h in grind (linear, le_true, le_is)
 
 -- a leap time of a second of 64 bits is one of 64 bits
 pub leap_time_fits : (es : List LeapSecond) (u x : ℤ) → SFits w64 u → IsLeapTime es u x → SFits w64 x
@@ -51,10 +44,9 @@ leap_time_fits es u x f l = by_count (passed_count es u) refl where
   by_count : (n : ℕ) → passed_count es u ≡ n → SFits w64 x
   by_count zero e = let s = rw e at l.sum in omega linear
   by_count (suc m) e =
-      let d : LeapSecond = record { unix_leap_time = pos 0; correction = pos 0 } in
       let within = passed_at_most es u in
-      let s = rw (e, last_taken (λ e. e.correction) _ es m d (omega arith)) at l.sum in
-      let t = rw (mapped_at (λ e. e.correction) es m d (pos 0) (omega arith)) at (l.fits m (omega arith)) in
+      let s = rw (e, last_taken (λ e. e.correction) _ es m any_leap (omega arith)) at l.sum in
+      let t = rw (mapped_at (λ e. e.correction) es m any_leap (pos 0) (omega arith)) at (l.fits m (omega arith)) in
       rw s t
 
 -- ---- the last second that has a leap time
@@ -80,8 +72,7 @@ pub record AreRefusedFrom (es : List LeapSecond) (k : ℕ) (refused : ℤ) : Typ
 -- with the entry at place k, which refuses from `by` on
 pub refused_more : (es : List LeapSecond) (k : ℕ) (old by new : ℤ) → AreRefusedFrom es k old → pos 4_611_686_018_427_387_904 ≤ℤ by
     → ((u : ℤ) → (by ≤ℤ u) ↔ Refuses es k u) → new ≡ int_min old by → AreRefusedFrom es (k + 1) new
-refused_more es k old by new r late refuses e =
-    record {
+refused_more es k old by new r late refuses e = record {
       late = omega (linear, clamps);
       most = omega (linear, clamps);
       some = λ u h l. by_lt_z u old
@@ -89,7 +80,7 @@ refused_more es k old by new r late refuses e =
           (λ from. let (j, less, is) = r.some u from l in (j, omega arith, is));
       only = λ u j less is. elim (cases_lt j k) [
         | inl b ↦ let o = r.only u j b is in omega (linear, clamps)
-        | inr m ↦ let same : j ≡ k = omega arith in let o = (refuses u).1 (rw same at is) in omega (linear, clamps)
+        | inr m ↦ let o = refuses u in grind (linear, clamps)
       ];
     }
 
@@ -101,30 +92,22 @@ last_with_leap_time es _ _ valid r e = record {
     sum = refl;
     fits = λ k l.
         let m = passed_at_most es u in
-        let t = (split _ u es k (follow es valid) (omega arith)).passed l in
-        let b = bounded _ (pos 0) u es k (follow es valid) (λ d n. let f = (valid.first d n).since_epoch in omega linear) l in
-        by_lt_z (u +ℤ get_or (corrections es) k (pos 0)) (pos 9_223_372_036_854_775_808)
-        (λ within. omega linear)
-        (λ beyond. let o = r.only u k (omega arith) (t, beyond) in omega linear);
+        let t = (split _ u es k (follow es valid) (omega arith)).0 l in
+        let b = passed_bounded es u k valid l in
+        let o = r.only u k (omega arith) in grind linear;
   };
   refused = λ u h l.
       let (j, less, is) = r.some u (omega linear) (omega linear) in
       record {
         place = j;
-        passed = elim (cases_lt j (passed_count es u)) [
-          | inl b ↦ b
-          | inr m ↦ let n = (split _ u es j (follow es valid) less).not_passed m in omega linear
-        ];
+        passed = (split _ u es j (follow es valid) less).1 is.0;
         leaves = λ f. omega linear;
       };
 }
 
 -- ---- the entries before a leap time
 pub parted_before : (es : List LeapSecond) (x : ℤ) → AreLeapSeconds es → IsPartitionedBy (λ e. int_lt e.unix_leap_time x) es
-parted_before es x valid i j d h l t = let r = times_rise es d valid i j h l in
-    earlier (get_or es i d).unix_leap_time (get_or es j d).unix_leap_time x r t where
-      earlier : (a b x : ℤ) → a ≤ℤ b → int_lt b x ≡ true → int_lt a x ≡ true
-      earlier a b x h t = grind arith
+parted_before es x valid i j d h l t = let r = times_rise es d valid i j h l in grind arith
 
 -- without leap seconds the leap time of a second is that second
 pub own_leap_time : (es : List LeapSecond) (u : ℤ) → length es ≡ 0 → IsLeapTime es u u

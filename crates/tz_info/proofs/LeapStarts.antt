@@ -1,12 +1,12 @@
 -- The first second at which a leap time has come.
 use Rattle.std.specs.List.Sorted.{IsPartitionedBy}
 use Rattle.tz_info.proofs.{
-  LeapEntries.{follow, threshold, threshold_at, threshold_count},
+  LeapEntries.{follow, threshold_at, threshold_count, times_rise},
   LeapOrder.{split},
   Prefixes.{last_taken},
   Words.{AreLeapSeconds, HaveCome, IsLeapTime, IsNear, IsOneStep, LeapSecond, List, [], arith, by_lt_z, cases_lt, corrections, count_by-le-length, get_or, inl},
-  Words.{inr, int_le, last_else, length, linear, passed_count, pos, rises, saturate_signed, suc, take, thresholds, w64, zero, ℕ, ℤ, ◌+ℤ◌, ◌-ℤ◌, ◌-◌, ◌<ℤ◌, ◌<◌},
-  Words.{◌↔◌, ◌∷◌, ◌≡◌, ◌≤ℤ◌, ◌≤◌},
+  Words.{inr, int_le, last_else, length, linear, passed_count, pos, saturate_signed, suc, take, thresholds, w64, zero, ℕ, ℤ, ◌+ℤ◌, ◌-ℤ◌, ◌-◌, ◌<ℤ◌, ◌<◌, ◌↔◌},
+  Words.{◌∷◌, ◌≡◌, ◌≤ℤ◌, ◌≤◌},
 }
 
 -- the correction in force after the first k entries
@@ -16,7 +16,7 @@ correction_behind es k = last_else (pos 0) (corrections (take k es))
 pub passed_at_most : (es : List LeapSecond) (u : ℤ) → passed_count es u ≤ length es
 passed_at_most es u = omega (arith, count_by-le-length (λ t. int_le t u) (thresholds (pos 0) es), threshold_count (pos 0) es)
 
-pub no_first : {X : Type 0} (xs : List X) (n : ℕ) → n < length xs → X
+no_first : {X : Type 0} (xs : List X) (n : ℕ) → n < length xs → X
 no_first [] n h = absurd (omega arith)
 no_first (x ∷ xs) n h = x
 
@@ -30,59 +30,44 @@ saturated_rise v w h = grind arith
 -- leap seconds in order
 module _ (es : List LeapSecond) (d : LeapSecond) (valid : AreLeapSeconds es) where
   one_step : (k : ℕ) → k < length es → IsOneStep (correction_behind es k) (correction_behind es (suc k))
-  one_step zero h = rw (last_taken (λ (e : LeapSecond). e.correction) _ es _ d h) ((follow es valid).step d (omega arith))
+  one_step zero h = rw (last_taken (λ e. e.correction) _ es _ d h) ((follow es valid).step d (omega arith))
   one_step (suc k) h =
-      rw (last_taken (λ (e : LeapSecond). e.correction) _ es _ d h, last_taken (λ (e : LeapSecond). e.correction) _ es k d (omega arith))
+      rw (last_taken (λ e. e.correction) _ es _ d h, last_taken (λ e. e.correction) _ es k d (omega arith))
       (((follow es valid).next k d h).step)
+
+  -- an entry is passed if and only if its time has come with the correction before it
+  pub passed_when : (u : ℤ) (k : ℕ) → k < length es → (k < passed_count es u) ↔ (((get_or es k d).unix_leap_time -ℤ correction_behind es k) ≤ℤ u)
+  passed_when u k h =
+      let s = split (pos 0) u es k (follow es valid) h in
+      let t = threshold_at (pos 0) es k d (pos 0) h in grind linear
 
   -- fewer entries are passed at u than come by x
   below_law : (x u y : ℤ) (n : ℕ) → HaveCome es x n → IsLeapTime es u y → passed_count es u < n → y <ℤ x
-  below_law x u y n h l less =
-      let c = passed_count es u in
-      let s = (split _ u es c (follow es valid) (omega arith)).not_passed (omega arith) in
-      let t = threshold_at (pos 0) es c d (pos 0) (omega arith) in grind arith
+  below_law x u y n h l less = let p = passed_when u (passed_count es u) in grind arith
 
   -- more entries are passed at u than come by x
   above_law : (x u y : ℤ) (n c : ℕ) → HaveCome es x n → IsLeapTime es u y → passed_count es u ≡ suc c → n ≤ c → x ≤ℤ y
   above_law x u y n c h l is more =
       let m = passed_at_most es u in
-      let s = (split _ u es c (follow es valid) (omega arith)).passed (omega arith) in
-      let t = threshold_at (pos 0) es c d (pos 0) (omega arith) in
+      let s = (passed_when u c (omega arith)).0 (omega arith) in
       let a : x <ℤ (get_or es c d).unix_leap_time = by_lt_z x (get_or es c d).unix_leap_time (λ k. k) (λ k. absurd (h.after c d more (omega arith) k)) in
       let e : y ≡ u +ℤ correction_behind es (suc c) = rw is at l.sum in
       elim (one_step c (omega arith)) [ inl k ↦ omega linear | inr k ↦ omega linear ]
 
   -- and then x less the correction in force at x comes before u
   above_start : (x u : ℤ) (n : ℕ) → HaveCome es x n → n < passed_count es u → (x -ℤ correction_behind es n) ≤ℤ u
-  above_start x u n h more =
-      let m = passed_at_most es u in
-      let s = (split _ u es n (follow es valid) (omega arith)).passed more in
-      let t = threshold_at (pos 0) es n d (pos 0) (omega arith) in grind arith
+  above_start x u n h more = let m = passed_at_most es u in let p = passed_when u n in grind arith
 
   -- else at the later of two seconds: the one at which the latest entry is passed, and the one that its correction leads back to
-  pub reached_later : (x u y : ℤ) (n : ℕ) → HaveCome es x (suc n) → IsLeapTime es u y
-      → (x ≤ℤ y) ↔ ((threshold es n ≤ℤ u) × ((x -ℤ correction_behind es (suc n)) ≤ℤ u))
-  reached_later x u y n h l =
-      elim (cases_lt (passed_count es u) (suc n)) [
-        | inl less ↦
-            let s = (split _ u es n (follow es valid) (omega arith)).not_passed (omega arith) in
-            let b = below_law x u y _ h l less in
-            ((λ k. omega linear), (λ k. omega linear))
-        | inr from ↦
-            let s = (split _ u es n (follow es valid) (omega arith)).passed (omega arith) in
-            elim (cases_lt (suc n) (passed_count es u)) [
-              | inl more ↦
-                  let a = above_law x u y _ (passed_count es u - 1) h l (omega arith) (omega arith) in
-                  let b = above_start x u _ h more in
-                  ((λ _. (s, b)), (λ _. a))
-              | inr most ↦
-                  let z : passed_count es u ≡ suc n = omega arith in grind linear
-            ]
-      ]
-
-  pub times_rise : (i j : ℕ) → i ≤ j → j < length es → (get_or es i d).unix_leap_time ≤ℤ (get_or es j d).unix_leap_time
-  times_rise i j h l =
-      rises (λ k. (get_or es k d).unix_leap_time) _ (λ k b. let t = ((follow es valid).next k d b).later in omega linear) i j h l
+  pub reached_later : (x u y : ℤ) (n : ℕ) → HaveCome es x n → 0 < n → IsLeapTime es u y
+      → (x ≤ℤ y) ↔ ((((get_or es (n - 1) d).unix_leap_time -ℤ correction_behind es (n - 1)) ≤ℤ u) × ((x -ℤ correction_behind es n) ≤ℤ u))
+  reached_later x u y n h some l =
+      let w = h.within in
+      let p = passed_when u (n - 1) (omega arith) in
+      let b = below_law x u y n h l in
+      let a = above_law x u y n (passed_count es u - 1) h l in
+      let c = above_start x u n h in
+      elim (cases_lt n (passed_count es u)) [ inl more ↦ grind linear | inr most ↦ grind linear ]
 
 -- if none has come, the leap time is reached at the same number
 pub reached_first : (es : List LeapSecond) (x u y : ℤ) → AreLeapSeconds es → HaveCome es x 0 → IsLeapTime es u y → (x ≤ℤ y) ↔ (x ≤ℤ u)
@@ -91,8 +76,7 @@ reached_first es x u y valid h l = elim (cases_lt 0 (passed_count es u)) [
       let m = passed_at_most es u in
       let d = no_first es 0 (omega arith) in
       let a = above_law es d valid x u y 0 (passed_count es u - 1) h l (omega arith) (omega arith) in
-      let b = above_start es d valid x u 0 h more in
-      ((λ _. omega linear), (λ _. a))
+      let b = above_start es d valid x u 0 h more in grind linear
   | inr none ↦ grind arith
 ]
 
@@ -105,9 +89,6 @@ pub come_here : (es : List LeapSecond) (x : ℤ) (n : ℕ) → AreLeapSeconds es
     → ((d : LeapSecond) → n < length es → x <ℤ (get_or es n d).unix_leap_time) → HaveCome es x n
 come_here es x n valid within since until = record {
   within = within;
-  before = λ k d l. let r = times_rise es d valid k (n - 1) (omega arith) (omega arith) in let q = since d (omega arith) in omega linear;
-  after = λ k d a l t. let r = times_rise es d valid n k a l in let q = until d (omega arith) in omega linear;
+  before = λ k d l. let r = times_rise es d valid k (n - 1) in let q = since d in grind linear;
+  after = λ k d a l t. let r = times_rise es d valid n k in let q = until d in grind linear;
 }
-
-pub both_ways : {P Q R : Type 0} → P ↔ Q → R ↔ Q → P ↔ R
-both_ways f g = ((λ p. g.1 (f.0 p)), (λ r. f.1 (g.0 r)))

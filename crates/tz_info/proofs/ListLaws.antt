@@ -1,6 +1,6 @@
 -- Values by places.
 use Rattle.std.proofs.lemmas.Bool.{and_right}
-use Rattle.tz_info.proofs.Words.{Bool, Err, Error, List, Ok, Result, all_below, and_parts, arith, cases_lt, false, inl, inr, suc, sym, true, values_below, zero}
+use Rattle.tz_info.proofs.Words.{Bool, Err, Error, List, Ok, Result, all_below, and_parts, arith, cases_lt, false, inl, inr, suc, true, values_below, zero}
 use Rattle.tz_info.proofs.Words.{ℕ, ◌<◌, ◌≡◌}
 
 -- the first error is that of all
@@ -9,26 +9,18 @@ pub first_refusal : {X : Type 0} (n i : ℕ) (read : ℕ → Result X Error) (xs
 first_refusal zero i _ xs e l p q = absurd (omega arith)
 first_refusal {X = X} (suc n) i read xs e l p q = elim (cases_lt i n) as (λ _. values_below (suc n) read ≡ Err e) [
   | inl h ↦ rw (first_refusal n i _ xs e h p q)
-  | inr h ↦
-      let same : i ≡ n = omega arith in
-      let p' : values_below n read ≡ Ok xs = rw (sym same) p in
-      let q' : read n ≡ Err e = rw (sym same) q in rw (p', q')
+  | inr h ↦ let same : n ≡ i = omega arith in rw (same, p, q)
 ]
 
 pub one_false : (n i : ℕ) (test : ℕ → Bool) → i < n → test i ≡ false → all_below n test ≡ false
 one_false zero i _ l q = absurd (omega arith)
 one_false (suc n) i test l q = elim (cases_lt i n) as (λ _. all_below (suc n) test ≡ false) [
   | inl h ↦ rw (one_false n i _ h q)
-  | inr h ↦
-      let same : i ≡ n = omega arith in
-      let q' : test n ≡ false = rw (sym same) q in and_right (all_below n test) (test n) q'
+  | inr h ↦ let same : n ≡ i = omega arith in rw same (and_right (all_below i test) (test i) q)
 ]
 
 pub one_true : (n i : ℕ) (test : ℕ → Bool) → i < n → all_below n test ≡ true → test i ≡ true
 one_true zero i _ l q = absurd (omega arith)
 one_true (suc n) i test l q =
     let parts = and_parts (all_below n test) (test n) q in
-    elim (cases_lt i n) as (λ _. test i ≡ true) [
-      | inl h ↦ one_true n i _ h parts.0
-      | inr h ↦ let same : i ≡ n = omega arith in rw same parts.1
-    ]
+    elim (cases_lt i n) as (λ _. test i ≡ true) [ inl h ↦ one_true n i _ h parts.0 | inr h ↦ let same : i ≡ n = omega arith in rw same parts.1 ]

@@ -3,13 +3,13 @@ use Rattle.std.proofs.lemmas.Bool.Decides.{Decides-like}
 use Rattle.tz_info.proofs.{
   RuleDays.{day_within},
   Words.{Alternate, Bool, DayTime, Decides, Decides-or, IsAlternateRule, IsDstAt, IsInSomeYear, IsRuleDay, IsWithinDay, IsWithinWeek, IsYearOf, arith, by_lt_z},
-  Words.{cond, days_at_least, end_in, floors, inl, inr, int_le, is_between, is_dst_by_one, is_in_three, linear, moment, neg_ℤ, not, pos, refl, start_in},
-  Words.{starts_rise, true, year_start, year_step, ℤ, ⊎_elim, ◌*ℤ◌, ◌+ℤ◌, ◌-ℤ◌, ◌<ℤ◌, ◌≡◌, ◌≤ℤ◌, ◌⊎◌},
+  Words.{cond, days_at_least, end_in, floors, inl, inr, int_le, is_between, is_dst_by_one, is_in_three, linear, moment, neg_ℤ, new_year, not, pos, refl},
+  Words.{start_in, starts_rise, true, year_start, year_step, ℤ, ⊎_elim, ◌*ℤ◌, ◌+ℤ◌, ◌-ℤ◌, ◌<ℤ◌, ◌≡◌, ◌≤ℤ◌, ◌⊎◌},
 }
 
 -- the moments of each year lie less than eight days outside of it
 pub record IsNear (moments : ℤ → ℤ) : Type 0 where
-  pub low : (year : ℤ) → (pos 86_400 *ℤ year_start year -ℤ pos 691_198) ≤ℤ moments year
+  pub low : (year : ℤ) → (new_year year -ℤ pos 691_198) ≤ℤ moments year
   pub high : (year : ℤ) → moments year ≤ℤ (pos 86_400 *ℤ (year_start year +ℤ pos 365) +ℤ pos 691_198)
 
 pub near_years : (t : DayTime) (offset : ℤ) → IsRuleDay t.day → IsWithinWeek t.time → IsWithinDay offset → IsNear (moment t offset)
@@ -34,15 +34,13 @@ year_after a b h =
 
 -- two years later at least 730 days later
 pub two_years_after : (a b : ℤ) → (a +ℤ pos 1) <ℤ b → (year_start a +ℤ pos 730) ≤ℤ year_start b
-two_years_after a b h =
-    let step = year_after a (a +ℤ pos 1) (omega (arith, floors)) in let next = year_after _ b h in
-    omega (arith, floors)
+two_years_after a b h = let step = year_after a (a +ℤ pos 1) in let next = year_after (a +ℤ pos 1) b in grind (linear, floors)
 
 -- a second of the year comes from the year's first day on, and before the next year
-pub second_low : (u year : ℤ) → IsYearOf u year → (pos 86_400 *ℤ year_start year) ≤ℤ u
+pub second_low : (u year : ℤ) → IsYearOf u year → new_year year ≤ℤ u
 second_low u _ h = omega (arith, floors)
 
-pub second_high : (u year : ℤ) → IsYearOf u year → u <ℤ (pos 86_400 *ℤ year_start (year +ℤ pos 1))
+pub second_high : (u year : ℤ) → IsYearOf u year → u <ℤ new_year (year +ℤ pos 1)
 second_high u _ h = omega (arith, floors)
 
 pub not_earlier : (lasts : ℤ → ℤ) (u year other : ℤ) → IsNear lasts → IsYearOf u year → u <ℤ lasts other → (year -ℤ pos 1) ≤ℤ other
@@ -63,14 +61,8 @@ not_later _ u year other near of_second from = by_lt_z (year +ℤ pos 1) other
 pub place : (year other : ℤ) → (year -ℤ pos 1) ≤ℤ other → other ≤ℤ (year +ℤ pos 1) → (other ≡ year -ℤ pos 1) ⊎ ((other ≡ year) ⊎ (other ≡ year +ℤ pos 1))
 place _ _ low high = grind arith
 
-between_true : (first last u : ℤ) → first ≤ℤ u → u <ℤ last → is_between first last u ≡ true
-between_true _ _ u from before = grind arith
-
-between_is : (first last u : ℤ) → is_between first last u ≡ true → (first ≤ℤ u) × (u <ℤ last)
-between_is _ _ u h = grind arith
-
 between : (first last u : ℤ) → Decides (is_between first last u) ((first ≤ℤ u) × (u <ℤ last))
-between _ _ u = (between_is _ _ u, λ h. between_true _ _ u h.0 h.1)
+between _ _ u = (λ h. grind arith, λ h. grind arith)
 
 by_three : (firsts lasts : ℤ → ℤ) (year u : ℤ) → IsNear firsts → IsNear lasts → IsYearOf u year
     → Decides (is_in_three firsts lasts year u) (IsInSomeYear firsts lasts u)
@@ -85,7 +77,7 @@ by_three firsts lasts year u near_first near_last of_second = Decides-like _
 
 -- the moments of each year keep that margin from its ends
 pub record KeepsMargin (moments : ℤ → ℤ) (margin : ℤ) : Type 0 where
-  pub low : (year : ℤ) → (pos 86_400 *ℤ year_start year +ℤ margin) ≤ℤ moments year
+  pub low : (year : ℤ) → (new_year year +ℤ margin) ≤ℤ moments year
   pub high : (year : ℤ) → moments year ≤ℤ (pos 86_400 *ℤ (year_start year +ℤ pos 365) -ℤ margin)
 
 pub near_margin : (moments : ℤ → ℤ) → IsNear moments → KeepsMargin moments (neg_ℤ (pos 691_200))
@@ -94,7 +86,7 @@ near_margin _ near = grind arith
 -- the second lies no further outside the year than its neighbours' moments lie inside theirs
 abbrev pub IsBeside : ℤ → ℤ → ℤ → Type 0
 IsBeside margin year u =
-    ((pos 86_400 *ℤ year_start year -ℤ margin) ≤ℤ u) × (u <ℤ (pos 86_400 *ℤ (year_start year +ℤ pos 365) +ℤ margin))
+    ((new_year year -ℤ margin) ≤ℤ u) × (u <ℤ (pos 86_400 *ℤ (year_start year +ℤ pos 365) +ℤ margin))
 
 -- there only the year's own moments can enclose it
 own_year : (firsts lasts : ℤ → ℤ) (margin year u other : ℤ) → KeepsMargin firsts margin → KeepsMargin lasts margin → IsBeside margin year u → firsts other ≤ℤ u

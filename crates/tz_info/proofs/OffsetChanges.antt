@@ -3,8 +3,8 @@ use Rattle.tz_info.proofs.{
   ChangeLaws.{one_change},
   SegmentLaws.{come_at_time, segment_most},
   Words.{Alternate as AlternateRule, AlternateAt, Bool, Change, IsBegin, IsChange, IsFirstChange, IsLastChange, IsNearestOffsetChange, IsOffsetChange, IsValid},
-  Words.{KeepsOffset, LocalType, SFits, Some, TypeAt, Zone, ap, arith, by_lt_z, cases_lt, false, inl, inr, length, linear, pos, refl, segment_of, sym, true},
-  Words.{type_when, w64, ℤ, ◌-ℤ◌, ◌<ℤ◌, ◌∙◌, ◌≡◌, ◌≤ℤ◌},
+  Words.{KeepsOffset, LocalType, SFits, Some, TypeAt, Zone, ap, by_lt_z, false, length, linear, pos, refl, segment_of, sym, true, type_when, w64, ℤ, ◌-ℤ◌},
+  Words.{◌<ℤ◌, ◌∙◌, ◌≡◌, ◌≤ℤ◌},
   ZoneChanges.{last_too, time_of, to_rule},
 }
 use Rattle.tz_info.specs.declared.rule.transition_rule.TransitionRule.TheVariants.{Alternate}
@@ -19,10 +19,7 @@ kept_one z c d h is same kept =
 -- all transitions have come at a second with a type from `begin` on
 has_begun : (z : Zone) (begin u : ℤ) (t : LocalType) → IsValid z → IsBegin z begin → SFits w64 u → TypeAt z u t → begin ≤ℤ u
     → segment_of z u ≡ length z.transitions
-has_begun z _ u t valid h fits k from = elim (cases_lt 0 (length z.transitions)) [
-  | inl some ↦ let l = time_of z u t some k in sym (come_at_time z u _ l) ∙ (h.comes u k.leap_time fits l).1 from
-  | inr none ↦ let m = segment_most z u valid.transitions.rising in omega arith
-]
+has_begun z _ u t valid h fits k from = grind (linear, time_of, come_at_time, segment_most)
 
 of_two : (a : AlternateRule) (dst : Bool) → a.std.offset ≡ a.dst.offset → (type_when a dst).offset ≡ a.std.offset
 of_two a true same = sym same
@@ -45,30 +42,22 @@ module _ (z : Zone) (after reached : ℤ) (order : after ≤ℤ reached) (kept :
   -- ---- on from the second `after`
   pub found_on : (c : Change) → IsFirstChange (TypeAt z) (λ u. reached <ℤ u) c → (c.before.offset ≡ c.after.offset → ⊥)
       → IsNearestOffsetChange true (TypeAt z) (λ u. after <ℤ u) c
-  found_on c next other = let inside = next.inside in record {
-    is = record { is = next.is; other = other };
-    inside = omega linear;
-    nearest = λ d is later. by_lt_z reached d.at (λ l. next.nearest d is.is l) (λ m. absurd (kept d is (later, m)));
-  }
+  found_on c next other = grind linear
 
   pub goes_on : (c : Change) → IsFirstChange (TypeAt z) (λ u. reached <ℤ u) c → c.before.offset ≡ c.after.offset
       → KeepsOffset (TypeAt z) (λ u. (after <ℤ u) × (u ≤ℤ c.at))
   goes_on c next same d is inside = by_lt_z reached d.at
-      (λ l. let least = next.nearest d is.is l in let most = inside.1 in kept_one z c d is next.is (omega linear) same)
+      (λ l. let least = next.nearest d is.is l in kept_one z c d is next.is (grind linear) same)
       (λ m. kept d is (inside.0, m))
 
 module _ (z : Zone) (last reached : ℤ) (order : reached ≤ℤ last) (kept : KeepsOffset (TypeAt z) (λ u. (reached <ℤ u) × (u ≤ℤ last))) where
   -- ---- back from the second `last`
   pub found_back : (c : Change) → IsLastChange (TypeAt z) (λ u. u ≤ℤ reached) c → (c.before.offset ≡ c.after.offset → ⊥)
       → IsNearestOffsetChange false (TypeAt z) (λ u. u ≤ℤ last) c
-  found_back c next other = let inside = next.inside in record {
-    is = record { is = next.is; other = other };
-    inside = omega linear;
-    nearest = λ d is earlier. by_lt_z reached d.at (λ l. absurd (kept d is (l, earlier))) (λ m. next.nearest d is.is m);
-  }
+  found_back c next other = grind linear
 
   pub goes_back : (c : Change) → IsLastChange (TypeAt z) (λ u. u ≤ℤ reached) c → c.before.offset ≡ c.after.offset
       → KeepsOffset (TypeAt z) (λ u. ((c.at -ℤ pos 1) <ℤ u) × (u ≤ℤ last))
   goes_back c next same d is inside = by_lt_z reached d.at
       (λ l. kept d is (l, inside.1))
-      (λ m. let most = next.nearest d is.is m in let least = inside.0 in kept_one z c d is next.is (omega linear) same)
+      (λ m. let most = next.nearest d is.is m in kept_one z c d is next.is (grind linear) same)

@@ -3,8 +3,8 @@ use Rattle.std.specs.Prelude.{IfSome, if◌then◌else◌}
 use Rattle.tz_base.specs.declared.span.Span.{Span}
 use Rattle.tz_info.proofs.{
   SpanLaws.{since_more},
-  Words.{Bool, HaveOneTypeFrom, IsNear, IsNextRun, IsOutOfForce, IsRunUntil, LocalType, None, Option, Some, TypeAt, Zone, by_lt_z, false, linear, pos, subst},
-  Words.{sym, true, ℤ, ◌-ℤ◌, ◌<ℤ◌, ◌↔◌, ◌≡◌, ◌≤ℤ◌},
+  Words.{Bool, HaveOneTypeFrom, IsNear, IsNextRun, IsOutOfForce, IsRunUntil, LocalType, None, Option, Some, TypeAt, Zone, by_lt_z, false, linear, pos, true, ℤ},
+  Words.{◌-ℤ◌, ◌<ℤ◌, ◌↔◌, ◌≡◌, ◌≤ℤ◌},
   ZoneLaws.{type_once},
 }
 use Rattle.tz_info.specs.Spans.{IsInSpan, IsSince, IsSpan, IsSpanAt, IsUntil}
@@ -26,22 +26,15 @@ one_type z s low _ _ end near near_high is starts ends u from until =
 pub next_run : (w : Bool) (s : Span) (low high start end : ℤ) → low <ℤ high → IsInSpan s (if w then low else high -ℤ pos 1) → StartsBy s.from low start
     → EndsBy s.until high end → IsNextRun w low high start end
 next_run true s low _ start end some here starts ends =
-    let first = (starts low).1 (omega linear, here.since) in let from = ((starts start).0 (omega linear)).0 in
-    let last = ((ends (end -ℤ pos 1)).0 (omega linear)).0 in
-    (omega linear, (ends low).1 (some, here.until), omega linear)
+    let a = starts low in let b = starts start in let c = ends (end -ℤ pos 1) in let d = ends low in grind linear
 next_run false s low high start end some here starts ends =
-    let last = (ends (high -ℤ pos 1)).1 (omega linear, here.until) in let until = ((ends (end -ℤ pos 1)).0 (omega linear)).0 in
-    let first = (starts _).1 (omega linear, here.since) in
-    (omega linear, ((starts _).0 (omega linear)).0, omega linear)
+    let a = starts (high -ℤ pos 1) in let b = starts start in let c = ends (end -ℤ pos 1) in let d = ends (high -ℤ pos 1) in grind linear
 
 -- a span that ends before the limit ends when its type is out of force
 turned : (z : Zone) (until : Option ℤ) (limit end : ℤ) (f : LocalType) → IfSome until (IsOutOfForce (TypeAt z) f) → EndsBy until limit end → end <ℤ limit
     → TypeAt z end f → ⊥
 turned z None limit end f out ends less here = grind (linear, ends)
-turned z (Some at) limit end f out ends less here = by_lt_z end at
-    (λ l. let beyond = (ends end).1 (less, l) in omega linear)
-    (λ m. by_lt_z at end (λ l. let before = ((ends at).0 l).1 in omega linear)
-    (λ n. let same : end ≡ at = omega linear in out.out (rw same at here)))
+turned z (Some at) limit end f out ends less here = let a = ends end in let b = ends at in grind linear
 
 pub run_until : (z : Zone) (s : Span) (at limit end : ℤ) → IsNear at → IsNear limit → at <ℤ limit → IsSpanAt (TypeAt z) at s → EndsBy s.until limit end
     → IsRunUntil (TypeAt z) at limit end
@@ -52,9 +45,8 @@ run_until z s at limit end near near_limit ahead here ends =
       most = by_lt_z limit end (λ l. let before = ((ends _).0 l).0 in omega linear) (λ l. l);
       same = λ u from until t k.
           let (before, within) = (ends u).0 until in
-          subst (TypeAt z u) (its t k)
-          (here.span.each u (record { fits = omega linear; since = since_more _ at u here.inside.since from; until = within }));
-      turns = λ less t k l. turned z _ limit end _ here.span.ends ends less (subst (TypeAt z end) (sym (its t k)) l);
+          rw (← its t k) (here.span.each u (record { fits = omega linear; since = since_more _ at u here.inside.since from; until = within }));
+      turns = λ less t k l. turned z _ limit end _ here.span.ends ends less (rw (← its t k) at l);
     }
 
 -- the first second of a near interval, or its last one, is near

@@ -3,37 +3,30 @@ use Rattle.std.proofs.lemmas.List.Sums.{sum_by-le-sum_by}
 use Rattle.tz_info.proofs.{
   ChangeSearch.{nearest_moved},
   GapLaws.{HasOneType, one_type},
-  LeapEntries.{follow, threshold_at},
-  LeapOrder.{bounded},
-  LeapStarts.{correction_behind, reached_later, times_rise},
+  LeapOrder.{passed_bounded},
   RuleChanges.{rule_second},
   SegmentLaws.{come_at_time, later_segment, segment_at, segment_most, segments_rise, type_from, type_in_from},
-  Words.{Alternate as AlternateRule, AlternateAt, AreLeapSeconds, Bool, Change, HasNoChange, HaveCome, IsAhead, IsBegin, IsChange, IsChangeByRule, IsFirst},
+  Words.{Alternate as AlternateRule, AlternateAt, AreLeapSeconds, Bool, Change, HasNoChange, IsAhead, IsBegin, IsChange, IsChangeByRule, IsFirst},
   Words.{IsFirstChange, IsInTable, IsLast, IsLastChange, IsLeapTime, IsLeapTimeRefused, IsNearest, IsOutOfForce, IsRuleTime, IsValid, LeapSecond, List},
-  Words.{LocalType, Option, RuleOrType, SFits, Some, TypeAt, Zone, arith, cases_lt, cond, get_or, inl, inr, int_le, length, linear, passed_count, pos, refl},
-  Words.{segment_of, suc, sym, thresholds, w64, zero, ℕ, ℤ, ◌-ℤ◌, ◌-◌, ◌<ℤ◌, ◌<◌, ◌↔◌, ◌∙◌, ◌≡◌, ◌≤ℤ◌, ◌≤◌, ◌⊎◌},
+  Words.{LocalType, Option, SFits, Some, TypeAt, Zone, arith, cases_lt, cond, inl, inr, int_le, length, linear, passed_count, pos, refl, segment_of, sym},
+  Words.{thresholds, w64, ℤ, ◌-ℤ◌, ◌<ℤ◌, ◌<◌, ◌↔◌, ◌∙◌, ◌≡◌, ◌≤ℤ◌, ◌≤◌, ◌⊎◌},
   ZoneLaws.{leap_time_decided, type_once},
 }
 use Rattle.tz_info.specs.declared.rule.transition_rule.TransitionRule.TheVariants.{Alternate}
 
 -- ---- which seconds have a leap time
-one_counted : (t u v : ℤ) → u ≤ℤ v → cond (int_le t u) 1 0 ≤ cond (int_le t v) 1 0
-one_counted t u v h = grind arith
-
 -- before a second with a leap time each has one
 pub refused_on : (es : List LeapSecond) (u v y : ℤ) → AreLeapSeconds es → u ≤ℤ v → IsLeapTimeRefused es u → IsLeapTime es v y → ⊥
 refused_on es u v y valid h r l =
-    let b = bounded _ (pos 0) u es _ (follow es valid) (λ d k. let f = (valid.first d k).since_epoch in omega linear) r.passed in
+    let b = passed_bounded es u _ valid r.passed in
     let more : passed_count es u ≤ passed_count es v =
-    sum_by-le-sum_by (λ t. cond (int_le t u) 1 0) (λ t. cond (int_le t v) 1 0) (thresholds (pos 0) es) (λ t. one_counted t u v h) in grind arith
+    sum_by-le-sum_by (λ t. cond (int_le t u) 1 0) (λ t. cond (int_le t v) 1 0) (thresholds (pos 0) es) (λ t. grind arith) in grind arith
 
 -- so has each second of the years that a rule answers in
 pub rule_leap_time : (es : List LeapSecond) (u : ℤ) → AreLeapSeconds es → IsRuleTime u → (x : ℤ) × IsLeapTime es u x
 rule_leap_time es u valid within = elim (leap_time_decided es u) [
   | inl x ↦ x
-  | inr r ↦
-      let b = bounded _ (pos 0) u es _ (follow es valid) (λ d l. let f = (valid.first d l).since_epoch in omega linear) r.passed in
-      grind arith
+  | inr r ↦ let b = passed_bounded es u _ valid r.passed in grind arith
 ]
 
 -- ---- segments
@@ -64,28 +57,19 @@ module _ (z : Zone) (a : AlternateRule) (u : ℤ) (t : LocalType) (rule : z.rule
   pub to_rule : IsValid z → segment_of z u ≡ length z.transitions → TypeAt z u t → AlternateAt a u t
   to_rule valid e k = rw rule at (type_from z u t valid.transitions.rising (record { type = k; segment = e }))
 
-  of_rule_or : (i : ℕ) → AlternateAt a u t → RuleOrType z u i t
-  of_rule_or i k = rw rule k
-
-  by_rule_alone : length z.transitions ≡ 0 → AlternateAt a u t → TypeAt z u t
-  by_rule_alone none k = grind arith
-
   pub from_rule : IsValid z → segment_of z u ≡ length z.transitions → AlternateAt a u t → TypeAt z u t
   from_rule valid e k = elim (cases_lt 0 (length z.transitions)) [
     | inl some ↦
         let x = rule_leap_time _ u valid.leaps (rule_second a u t k) in
         let b = segment_at z u _ valid.transitions.rising e in
-        (type_in_from z u x.0 t x.1 (rw (← x.1.sum) at b) (of_rule_or _ k)).type
-    | inr none ↦ by_rule_alone (omega arith) k
+        (type_in_from z u x.0 t x.1 (rw (← x.1.sum) at b) (rw rule k)).type
+    | inr none ↦ grind arith
   ]
 
 -- `begin` comes no later than a second with a type at which all have come
 pub begun : (z : Zone) (begin u : ℤ) (t : LocalType) → IsValid z → IsBegin z begin → SFits w64 u → TypeAt z u t → segment_of z u ≡ length z.transitions
     → begin ≤ℤ u
-begun z _ u t valid h fits k e = elim (cases_lt 0 (length z.transitions)) [
-  | inl some ↦ let l = time_of z u t some k in (h.comes u k.leap_time fits l).0 (come_at_time z u _ l ∙ e)
-  | inr none ↦ omega linear
-]
+begun z _ u t valid h fits k e = grind (linear, time_of, come_at_time)
 
 pub begins : (z : Zone) (begin u : ℤ) → IsValid z → IsBegin z begin → IsRuleTime u → begin ≤ℤ u → segment_of z u ≡ length z.transitions
 begins z _ u valid h within from =
@@ -120,8 +104,8 @@ pub rule_found : (z : Zone) (a : AlternateRule) (w : Bool) (s begin : ℤ) (foun
     → IsNearest w (AlternateAt a) (λ u. (begin <ℤ u) × IsAhead w s u) found → IsNearest w (TypeAt z) (IsChangeByRule z (IsAhead w s)) found
 rule_found z a w s begin _ valid rule h =
     nearest_moved w _ _ (λ u. (begin <ℤ u) × IsAhead w s u) _ _
-    (λ d is inside. let k = (by_rule z a _ d valid rule h).0 (is, inside.by_rule) in (k.0, (k.1, inside.inside)))
-    (λ d is inside. let k = (by_rule z a _ d valid rule h).1 (is, inside.0) in (k.0, record { inside = inside.1; by_rule = k.1 }))
+    (λ d is inside. let k = (by_rule z a _ d valid rule h).0 in let b = inside.by_rule in let i = inside.inside in grind arith)
+    (λ d is inside. let k = (by_rule z a _ d valid rule h).1 in grind arith)
 
 -- if none of those seconds comes after `begin`, no change comes at one after the last transition
 pub none_begun : (z : Zone) (within : ℤ → Type 0) (begin : ℤ) → IsValid z → IsBegin z begin → ((u : ℤ) → SFits w64 u → within u → u ≤ℤ begin)
@@ -130,59 +114,40 @@ none_begun z _ _ valid h most d is inside =
     let b = begun z _ _ _ valid h is.fits_before is.before inside.by_rule in grind arith
 
 -- ---- the table's changes come before the rule's
-in_either : (z : Zone) (within : ℤ → Type 0) (u : ℤ) → IsValid z → within u → IsInTable z within u ⊎ IsChangeByRule z within u
-in_either z _ u valid inside = grind (arith, segment_most)
+module _ (z : Zone) (within : ℤ → Type 0) where
+  in_either : (u : ℤ) → IsValid z → within u → IsInTable z within u ⊎ IsChangeByRule z within u
+  in_either u valid inside = grind (arith, segment_most)
 
-table_sooner : (z : Zone) (within : ℤ → Type 0) (u v : ℤ) → IsValid z → IsInTable z within u → IsChangeByRule z within v → u ≤ℤ v
-table_sooner z _ u v valid t r =
-    let k = later_segment z (u -ℤ pos 1) (v -ℤ pos 1) valid (omega arith) in
-    omega linear
+  table_sooner : (u v : ℤ) → IsValid z → IsInTable z within u → IsChangeByRule z within v → u ≤ℤ v
+  table_sooner u v valid t r = let k = later_segment z (u -ℤ pos 1) (v -ℤ pos 1) valid (omega arith) in omega linear
 
-pub table_first : (z : Zone) (within : ℤ → Type 0) (c : Change) → IsValid z → IsFirstChange (TypeAt z) (IsInTable z within) c
-    → IsFirstChange (TypeAt z) within c
-table_first z within c valid h = record {
-  is = h.is;
-  inside = h.inside.inside;
-  nearest = λ d is inside. elim (in_either z _ _ valid inside) [ inl t ↦ h.nearest d is t | inr r ↦ table_sooner z _ _ _ valid h.inside r ];
-}
+  pub table_first : (c : Change) → IsValid z → IsFirstChange (TypeAt z) (IsInTable z within) c → IsFirstChange (TypeAt z) within c
+  table_first c valid h = record {
+    is = h.is;
+    inside = h.inside.inside;
+    nearest = λ d is inside. elim (in_either _ valid inside) [ inl t ↦ h.nearest d is t | inr r ↦ table_sooner _ _ valid h.inside r ];
+  }
 
-pub rule_first : (z : Zone) (within : ℤ → Type 0) (found : Option Change) → IsValid z → HasNoChange (TypeAt z) (IsInTable z within)
-    → IsFirst (TypeAt z) (IsChangeByRule z within) found → IsFirst (TypeAt z) within found
-rule_first z _ _ valid none =
-    nearest_moved _ _ _ _ _ _
-    (λ d is inside. elim (in_either z _ _ valid inside) [ inl t ↦ absurd (none d is t) | inr r ↦ (is, r) ])
-    (λ d is inside. (is, inside.inside))
+  pub rule_first : (found : Option Change) → IsValid z → HasNoChange (TypeAt z) (IsInTable z within)
+      → IsFirst (TypeAt z) (IsChangeByRule z within) found → IsFirst (TypeAt z) within found
+  rule_first _ valid none =
+      nearest_moved _ _ _ _ _ _
+      (λ d is inside. elim (in_either _ valid inside) [ inl t ↦ absurd (none d is t) | inr r ↦ (is, r) ])
+      (λ d is inside. (is, inside.inside))
 
--- ---- the rule's changes come after the table's
-pub rule_is_last : (z : Zone) (within : ℤ → Type 0) (c : Change) → IsValid z → IsLastChange (TypeAt z) (IsChangeByRule z within) c
-    → IsLastChange (TypeAt z) within c
-rule_is_last z _ c valid h = record {
-  is = h.is;
-  inside = h.inside.inside;
-  nearest = λ d is inside. elim (in_either z _ _ valid inside) [ inl t ↦ table_sooner z _ _ _ valid t h.inside | inr r ↦ h.nearest d is r ];
-}
+  pub rule_is_last : (c : Change) → IsValid z → IsLastChange (TypeAt z) (IsChangeByRule z within) c → IsLastChange (TypeAt z) within c
+  rule_is_last c valid h = record {
+    is = h.is;
+    inside = h.inside.inside;
+    nearest = λ d is inside. elim (in_either _ valid inside) [ inl t ↦ table_sooner _ _ valid t h.inside | inr r ↦ h.nearest d is r ];
+  }
 
-pub table_is_last : (z : Zone) (within : ℤ → Type 0) (found : Option Change) → IsValid z → HasNoChange (TypeAt z) (IsChangeByRule z within)
-    → IsLast (TypeAt z) (IsInTable z within) found → IsLast (TypeAt z) within found
-table_is_last z _ _ valid none =
-    nearest_moved _ _ _ _ _ _
-    (λ d is inside. elim (in_either z _ _ valid inside) [ inl t ↦ (is, t) | inr r ↦ absurd (none d is r) ])
-    (λ d is inside. (is, inside.inside))
-
--- ---- the first second at which a leap time has come
-pub reached_exactly : (es : List LeapSecond) (x u y p q : ℤ) (n : ℕ) (d : LeapSecond) → AreLeapSeconds es → HaveCome es x n → 0 < n
-    → p ≡ correction_behind es (n - 1) → q ≡ correction_behind es n
-    → IsLeapTime es u y → (x ≤ℤ y) ↔ ((((get_or es (n - 1) d).unix_leap_time -ℤ p) ≤ℤ u) × ((x -ℤ q) ≤ℤ u))
-reached_exactly es x u y p q zero d valid h some e f l = absurd (omega arith)
-reached_exactly es x u y p q (suc m) d valid h some e f l =
-    let one : suc m - 1 ≡ m = omega arith in
-    let t = threshold_at (pos 0) es m d (pos 0) (omega arith) in
-    let g : p ≡ correction_behind es m = rw one at e in
-    let r = reached_later es d valid x u y m h l in
-    rw (one, f) ((λ k. let s = r.0 k in (omega linear, s.1)), (λ k. r.1 (omega linear, k.1)))
-
-pub entry_late : (es : List LeapSecond) (i : ℕ) (d : LeapSecond) → AreLeapSeconds es → i < length es → pos 0 ≤ℤ (get_or es i d).unix_leap_time
-entry_late es i d valid h = let r = times_rise es d valid 0 i (omega arith) h in let f = (valid.first d (omega arith)).since_epoch in omega linear
+  pub table_is_last : (found : Option Change) → IsValid z → HasNoChange (TypeAt z) (IsChangeByRule z within)
+      → IsLast (TypeAt z) (IsInTable z within) found → IsLast (TypeAt z) within found
+  table_is_last _ valid none =
+      nearest_moved _ _ _ _ _ _
+      (λ d is inside. elim (in_either _ valid inside) [ inl t ↦ (is, t) | inr r ↦ absurd (none d is r) ])
+      (λ d is inside. (is, inside.inside))
 
 -- ---- at the ends of a span
 pub out_before : (z : Zone) (c : Change) → IsChange (TypeAt z) c → IsOutOfForce (TypeAt z) c.after (c.at -ℤ pos 1)

@@ -124,6 +124,7 @@ impl ChangeList {
     }
 
     // The second from which the rule is asked, of those of 64 bits: the last one, if it never is.
+    #[tactic(auto, using(crate::proofs::EntryChanges::begin_at, crate::proofs::SegmentLaws::come_from, crate::proofs::SegmentLaws::place_most))]
     pub(in crate::zone) fn rule_from(&self) -> i64
         requires rising { AreRising self.now.items }
         requires more { length self.now.items ≤ self.now.all }
@@ -261,6 +262,7 @@ fn is_in_force(entries: &[Kept], types: &[LocalTimeType], index: usize) -> bool
 }
 
 // The type index of the last entry, or 0 if the list is empty.
+#[tactic(auto, using(crate::proofs::EntryLaws::last_item, crate::proofs::EntryLaws::last_below))]
 fn latest_index(entries: &[Kept], types: &[LocalTimeType]) -> usize
     requires some { 0 < length types.now }
     requires named { NameTypes (length types.now) entries.now }

@@ -126,6 +126,7 @@ impl ChangeTable {
 
     // How many entries have come at the second.
     #[inline(always)]
+    #[tactic(auto, using(crate::proofs::EntryChanges::few_digits))]
     pub(in crate::zone) fn count(&self, second: i64, probes: &mut Probes) -> usize
         requires { HasRoom probes.old }
         ensures count { result ≡ length (passed self.now.items second) }
@@ -252,7 +253,7 @@ impl ChangeTable {
 
     // The entry at that place. One probe is counted.
     #[inline(always)]
-    #[tactic(auto, using(crate::proofs::SegmentLaws::index_next))]
+    #[tactic(auto, using(crate::proofs::SegmentLaws::index_next, crate::proofs::Prefixes::index_within))]
     pub(in crate::zone) fn entry(
         &self,
         types: &[LocalTimeType],

@@ -1,21 +1,18 @@
-use Rattle.tz_info.proofs.{Fits.fits, LeapSearch.{last_with_leap_time, refused_more, refuses_by_entry}, Prefixes.last_taken}
-use Rattle.tz_info.proofs.Words.{LeapSecond, SFits, add-one, arith, get_or, ints, length, pos, refl, rules, sym, to_z, w128, w32, w64, ◌-ℤ◌, ◌≡◌}
+use Rattle.tz_info.proofs.{Fits.fits, LeapSearch.{last_with_leap_time, refused_more, refuses_by_entry}, Prefixes.{any_leap, last_taken}}
+use Rattle.tz_info.proofs.Words.{SFits, add-one, arith, get_or, ints, length, pos, refl, rules, sym, to_z, w128, w32, w64, ◌-ℤ◌, ◌≡◌}
 use Rattle.tz_info.proofs.zone.lists.leap_seconds.last_with_leap_time.Goals as goal
-
-abbrev none : LeapSecond
-none = record { unix_leap_time = pos 0; correction = pos 0 }
 
 pub loop-entry-preserved : goal.loop-entry-preserved
 loop-entry-preserved c =
-    let fc : SFits w32 (get_or c.args.entries.now c.loop-entry.entry-index none).correction = search rules in
+    let fc : SFits w32 (get_or c.args.entries.now c.loop-entry.entry-index any_leap).correction = search rules in
     let fb = c.refused_by.type_inv in
     let fm = c.min-refused.type_inv in
     let more = refused_more _ _ _ _ _ c.loop-entry.invariant.refused c.refused_by.ensures.late
-    (λ u. refuses_by_entry _ _ none _ _ u c.loop-entry-test.true c.loop-entry.invariant.before
+    (λ u. refuses_by_entry _ _ any_leap _ _ u c.loop-entry-test.true c.loop-entry.invariant.before
     (c.refused_by.ensures.first u)) (simp fits at c.min-refused.ensures.value) in
     simp fits (record {
       refused = more;
-      before = sym (rw add-one (last_taken (λ e. e.correction) _ _ _ none c.loop-entry-test.true));
+      before = sym (rw add-one (last_taken (λ e. e.correction) _ _ _ any_leap c.loop-entry-test.true));
     })
 
 pub returns : goal.returns

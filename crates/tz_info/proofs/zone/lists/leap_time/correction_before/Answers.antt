@@ -1,8 +1,5 @@
-use Rattle.tz_info.proofs.{Words.{LeapSecond, SFits, arith, pos, rules, to_z-of_z, w32}, LeapEntries.{before_found}}
+use Rattle.tz_info.proofs.{Prefixes.any_leap, Fits.fits, Words.{arith}, LeapEntries.{before_found}}
 use Rattle.tz_info.proofs.zone.lists.leap_time.correction_before.Goals as goal
-
-abbrev none : LeapSecond
-none = record { unix_leap_time = pos 0; correction = pos 0 }
 
 pub correction_after-requires : goal.correction_after-requires
 correction_after-requires c = omega arith
@@ -10,7 +7,7 @@ correction_after-requires c = omega arith
 pub returns : goal.returns
 returns c =
     let fx = c.ranges.leap_time in
-    let fr : SFits w32 c.correction_after.result = search rules in
-    let b = simp to_z-of_z at c.entries_before.ensures in
-    simp to_z-of_z (before_found _ _ c.requires _ _ _ b.within
-    (record { value = c.correction_after.ensures; before = b.before }) (b.from none))
+    let fr = c.correction_after.type_inv in
+    let b = simp fits at c.entries_before.ensures in
+    simp fits (before_found _ _ c.requires _ _ _ b.within
+    (record { value = c.correction_after.ensures; before = b.before }) (b.from any_leap))

@@ -1,17 +1,14 @@
-use Rattle.tz_info.proofs.{LeapSearch.{by_saturated, passed_here, since_epoch}, Words.{LeapSecond, SFits, arith, get_or, pos, rules, to_z-of_z, w32, w64}}
+use Rattle.tz_info.proofs.{Prefixes.any_leap, Fits.fits, LeapSearch.{by_saturated, passed_here, since_epoch}, Words.{SFits, arith, get_or, rules, w64}}
 use Rattle.tz_info.proofs.zone.lists.leap_time.is_passed.Goals as goal
-
-abbrev none : LeapSecond
-none = record { unix_leap_time = pos 0; correction = pos 0 }
 
 pub returns : goal.returns
 returns c =
     let fu = c.ranges.unix_time in
-    let fb : SFits w32 c.correction_after-correction.result = search rules in
+    let fb = c.correction_after-correction.type_inv in
     let fd : SFits w64 c.correction_after-correction.result = omega arith in
-    let fs : SFits w64 c.saturating_add.result = search rules in
-    let ft : SFits w64 (get_or c.args.entries.now c.args.place none).unix_leap_time = search rules in
+    let fs = c.saturating_add.type_inv in
+    let ft : SFits w64 (get_or c.args.entries.now c.args.place any_leap).unix_leap_time = search rules in
     let here = passed_here _ _ _ _ _ c.requires.leaps c.requires.place
     c.correction_after-correction.ensures in
-    simp to_z-of_z (by_saturated _ _ _ ft
-    (since_epoch _ _ _ c.requires.leaps c.requires.place) (simp to_z-of_z at c.saturating_add.ensures) here)
+    simp fits (by_saturated _ _ _ ft
+    (since_epoch _ _ _ c.requires.leaps c.requires.place) (simp fits at c.saturating_add.ensures) here)

@@ -1,13 +1,11 @@
 use Rattle.tz_info.proofs.{
-  LeapStarts.{both_ways, reached_first},
-  Words.{HaveCome, LeapSecond, SFits, arith, get_or, linear, pos, rules, to_z-of_z, w128, w32, w64, ℤ, ◌-ℤ◌, ◌-◌, ◌↔◌, ◌≤ℤ◌},
-  ZoneChanges.{entry_late, reached_exactly},
-  zone.lists.starts.first_second.Goals.{After-later_second},
+  Fits.{fits},
+  LeapSearch.{since_epoch},
+  LeapStarts.{reached_first, reached_later},
+  Prefixes.{any_leap},
+  Words.{SFits, arith, get_or, linear, rules, to_z-of_z, w128, w64, ◌-ℤ◌, ◌-◌},
 }
 use Rattle.tz_info.proofs.zone.lists.starts.first_second.Goals as goal
-
-abbrev none : LeapSecond
-none = record { unix_leap_time = pos 0; correction = pos 0 }
 
 pub returns-then-come-eq0-clause-reached : goal.returns-then-come-eq0-clause-reached
 returns-then-come-eq0-clause-reached c = λ u y l.
@@ -16,32 +14,27 @@ returns-then-come-eq0-clause-reached c = λ u y l.
     let no_entry = rw c.if-come-eq0.true at (simp to_z-of_z at c.entries_come-come.ensures) in
     simp to_z-of_z (reached_first _ _ u y c.requires no_entry l)
 
--- the later one of the entry's own second and of the leap time led back
-latest : (c : goal.After-later_second) → SFits w128 c.later_second.result × HaveCome c.args.leaps.now c.args.leap_time c.entries_come-come.result
-    × ((u : ℤ) → (c.later_second.result ≤ℤ u)
-    ↔ ((((get_or c.args.leaps.now (c.entries_come-come.result - 1) none).unix_leap_time -ℤ c.correction_after.result) ≤ℤ u)
-    × ((c.args.leap_time -ℤ c.correction_after-2.result) ≤ℤ u)))
-latest c =
-    let fx = c.ranges.leap_time in
-    let fw : SFits w128 c.args.leap_time = omega arith in
-    let ft : SFits w64 (get_or c.args.leaps.now (c.entries_come-come.result - 1) none).unix_leap_time = search rules in
-    let f1 : SFits w32 c.correction_after.result = search rules in
-    let f2 : SFits w32 c.correction_after-2.result = search rules in
-    let gt : SFits w128 (get_or c.args.leaps.now (c.entries_come-come.result - 1) none).unix_leap_time = omega arith in
-    let g1 : SFits w128 c.correction_after.result = omega arith in
-    let g2 : SFits w128 c.correction_after-2.result = omega arith in
-    let g3 : SFits w128 ((get_or c.args.leaps.now (c.entries_come-come.result - 1) none).unix_leap_time -ℤ c.correction_after.result) = omega linear in
-    let g4 : SFits w128 (c.args.leap_time -ℤ c.correction_after-2.result) = omega linear in
-    let fl : SFits w128 c.later_second.result = search rules in
-    (fl, simp to_z-of_z at c.entries_come-come.ensures, simp to_z-of_z at c.later_second.ensures)
-
 pub returns : goal.returns
 returns c =
-    let (fl, come, is) = latest (goal.at.returns c).After-later_second in
-    let late = entry_late _ (c.entries_come-come.result - 1) none c.requires (omega arith) in
+    let fx = c.ranges.leap_time in
+    let f1 = c.correction_after.type_inv in
+    let f2 = c.correction_after-2.type_inv in
+    let fl = c.later_second.type_inv in
+    let t = (get_or c.args.leaps.now (c.entries_come-come.result - 1) any_leap).unix_leap_time in
+    let ft : SFits w64 t = search rules in
+    let fw : SFits w128 c.args.leap_time = omega arith in
+    let h1 : SFits w128 c.correction_after.result = omega arith in
+    let h2 : SFits w128 c.correction_after-2.result = omega arith in
+    let g1 : SFits w128 t = omega arith in
+    let g2 : SFits w128 (t -ℤ c.correction_after.result) = omega linear in
+    let g3 : SFits w128 (c.args.leap_time -ℤ c.correction_after-2.result) = omega linear in
+    let come = simp fits at c.entries_come-come.ensures in
+    let is = simp fits at c.later_second.ensures in
+    let late = since_epoch _ (c.entries_come-come.result - 1) any_leap c.requires (omega arith) in
     let least = ((is c.later_second.result).0 (omega linear)).0 in
-    simp to_z-of_z (record {
-      reached = λ u y l. both_ways (reached_exactly _ _ u y _ _ _ _ c.requires come (omega arith)
-          c.correction_after.ensures c.correction_after-2.ensures l) (is u);
+    simp fits (record {
+      reached = λ u y l.
+          let a = rw (← c.correction_after.ensures, ← c.correction_after-2.ensures) at (reached_later _ any_leap c.requires _ u y _ come (omega arith) l) in
+          let b = is u in (λ h. b.1 (a.0 h), λ h. a.1 (b.0 h));
       bound = omega linear;
     })

@@ -5,6 +5,5 @@ pub returns : goal.returns
 returns c =
     let fx = c.ranges.leap_time in
     let within : c.args.count ≤ length c.args.leaps.now = omega arith in λ t.
-    let (since, until) = and_parts c.is_since.result c.is_until.result t in
-    come_here c.args.leaps.now c.args.leap_time c.args.count c.requires within (simp to_z-of_z at (c.is_since.ensures since))
-    (simp to_z-of_z at (c.is_until.ensures until))
+    let (since, until) = and_parts _ _ t in
+    come_here _ _ _ c.requires within (simp to_z-of_z at (c.is_since.ensures since)) (simp to_z-of_z at (c.is_until.ensures until))

@@ -5,9 +5,6 @@ pub returns-in-Ok-find_local_time_type : goal.returns-in-Ok-find_local_time_type
 returns-in-Ok-find_local_time_type c =
     let fl : SFits w64 c.args.last.unix_leap_time = search rules in
     let ft : SFits w64 c.in-Ok.time = search rules in
-    agrees_if_same _ _ _ _ _ (simp to_z-of_z at c.in-Ok.ensures)
-    _ _
-    _
-    (simp to_z-of_z at c.in-Ok-find_local_time_type.ensures)
-    (slice_get_read _ _ c.args.last.type_index _ refl c.requires.index c.index-types-last.is)
+    agrees_if_same _ _ _ _ _ (simp to_z-of_z at c.in-Ok.ensures) _ _ _
+    (simp to_z-of_z at c.in-Ok-find_local_time_type.ensures) (slice_get_read _ _ _ _ refl c.requires.index c.index-types-last.is)
     c.is_same_type.ensures

@@ -1,21 +1,17 @@
-use Rattle.tz_info.proofs.{EntryChanges.begin_at, SegmentLaws.{come_from, place_most}}
-use Rattle.tz_info.proofs.Words.{SFits, Transition, ap, arith, ints, pos, rules, to_z-of_z, w128, w64, ◌∙◌, ◌≡◌}
+use Rattle.tz_info.proofs.{Prefixes.any, Fits.fits, EntryChanges.begin_at, SegmentLaws.{come_from, place_most}}
+use Rattle.tz_info.proofs.Words.{SFits, ap, arith, ints, w128, ◌∙◌, ◌≡◌}
 use Rattle.tz_info.proofs.zone.made.change_table.ChangeTable.rule_begin.Goals as goal
-
-none : Transition
-none = record { unix_leap_time = pos 0; type_index = 0 }
 
 pub returns-then-self-len-clause-begun : goal.returns-then-self-len-clause-begun
 returns-then-self-len-clause-begun c = grind (arith, place_most)
 
 pub returns-clause-begun : goal.returns-clause-begun
-returns-clause-begun c = λ u fits.
-    let fs : SFits w64 c.second.result = search rules in
+returns-clause-begun c = λ u near.
+    let fs = c.second.type_inv in
     let fw : SFits w128 c.second.result = omega (arith, ints) in
     let ts = c.args.self.now.items in
     let k = c.self.inside.all in
     let same : k ≡ c.args.self.now.all = ap (λ e. e.all) c.self.view_is in
     let from = come_from ts k u c.requires.rising (omega arith) (omega arith) in
     let most = place_most ts u c.requires.rising in
-    let at = c.second.ensures none ∙ begin_at ts k none (omega arith) (omega arith) in
-    simp to_z-of_z (rw at ((λ e. from.0 (omega arith)), (λ h. omega arith)))
+    simp fits (rw (c.second.ensures any ∙ begin_at ts k any (omega arith) (omega arith)) (grind arith))
