@@ -46,14 +46,7 @@ transitions_law (suc n) w times (i ∷ is) l m =
 
 -- ---- leap seconds
 leap_takes : (w : ℕ) (bytes : List ℕ) → length bytes ≡ w + 4 → SpellsLeapSecond w bytes (leap_second_of w bytes)
-leap_takes w bytes l = record {
-  time = take w bytes;
-  correction = drop w bytes;
-  whole = sym (take-append-drop w bytes);
-  size = omega (arith, length-take w bytes);
-  time_is = refl;
-  correction_is = refl;
-}
+leap_takes w bytes l = grind (arith, take-append-drop, length-take)
 
 leap_law : (w : ℕ) (bytes : List ℕ) → length bytes ≡ w + 4 → Decided LeapSecond (Ok (leap_second_of w bytes)) (SpellsLeapSecond w bytes) (λ _. ⊥)
 leap_law w _ l = grind (arith, leap_takes, exact_cut)

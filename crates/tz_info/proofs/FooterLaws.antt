@@ -27,18 +27,16 @@ no_zero_again (b ∷ bs) h = let e : (b == 0) ≡ false = grind arith in rw e (n
 pub spelled_law : (extended : Bool) (text : List ℕ) → Decided TransitionRule (rule_in extended text) (IsTzText extended text) (IsTextFault extended text)
 unfolding rule_in
 spelled_law extended text = said (made (λ p. p.0) (text_law _ _))
-    (λ rule h. subst (IsTzText extended text) h.2 h.1.0)
+    (λ rule h. rw h.2 at h.1.0)
     (λ rule h. ((rule, []), (h, refl), refl))
 
 -- no text is no rule
 none_said : (extended : Bool) (rule : Option TransitionRule) → SaysRule extended [] rule → None ≡ rule
-none_said _ None h = refl
-none_said extended (Some rule) h = absurd (h.0 refl)
+none_said extended rule h = grind arith
 
 some_said : (extended : Bool) (b : ℕ) (bs : List ℕ) (rule : Option TransitionRule) → SaysRule extended (b ∷ bs) rule
     → (r : TransitionRule) × IsTzText extended (b ∷ bs) r × (Some r ≡ rule)
-some_said _ b bs None h = cc
-some_said extended b bs (Some rule) h = (rule, h.1, refl)
+some_said extended b bs rule h = grind arith
 
 rule_law : (extended : Bool) (text : List ℕ)
     → Decided (Option TransitionRule) (rule_or_none extended text) (SaysRule extended text) (λ n. (text ≢ []) × IsTextFault extended text n)
@@ -71,14 +69,13 @@ ReadFault extended bytes text n =
     ⊎ (¬ (IsUtf8 bytes) × (n ≡ Utf8 FooterInUtf8))
 
 fault_is : (extended : Bool) (bytes : List ℕ) (n : Error) → ReadFault extended bytes (trimmed bytes) n → FooterFault extended bytes n
-fault_is extended bytes n (inr u) = subst (FooterFault extended bytes) (sym u.1) (Not_utf8 u.0)
+fault_is extended bytes n (inr u) = rw u.1 (Not_utf8 u.0)
 fault_is extended bytes n (inl u) = elim u.1 [
-  | inr b ↦ subst (FooterFault extended bytes) (sym b.1) (No_newlines u.0 b.0)
+  | inr b ↦ rw b.1 (No_newlines u.0 b.0)
   | inl b ↦
       let has : HasText bytes (trimmed bytes) = record { utf8 = u.0; newlines = b.0; trimmed = trim_is _ } in
       elim b.1 [
-        | inl k ↦ subst (FooterFault extended bytes) (sym k.1)
-            (elim k.0 [ inl colon ↦ Colon (trimmed bytes) has colon | inr zero ↦ Zero (trimmed bytes) has zero ])
+        | inl k ↦ rw k.1 (elim k.0 [ inl colon ↦ Colon (trimmed bytes) has colon | inr zero ↦ Zero (trimmed bytes) has zero ])
         | inr k ↦ In_text (trimmed bytes) n has (λ e. k.0 (inl e)) (no_zero _ k.0) k.1.0 k.1.1
       ]
 ]
@@ -89,7 +86,7 @@ in_text : (extended : Bool) (bytes text : List ℕ) (n : Error) → HasText byte
 in_text _ _ _ n has fault = rw (trim_again _ _ has.trimmed) (inl (has.utf8, inl (has.newlines, fault)))
 
 is_text : (text : List ℕ) → slice_index text 0 ≢ 58 → HasNoZero text → ¬ (IsNoText text)
-is_text _ colon zero h = elim h [ inl c ↦ colon c | inr z ↦ z zero ]
+is_text text colon zero h = grind arith
 
 fault_again : (extended : Bool) (bytes : List ℕ) (n : Error) → FooterFault extended bytes n → ReadFault extended bytes (trimmed bytes) n
 fault_again _ _ n (Not_utf8 bad) = inr (bad, refl)

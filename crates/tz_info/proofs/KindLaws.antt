@@ -20,9 +20,7 @@ sum_on day _ n _ e = omega (arith, floors)
 
 closed_day_by : (form : DayForm) (year : ℤ) → closed_day form year ≡ year_start year +ℤ pos (place_by form (is_leap year) (weekday_of (year_start year)))
 unfolding closed_day place_by
-closed_day_by (Julian1 n) _ = refl
-closed_day_by (Julian0 n) year = refl
-closed_day_by (MonthWeekday month week weekday) year = grind (arith, first_of_month, weekday_later, sum_on)
+closed_day_by form year = grind (arith, first_of_month, weekday_later, sum_on)
 
 rule_day_by : (form : DayForm) (year : ℤ) → IsRuleDay form
     → rule_day form year ≡ year_start year +ℤ pos (place_by form (is_leap year) (weekday_of (year_start year)))
@@ -38,8 +36,7 @@ kind_at t offset kind d h =
 
 kind_parts : (leap : Bool) (first : ℕ) → first < 7
     → (cond leap 7 0 + first < 14) × (nat_le 7 (cond leap 7 0 + first) ≡ leap) × ((cond leap 7 0 + first) % 7 ≡ first)
-kind_parts true _ h = (omega arith, grind arith, omega arith)
-kind_parts false first h = (omega arith, grind arith, omega arith)
+kind_parts leap first h = grind arith
 
 -- the second at the place of the year's kind is the year's
 pub kind_found : (t : DayTime) (offset year d : ℤ) → IsRuleDay t.day → get_or (seconds_by_kind t offset) (kind_place year) d ≡ second_in t offset year
@@ -105,18 +102,12 @@ margin_by : (a : Alternate) (starts ends : List ℤ) (margin : ℤ) (calm : Bool
     → ends ≡ seconds_by_kind a.end a.dst.offset → are_calm starts ends ≡ calm → margin ≡ cond calm (pos 172_800) (neg_ℤ (pos 691_200)) → IsMargin a margin
 margin_by a _ _ _ false rule e f all is = grind (arith, near_margin, starts_near, ends_near)
 margin_by a starts ends margin true rule e f all is =
-    let first = int_le (get_or starts 0 (pos 0)) (get_or ends 0 (pos 0)) in
-    let ordered : (year : ℤ) → int_le (start_in a year) (end_in a year) ≡ first =
-    λ year. sym (shifted (start_in a year) _ _) ∙ (calm_year a _ _ _ rule e f all).order in
+    let calm = λ (year : ℤ). calm_year a starts ends year rule e f all in
+    let ordered : (year : ℤ) → int_le (start_in a year) (end_in a year) ≡ int_le (get_or starts 0 (pos 0)) (get_or ends 0 (pos 0)) =
+    λ year. sym (shifted (start_in a year) _ _) ∙ (calm year).order in
     rw is (record {
-      start = record {
-        low = λ year. let b = (calm_year a _ ends year rule e f all).start_in.0 in omega (arith, floors);
-        high = λ year. let b = (calm_year a starts ends year rule e f all).start_in.1 in omega (arith, floors);
-      };
-      end = record {
-        low = λ year. let b = (calm_year a starts ends year rule e f all).end_in.0 in omega (arith, floors);
-        high = λ year. let b = (calm_year a starts ends year rule e f all).end_in.1 in omega (arith, floors);
-      };
+      start = record { low = λ year. omega (arith, floors, (calm year).start_in.0); high = λ year. omega (arith, floors, (calm year).start_in.1) };
+      end = record { low = λ year. omega (arith, floors, (calm year).end_in.0); high = λ year. omega (arith, floors, (calm year).end_in.1) };
       order = inr (λ v w. ordered v ∙ sym (ordered w));
       bound = (omega (arith, floors), omega (arith, floors));
     })

@@ -24,13 +24,10 @@ pub equal_known : (a b : ℤ) → Known (a ≡ b)
 equal_known a b = known _ (Decides-int_eq a b)
 
 pub both_known : {P Q : Type 0} → Known P → Known Q → Known (P × Q)
-both_known (inl p) (inl q) = inl (p, q)
-both_known (inl p) (inr none) = inr (λ h. none h.1)
-both_known (inr none) q = inr (λ h. none h.0)
+both_known p q = grind arith
 
 like_known : {P Q : Type 0} → (P → Q) → (Q → P) → Known P → Known Q
-like_known to from (inl p) = inl (to p)
-like_known to from (inr none) = inr (λ q. none (from q))
+like_known to from p = grind arith
 
 -- ---- of each element, and of each and the next
 all_known : {X : Type 0} {P : X → Type 0} → ((x : X) → Known (P x)) → (xs : List X) → Known (All P xs)
@@ -75,21 +72,13 @@ leaps_known (e ∷ es) = like_known (λ h. record { first = λ d l. record { sin
 
 -- ---- the first fault
 pub list_fault_or_valid : (z : Zone) (e : Error) → ListFault z e → IsValid z → ⊥
-list_fault_or_valid z e (No_type none) v = none v.some
-list_fault_or_valid z e (Other_index some bad) v = bad v.transitions.indexes
-list_fault_or_valid z e (Not_rising some indexes bad) v = bad v.transitions.rising
-list_fault_or_valid z e (Other_leaps some transitions bad) v = bad v.leaps
-list_fault_or_valid z e (Other_rule some transitions leaps bad) v = bad v.agrees
+list_fault_or_valid z e f v = grind arith
 
 pub with_fault : {z : Zone} {e : Error} → ListFault z e → ListFault z e × ¬ (IsValid z)
 with_fault {z = z} {e = e} f = (f, list_fault_or_valid z e f)
 
 pub list_fault_low : (z : Zone) (e : Error) → ListFault z e → error_number e ≤ 16
-list_fault_low z e (No_type none) = omega arith
-list_fault_low z e (Other_index some bad) = omega arith
-list_fault_low z e (Not_rising some indexes bad) = omega arith
-list_fault_low z e (Other_leaps some transitions bad) = omega arith
-list_fault_low z e (Other_rule some transitions leaps bad) = omega arith
+list_fault_low z e f = grind arith
 
 -- a condition does not hold, or it holds and a later one is at fault
 data Stage (C : Type 0) (n : Error) (later : Error → Type 0) (e : Error) : Type 0 where
@@ -119,19 +108,16 @@ list_fault_once z d e f g = one_stage (one_stage (one_stage (one_stage (λ a b. 
 
 pub has_list_fault : (z : Zone) → ¬ (IsValid z) → (e : Error) × ListFault z e
 has_list_fault z bad = elim (cases_lt 0 (length z.types)) [
-  | inr none ↦ (TimeZone AtLeastOneLocalTimeType, No_type (λ l. omega arith))
+  | inr none ↦ (_, No_type (λ l. omega arith))
   | inl some ↦ elim (all_known (λ t. known _ (Decides-ltb t.type_index (length z.types))) _) [
-    | inr other ↦ (TimeZone TypeIndexesWithinTypes, Other_index some other)
+    | inr other ↦ (_, Other_index some other)
     | inl indexes ↦ elim (pairs_known earlier_known _) [
-      | inr other ↦ (TimeZone TransitionTimesThatRise, Not_rising some indexes other)
+      | inr other ↦ (_, Not_rising some indexes other)
       | inl rising ↦
           let transitions : AreTransitions (length z.types) _ = record { indexes = indexes; rising = rising } in
           elim (leaps_known _) [
-            | inr other ↦ (TimeZone LeapSecondsInOrder, Other_leaps some transitions other)
-            | inl leaps ↦ (
-              TimeZone RuleThatAgreesWithLastTransition,
-              Other_rule some transitions leaps (λ agrees. bad (record { some = some; transitions = transitions; leaps = leaps; agrees = agrees })),
-            )
+            | inr other ↦ (_, Other_leaps some transitions other)
+            | inl leaps ↦ (_, Other_rule some transitions leaps (λ agrees. bad (record { some = some; transitions = transitions; leaps = leaps; agrees = agrees })))
           ]
     ]
   ]

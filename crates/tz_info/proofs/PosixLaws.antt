@@ -47,11 +47,10 @@ string_place_within _ _ = omega arith
 
 pub string_placed : (bytes : List ℕ) (e : ParseError) → IsTextFault true bytes e.error → e.position ≡ Some (text_fault_position true bytes)
     → IsPlaced (IsExtendedFaultPlace bytes) e
-string_placed _ e fault place = let low = text_low _ _ _ fault in rw place ((λ m. omega arith), refl)
+string_placed bytes e fault place = grind (arith, text_low)
 
 pub not_empty : (text : List ℕ) (b : Bool) → b ≡ (length text == 0) → b ≡ false → text ≢ []
-not_empty [] b h e k = cc
-not_empty (c ∷ cs) b h e k = cc
+not_empty text b h e k = grind arith
 
 pub zone_of_text : (text : List ℕ) (rule : TransitionRule) (b : Bool) → b ≡ (length text == 0) → b ≡ false → IsTrimmedRule text (Ok rule)
     → IsPosixZone text (posix_zone rule)
@@ -64,7 +63,7 @@ fault_of_text _ e b is some (trimmed, trims, fault, place) = record { some = not
 -- the rule of a text without the white space at its ends, or its fault, counted after the white space in front
 pub trimmed_rule : (text trimmed string : List ℕ) (rule : TransitionRule) → IsTrimAscii text trimmed → string ≡ trimmed → IsTzText false string rule
     → IsTrimmedRule text (Ok rule)
-trimmed_rule text trimmed _ rule t same spells = (trimmed, trims_both _ _ t, subst (λ b. IsTzText false b rule) same spells)
+trimmed_rule text trimmed _ rule t same spells = (trimmed, trims_both _ _ t, rw same at spells)
 
 counted : (all left front room p q : ℕ) → left + front ≡ all → front + room ≤ all → p ≤ room → p ≡ q → all - (left - p) ≡ front + q
 counted all _ _ _ p q whole fits inside same = omega arith
@@ -94,8 +93,7 @@ only_found text z (Err x) is memory other p = memory.0
 
 -- running out of memory is reported only if there is a zone
 pub zone_memory : (P : Zone → Type 0) (z : Zone) (r : Result Zone ParseError) → P z → IfErr r (λ e. IsOutOfMemory e.error → (y : Zone) × P y)
-zone_memory P z (Ok y) is = tt
-zone_memory P z (Err x) is = λ m. (z, is)
+zone_memory P z r is = grind arith
 
 pub refused_memory : (text : List ℕ) (e : Error) → IsPosixFault text e → IsOutOfMemory e → (z : Zone) × IsPosixZone text z
 refused_memory _ e fault m = let low = posix_low _ e fault in absurd (omega arith)
@@ -109,8 +107,9 @@ fault_placed _ e fault (trimmed, trims, _, place) =
 -- it has one place, in the text or at its end
 pub one_place : (text : List ℕ) (a b : ℕ) → IsPosixFaultPlace text a → IsPosixFaultPlace text b → a ≡ b
 one_place text a b p q =
-    let same = sym (trim_again _ _ p.trims) ∙ trim_again _ _ q.trims in
-    p.counted ∙ ap (λ t. prefix_len is_ascii_whitespace text + text_fault_position false t) same ∙ sym q.counted
+    let s = trim_again _ _ p.trims in
+    let t = trim_again _ _ q.trims in
+    cc
 
 pub place_within : (text : List ℕ) (place : ℕ) → IsPosixFaultPlace text place → place ≤ length text
 place_within _ _ p = omega (arith, fits_behind _ _ p.trims)

@@ -9,10 +9,7 @@ use Rattle.tz_info.proofs.{
 front_step : {X : Type 0} (r : Result X Error) (s : Result (List X) Error) (t : Result X Error)
     → ((r >>= λ x. s >>= λ xs. Ok (x ∷ xs)) >>= λ xs. t >>= λ y. Ok (xs ++ y ∷ []))
     ≡ (r >>= λ x. (s >>= λ xs. t >>= λ y. Ok (xs ++ y ∷ [])) >>= λ xs. Ok (x ∷ xs))
-front_step (Err e) s t = refl
-front_step (Ok x) (Err e) t = refl
-front_step (Ok x) (Ok xs) (Err e) = refl
-front_step (Ok x) (Ok xs) (Ok y) = refl
+front_step r s t = grind arith
 
 values_front : {X : Type 0} (n : ℕ) (read : ℕ → Result X Error)
     → values_below (suc n) read ≡ (read 0 >>= λ x. values_below n (λ k. read (suc k)) >>= λ xs. Ok (x ∷ xs))
@@ -39,7 +36,7 @@ first_record size part = let z : 0 * size ≡ 0 = omega arith in ap (λ n. take 
 pub next_record : (size : ℕ) (part : List ℕ) (k : ℕ) → record_at size part (suc k) ≡ record_at size (drop size part) k
 next_record size part k =
     let e : suc k * size ≡ size + k * size = omega arith in
-    ap (λ s. take size s) (ap (λ n. drop n part) e ∙ sym (drop-drop (k * size) size part))
+    rw (e, drop-drop (k * size) size part)
 
 -- the first record and the others of a part
 pub behind_first : (n size : ℕ) (part : List ℕ) → length part ≡ suc n * size → (length (take size part) ≡ size) × (length (drop size part) ≡ n * size)

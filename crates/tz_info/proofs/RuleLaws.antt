@@ -15,15 +15,13 @@ alternate_once a u s t h k =
     let same = one_year (floor_div u 86_400) h.year k.year h.of_second k.of_second in grind arith
 
 pub rule_once : (rule : TransitionRule) (u : ℤ) (s t : LocalType) → RuleAt rule u s → RuleAt rule u t → s ≡ t
-rule_once (Fixed fixed) u s t h k = h ∙ sym k
-rule_once (Alternate a) u s t h k = alternate_once a u s t h k
+rule_once rule u s t h k = grind (linear, alternate_once)
 
 pub rule_not_refused : (rule : TransitionRule) (u : ℤ) (t : LocalType) → RuleAt rule u t → IsRuleRefused rule u → ⊥
-rule_not_refused (Fixed fixed) u t h refused = refused
-rule_not_refused (Alternate a) u t h refused = grind linear
+rule_not_refused rule u t h refused = grind linear
 
 refused_at : (u year : ℤ) → IsYearOf u year → (IsRuleYear year → ⊥) → IsAlternateRefused u
-refused_at u year of_second out = λ other h inside. out (subst IsRuleYear (one_year (floor_div u 86_400) other year h of_second) inside)
+refused_at u year of_second out = λ other h inside. out (rw (one_year (floor_div u 86_400) other year h of_second) at inside)
 
 -- the type that is computed is the rule's, or the rule is refused
 alternate_told : (a : AlternateRule) (u : ℤ) → IsAlternateRule a
@@ -52,8 +50,7 @@ rule_told (Alternate a) u h = alternate_told a u h
 
 -- every second has a type or is refused
 decided : (P : Type 0) (Q : LocalType → Type 0) (o : Option LocalType) → MatchOption o P Q → ((t : LocalType) × Q t) ⊎ P
-decided P Q None h = inr h
-decided P Q (Some t) h = inl (t, h)
+decided P Q o h = grind linear
 
 pub rule_decided : (rule : TransitionRule) (u : ℤ) → IsRule rule → ((t : LocalType) × RuleAt rule u t) ⊎ IsRuleRefused rule u
 rule_decided _ u h = decided _ _ _ (rule_told _ u h)
@@ -75,14 +72,9 @@ rule_time u year of_second inside =
 
 pub rule_year : (u year : ℤ) → IsYearOf u year → IsRuleTime u → IsRuleYear year
 rule_year u year of_second within =
-    let from = by_lt_z year (neg_ℤ (pos 2_147_483_646))
-    (λ less. let before = starts_rise (year +ℤ pos 1) (neg_ℤ (pos 2_147_483_646)) (omega (arith, floors)) in
-    omega (arith, floors, first_start))
-    (λ h. h) in
-    let to = by_lt_z (pos 2_147_483_645) year
-    (λ more. let behind = starts_rise (pos 2_147_483_646) year (omega (arith, floors)) in omega (arith, floors, last_start))
-    (λ h. h) in
-    (from, to)
+    let low = starts_rise (year +ℤ pos 1) (neg_ℤ (pos 2_147_483_646)) in
+    let high = starts_rise (pos 2_147_483_646) year in
+    grind (arith, floors, first_start, last_start)
 
 -- outside of them an alternate rule is refused
 pub refused_outside : (u : ℤ) → (IsRuleTime u → ⊥) → IsAlternateRefused u

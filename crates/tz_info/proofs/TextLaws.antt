@@ -22,8 +22,8 @@ text_ends _ _ r _ (name, _, _, (east, after, _, h)) = rule_ends _ _ _ _ _ r _ h
 pub text_law : (extended : Bool) (bytes : List ℕ)
     → Decided (TransitionRule × List ℕ) (read (text extended) bytes) (λ p. IsTzText extended bytes p.0 × (p.1 ≡ [])) (IsTextFault extended bytes)
 text_law extended bytes = said (lawful (text extended) bytes)
-    (λ p h. let none = text_ends _ _ p.0 p.1 h in (subst (Spells (text extended) bytes p.0) none h, none))
-    (λ p h. subst (Spells (text extended) bytes p.0) (sym h.1) h.0)
+    (λ p h. let none = text_ends _ _ p.0 p.1 h in (rw none at h, none))
+    (λ p h. rw h.1 h.0)
 
 -- the bytes of a TZ string, with or without the extension
 module _ (extended : Bool) (bytes : List ℕ) where

@@ -48,7 +48,7 @@ back_step : (b : ℕ) (bs text after : List ℕ) → bs ≡ text ++ after → Is
 back_step b bs [] after w s e =
     elim (is_ascii_whitespace b) as (λ t. is_ascii_whitespace b ≡ t
     → (behind : List ℕ) × (b ∷ bs ≡ cond t [] (b ∷ []) ++ behind) × IsSpace behind × EndsBare (cond t [] (b ∷ []))) [
-      | true ↦ λ k. (b ∷ bs, refl, (k, subst IsSpace (sym w) s), tt)
+      | true ↦ λ k. (b ∷ bs, refl, (k, rw w s), tt)
       | false ↦ λ k. (after, ap (λ x. b ∷ x) w, s, k)
     ] refl
 back_step b bs (c ∷ cs) after w s e = (after, ap (λ x. b ∷ x) w, s, e)
@@ -100,7 +100,7 @@ trims_both s r t =
     let front = front_drop t.0 s (within t.0 s t.2) t.2 t.3 in
     let least : length r ≡ min (length r) (length (drop t.0 s)) = ap length t.1 ∙ length-take (length r) (drop t.0 s) in
     let back = back_take _ _ (omega arith) t.4 (λ m h. let k : length r - 1 ≡ m = omega arith in rw k at (t.5 (omega arith))) in
-    subst (IsTrimmed s) (sym (t.1 ∙ (back ∙ ap trimmed_back front))) (trim_is s)
+    rw (t.1 ∙ (back ∙ ap trimmed_back front)) (trim_is s)
 
 -- ---- how much white space is in front
 pub front_counted : (s r : List ℕ) → IsTrimAsciiStart s r → length r + prefix_len is_ascii_whitespace s ≡ length s

@@ -32,10 +32,7 @@ zero_again (b ∷ bs) after i h = grind (arith, zero_again bs after (i + 1) h.1)
 -- ---- the text at a place
 front_law : (text : List ℕ) (o : Option ℕ)
     → Decided (List ℕ) (front_of text o) (λ x. (n : ℕ) × (o ≡ Some n) × (take n text ≡ x)) (λ e. (o ≡ None) × (e ≡ InvalidTzFile ZeroByteAfterName))
-front_law _ None = like (refused (InvalidTzFile ZeroByteAfterName) (omega arith)) (λ x h. absurd h) (λ x h. let e = h.1 in
-    cc) (λ e h. (refl, h)) (λ e h. h.1)
-front_law text (Some n) = like (done (take n text)) (λ x h. (n, refl, h)) (λ x h. let same : n ≡ h.0 = let e = h.1 in cc in
-    rw same h.2) (λ e h. absurd h) (λ e h. cc)
+front_law text o = grind arith
 
 abbrev Place : List ℕ → ℕ → Option ℕ
 Place names i = position_from is_zero 0 (drop i names)
@@ -50,7 +47,7 @@ text_takes names i n x inside e same =
       after = r.2;
       whole = sym (take-append-drop i names) ∙ ap (λ s. take i names ++ s) (r.3 ∙ ap (λ s. s ++ (0 ∷ r.2)) same);
       at = omega (arith, length-take i names);
-      ends = subst HasNoZero same r.4;
+      ends = rw same at r.4;
     }
 
 text_again : (names : List ℕ) (i : ℕ) (x : List ℕ) → StandsAt names i x
@@ -77,9 +74,9 @@ text_law : (names : List ℕ) (i : ℕ)
 unfolding designation_at text_before_zero
 text_law names i = by_error (InvalidTzFile (expected_of_place names i))
     (choice (Decides-ltb i (length names)) (front_law _ _) (refused (InvalidTzFile NameWithinDesignations) (omega arith)))
-    (λ x h. elim h [ inl k ↦ text_takes _ i _ x k.0 k.1.1 k.1.2 | inr k ↦ absurd k.1 ])
+    (λ x h. grind (arith, text_takes))
     (λ x s. let t = text_again _ i x s in inl (t.0, (length x, t.1, t.2)))
-    (λ e h. elim h [ inl k ↦ k.1.1 ∙ ap InvalidTzFile (sym (place_inside _ i k.0)) | inr k ↦ k.1 ∙ ap InvalidTzFile (sym (place_outside _ i k.0)) ])
+    (λ e h. grind (arith, place_inside, place_outside))
 
 -- ---- a type
 named_is : (o : Option (List ℕ)) → is_name_or_none o ≡ true → IsNameOrNone o
@@ -91,15 +88,14 @@ named_again None h = refl
 named_again (Some text) h = (name_test text).decides.1 h
 
 mark_again : (b : ℕ) (d : Bool) → IsMark b d → ((b ≡ 0) × (false ≡ d)) ⊎ (¬ (b ≡ 0) × ((b ≡ 1) × (true ≡ d)))
-mark_again b true h = inr (λ z. omega arith, (h, refl))
-mark_again b false h = inl (h, refl)
+mark_again b d h = grind arith
 
 mark_law : (b : ℕ) → Decided Bool (mark_of b) (IsMark b) (λ e. ((d : Bool) → ¬ (IsMark b d)) × (e ≡ InvalidTzFile ZeroOrOneAsIsDst))
 mark_law b = by_error (InvalidTzFile ZeroOrOneAsIsDst)
     (choice (Decides-eqb b 0) (done false) (guard true (InvalidTzFile ZeroOrOneAsIsDst) (omega arith) (Decides-eqb b 1)))
-    (λ d h. elim h [ inl k ↦ subst (IsMark b) k.1 k.0 | inr k ↦ subst (IsMark b) k.1.1 k.1.0 ])
+    (λ d h. grind arith)
     (mark_again b)
-    (λ n h. elim h [ inl k ↦ absurd k.1 | inr k ↦ k.1.1 ])
+    (λ n h. grind arith)
 
 abbrev ReadFault : List ℕ → List ℕ → Error → Type 0
 ReadFault names bytes e =
@@ -111,16 +107,14 @@ ReadFault names bytes e =
     × (e ≡ LocalTimeType (expected_of_type (offset_in bytes) (designation_of text)))))))
 
 fault_is : (names bytes : List ℕ) (e : Error) → ReadFault names bytes e → TypeFault names bytes e
-fault_is names bytes e (inl m) = subst (λ k. TypeFault names bytes k) (sym m.1) (Other_mark m.0)
+fault_is names bytes e (inl m) = rw m.1 (Other_mark m.0)
 fault_is names bytes e (inr m) = elim m.2 [
-  | inl t ↦ subst (λ k. TypeFault names bytes k) (sym t.1) (No_text m.0 m.1 t.0)
-  | inr t ↦ subst (λ k. TypeFault names bytes k) (sym t.2.1) (Other_type m.0 t.0 m.1 t.1 t.2.0)
+  | inl t ↦ rw t.1 (No_text m.0 m.1 t.0)
+  | inr t ↦ rw t.2.1 (Other_type m.0 t.0 m.1 t.1 t.2.0)
 ]
 
 fault_again : (names bytes : List ℕ) (e : Error) → TypeFault names bytes e → ReadFault names bytes e
-fault_again _ _ e (Other_mark none) = inl (none, refl)
-fault_again names bytes e (No_text dst mark none) = inr (dst, mark, inl (none, refl))
-fault_again names bytes e (Other_type dst text mark stands bad) = inr (dst, mark, inr (text, stands, (bad, refl)))
+fault_again names bytes e f = grind arith
 
 pub type_law : (names bytes : List ℕ) → Decided LocalType (type_of_record names bytes) (SpellsType names bytes) (TypeFault names bytes)
 unfolding type_of_record type_of
@@ -131,7 +125,7 @@ type_law _ bytes = like
     (Decides-and (int_lt least_offset (offset_in bytes)) (is_name_or_none (designation_of text))
     (lt_is _ _, lt_true _ _) (named_is _, named_again _)))))
     (λ t h. grind arith)
-    (λ t p. (t.dst, p.mark, (p.text, p.stands, ((rw p.offset p.above_least, rw p.name p.name_fits), rw (p.offset, p.name)))))
+    (λ t p. grind arith)
     (fault_is _ _)
     (fault_again _ _)
 

@@ -58,4 +58,4 @@ pub after_typed : (z : Zone) (last : ℤ) → SFits w64 last → IsLastTyped z l
 after_typed z last fits h not =
     let next = by_lt_z last (pos 9_223_372_036_854_775_807) (λ l. omega linear) (λ m. absurd (not (omega linear))) in
     let back : last ≡ (last +ℤ pos 1) -ℤ pos 1 = omega linear in
-    record { fits = next; typed = subst (IsTyped z) back h.typed; after = h.none (last +ℤ pos 1) next (omega linear) }
+    record { fits = next; typed = rw back at h.typed; after = h.none (last +ℤ pos 1) next (omega linear) }

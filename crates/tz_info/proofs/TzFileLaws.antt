@@ -20,10 +20,8 @@ RuleFault extended footer e = (bytes : List ℕ) × (footer ≡ Some bytes) × F
 
 footer_law : (extended : Bool) (footer : Option (List ℕ))
     → Decided (Option TransitionRule) (footer_of extended footer) (HasRule extended footer) (RuleFault extended footer)
-footer_law _ None = like (done None) (λ rule h. sym h) (λ rule h. sym h) (λ n f. absurd f) (λ n f. cc)
-footer_law extended (Some bytes) =
-    like (footer_bytes_law extended bytes) (λ rule h. h) (λ rule h. h) (λ n f. (bytes, refl, f))
-    (λ n f. subst (λ b. FooterFault extended b n) (sym (same_Some bytes f.0 f.1)) f.2)
+footer_law _ None = grind arith
+footer_law extended (Some bytes) = grind (arith, footer_bytes_law extended bytes)
 
 abbrev ReadFault : FilePieces → Error → Type 0
 ReadFault p n =
@@ -35,19 +33,10 @@ ReadFault p n =
     ⊎ ((ts : List Transition) × SpellTransitions p.time_size p.parts.times p.parts.type_indexes ts × ⊥)))))))
 
 content_fault : (p : FilePieces) (n : Error) → ReadFault p n → ContentFault p n
-content_fault p n (inl f) = In_type n f
-content_fault p n (inr t) = elim t.2 [
-  | inl f ↦ subst (λ k. ContentFault p k) (sym f.1) (In_indicators t.0 t.1 f.0)
-  | inr i ↦ elim i.2 [
-    | inl f ↦ In_footer t.0 f.0 n t.1 i.1 f.1 f.2
-    | inr r ↦ elim r.2 [ inl f ↦ absurd f | inr s ↦ absurd s.2 ]
-  ]
-]
+content_fault p n f = grind (arith, In_type, In_indicators, In_footer)
 
 fault_again : (p : FilePieces) (n : Error) → ContentFault p n → ReadFault p n
-fault_again p n (In_type m f) = inl f
-fault_again p n (In_indicators types spelled bad) = inr (types, spelled, inl (bad, refl))
-fault_again p n (In_footer types footer m spelled agree is f) = inr (types, spelled, inr (tt, agree, inl (footer, is, f)))
+fault_again p n f = grind arith
 
 say_law : (p : FilePieces) → HasLengths p → Decided Zone (lists_in p) (SayZone p) (ContentFault p)
 unfolding lists_in with_types with_rule
@@ -59,7 +48,7 @@ say_law p l = like
     made (λ leaps. record { transitions = transitions; types = types; leaps = leaps; rule = rule })
     (leap_seconds_law _ _ _ l.leap_seconds))))))
     (λ z h. grind arith)
-    (λ z s. (z.types, s.types, (tt, s.indicators, (z.rule, s.rule, (z.transitions, s.transitions, (z.leaps, s.leaps, refl))))))
+    (λ z s. grind arith)
     (content_fault p)
     (fault_again p)
 
@@ -85,9 +74,7 @@ abbrev ValidityFault : List ℕ → Error → Type 0
 ValidityFault bytes e = (z : Zone) × IsTzFile bytes z × ListFault z e
 
 kind_of : (bytes : List ℕ) (e : Error) → IsFileFault bytes e → SpellingFault bytes e ⊎ ValidityFault bytes e
-kind_of _ e (In_piece m f) = inl (inl f)
-kind_of bytes e (In_contents m p whole f) = inl (inr (p, whole, f))
-kind_of bytes e (Not_valid z m file bad) = inr (z, file, bad)
+kind_of bytes e f = grind arith
 
 pub fault_once : (bytes : List ℕ) (d e : Error) → IsFileFault bytes d → IsFileFault bytes e → d ≡ e
 fault_once bytes d e f g = elim (kind_of _ d f) [
@@ -97,14 +84,14 @@ fault_once bytes d e f g = elim (kind_of _ d f) [
   ]
   | inr a ↦ elim (kind_of _ e g) [
     | inl b ↦ absurd (apart (file_law bytes) a.0 e a.1 b)
-    | inr b ↦ list_fault_once b.0 d e (subst (λ y. ListFault y d) (one_zone bytes a.0 b.0 a.1 b.1) a.2) b.2
+    | inr b ↦ list_fault_once b.0 d e (rw (one_zone bytes a.0 b.0 a.1 b.1) at a.2) b.2
   ]
 ]
 
 pub fault_or_zone : (bytes : List ℕ) (e : Error) (z : Zone) → IsFileFault bytes e → IsTzFile bytes z → IsValid z → ⊥
 fault_or_zone bytes e z f file valid = elim (kind_of _ e f) [
   | inl a ↦ apart (file_law _) z e file a
-  | inr a ↦ list_fault_or_valid a.0 e a.2 (subst (λ y. IsValid y) (one_zone _ z a.0 file a.1) valid)
+  | inr a ↦ list_fault_or_valid a.0 e a.2 (rw (one_zone _ z a.0 file a.1) at valid)
 ]
 
 pub has_fault : (bytes : List ℕ) → ((z : Zone) → IsTzFile bytes z → ¬ (IsValid z)) → (e : Error) × IsFileFault bytes e
@@ -115,17 +102,16 @@ has_fault bytes none = elim (either (file_law bytes)) [
 
 -- it is not running out of memory
 pub fault_low : (bytes : List ℕ) (e : Error) → IsFileFault bytes e → error_number e ≤ 16
-fault_low bytes e f = elim (kind_of _ e f) [ inl a ↦ low (file_law _) e a | inr a ↦ list_fault_low a.0 e a.2 ]
+fault_low bytes e f = grind (arith, low (file_law bytes), list_fault_low)
 
 -- ---- what the reader of the lists answers
 pub reads : (bytes : List ℕ) (p : FilePieces) (r : Result Lists Error) → pieces_at bytes ≡ Ok p → GivesInMemory zone_of_lists r (lists_in p) → Reads r bytes
 unfolding file_at
-reads _ p (Ok lists) h g = rw h g
-reads bytes p (Err e) h g = elim g [ inl memory ↦ inr (memory, p, h) | inr refused ↦ inl (rw h refused) ]
+reads bytes p r h g = grind arith
 
 pub no_pieces : (bytes : List ℕ) (e : Error) → pieces_at bytes ≡ Err e → Reads (Err e) bytes
 unfolding file_at
-no_pieces _ e h = inl (rw h)
+no_pieces bytes e h = grind arith
 
 pub found : (bytes : List ℕ) (lists : Lists) → Reads (Ok lists) bytes → IsTzFile bytes (zone_of_lists lists)
 found bytes lists = (file_law _).takes (zone_of_lists lists)

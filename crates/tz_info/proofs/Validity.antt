@@ -1,7 +1,7 @@
 -- Whether a rule agrees with the last transition.
 use Rattle.tz_info.proofs.{
   RuleLaws.{rule_not_refused, rule_once},
-  Words.{Agrees, Bool, IsRuleRefused, IsTrue, IsUnixTime, IsUnixTimeRefused, LeapSecond, List, LocalType, RuleAt, Some, Transition, TransitionRule, inl, inr},
+  Words.{linear, Agrees, Bool, IsRuleRefused, IsTrue, IsUnixTime, IsUnixTimeRefused, LeapSecond, List, LocalType, RuleAt, Some, Transition, TransitionRule, inl, inr},
   Words.{slice_get, sym, ℤ, ◌↔◌, ◌∙◌, ◌≡◌},
 }
 
@@ -10,8 +10,7 @@ unix_time_once _ x u v a b = a.difference ∙ sym b.difference
 
 pub differs_without_time : (types : List LocalType) (leaps : List LeapSecond) (rule : TransitionRule) (last : Transition)
     → IsUnixTimeRefused leaps last.unix_leap_time → Agrees types leaps rule last → ⊥
-differs_without_time _ _ _ _ (inl least) h = h.of_transition.not_least least
-differs_without_time types leaps rule last (inr out) h = let e = h.of_transition.difference in out (rw e at h.of_transition.fits)
+differs_without_time types leaps rule last out h = grind linear
 
 -- a rule, and what it must agree with
 module _ (types : List LocalType) (leaps : List LeapSecond) (rule : TransitionRule) (last : Transition) (u : ℤ)
@@ -28,6 +27,4 @@ module _ (types : List LocalType) (leaps : List LeapSecond) (rule : TransitionRu
   )
 
   pub differs_without_rule : IsRuleRefused rule u → Agrees types leaps rule last → ⊥
-  differs_without_rule refused h =
-      let e = unix_time_once _ _ u _ of_last h.of_transition in
-      rule_not_refused rule u h.type (rw e h.of_rule) refused
+  differs_without_rule refused h = grind (linear, unix_time_once, rule_not_refused)

@@ -30,15 +30,13 @@ some_once o s t h k = cc
 
 or_else_once : (rule : Option TransitionRule) (o : Option LocalType) (u : ℤ) (s t : LocalType) → RuleOrElse rule u (o ≡ Some s) s
     → RuleOrElse rule u (o ≡ Some t) t → s ≡ t
-or_else_once (Some rule) o u s t h k = rule_once _ u s t h k
-or_else_once None o u s t h k = some_once o s t h k
+or_else_once rule o u s t h k = grind (linear, rule_once)
 
 pub type_once : (z : Zone) (u : ℤ) (s t : LocalType) → TypeAt z u s → TypeAt z u t → s ≡ t
 type_once z u s t a b = grind (linear, same_passed, or_else_once, before_or_from_last)
 
 pub type_not_refused : (z : Zone) (u : ℤ) (t : LocalType) → TypeAt z u t → IsTypeRefused z u → ⊥
-type_not_refused z u t a (by_leap_time some r) = grind (linear, some)
-type_not_refused z u t a (by_rule x of_second last refused) = grind (arith, same_passed)
+type_not_refused z u t a r = grind (linear, same_passed)
 
 -- an item of a list
 pub inside_listed : {X : Type 0} (xs : List X) (i : ℕ) → i < length xs → (x : X) × (slice_get xs i ≡ Some x)
@@ -46,8 +44,7 @@ inside_listed xs i h = ⊎_elim (λ found. (found.0, found.2)) (λ past. absurd 
 
 or_else_listed : (rule : Option TransitionRule) (z : Zone) (u : ℤ) (i : ℕ) (t : LocalType) → RuleOrElse rule u (HasType z i t) t
     → ((k : ℕ) × (k < length z.types) × HasType z k t) ⊎ IsTypeOf rule u t
-or_else_listed (Some rule) z u i t h = inr h
-or_else_listed None z u i t h = inl (i, slice_get_within _ i t h, h)
+or_else_listed rule z u i t h = grind (linear, slice_get_within)
 
 -- a type in force is in the list or is the rule's
 pub type_listed : (z : Zone) (u : ℤ) (t : LocalType) → TypeAt z u t → ((k : ℕ) × (k < length z.types) × HasType z k t) ⊎ IsTypeOf z.rule u t
@@ -105,8 +102,7 @@ decided_at z u x valid limits of_second =
     ]
 
 pub type_error_number : (z : Zone) (u : ℤ) (refused : IsTypeRefused z u) → error_number (type_error refused) ≡ 2
-type_error_number z u (by_leap_time some refused) = refl
-type_error_number z u (by_rule x _ _ _) = refl
+type_error_number z u refused = grind linear
 
 pub type_decided : (z : Zone) (u : ℤ) → IsValid z → IsRuleOrNone z.rule → ((t : LocalType) × TypeAt z u t) ⊎ IsTypeRefused z u
 type_decided z u valid limits = elim (cases_lt 0 (length z.transitions)) [
@@ -119,5 +115,4 @@ type_decided z u valid limits = elim (cases_lt 0 (length z.transitions)) [
 
 -- a rule and types without transitions make a zone
 pub zone_of_rule_valid : (types : List LocalType) (rule : Option TransitionRule) → 0 < length types → IsValid (zone_of_rule types rule)
-zone_of_rule_valid types (Some rule) some = grind (linear, some)
-zone_of_rule_valid types None some = grind (linear, some)
+zone_of_rule_valid types rule some = grind linear
