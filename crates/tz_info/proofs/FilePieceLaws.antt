@@ -14,24 +14,24 @@ use Rattle.tz_info.specs.{
 
 -- ---- what is spelled comes first, and what follows after it
 front : {X : Type 0} (g : Grammar X) (bytes : List ℕ) (x : X) (rest : List ℕ) → Spells g bytes x rest → (before : List ℕ) × (bytes ≡ before ++ rest)
-front (Nothing v) bytes x _ h = ([], h.1)
-front (Then g f) bytes x rest (y, after, h, k) =
+front (Nothing _) _ _ _ h = ([], h.1)
+front (Then g f) _ x rest (y, after, h, k) =
     let a = front g _ y _ h in
     let b = front (f y) after x rest k in
     (a.0 ++ b.0, a.1 ∙ ap (λ s. a.0 ++ s) b.1 ∙ sym (append_assoc a.0 b.0 rest))
-front (Marked tag g h) bytes x rest (inl k) = let a = front g k.0 x _ k.2 in (tag ∷ a.0, k.1 ∙ ap (λ s. tag ∷ s) a.1)
-front (Marked tag g h) bytes x rest (inr k) = front h bytes x _ k.1
-front (Ended g h) bytes x rest (inl k) = front g _ x _ k.1
-front (Ended g h) bytes x rest (inr k) = front h _ x _ k.1
-front (Byte tag) bytes x rest h = (tag ∷ [], h)
-front (Run p) bytes x rest h = (x, h.whole)
-front (Number max) bytes x rest h = (h.digits, h.whole)
-front (Exact count) bytes x rest h = (x, h.0)
+front (Marked tag g _) _ x _ (inl k) = let a = front g k.0 x _ k.2 in (tag ∷ a.0, k.1 ∙ ap (λ s. tag ∷ s) a.1)
+front (Marked _ _ h) bytes x _ (inr k) = front h bytes x _ k.1
+front (Ended g _) _ x _ (inl k) = front g _ x _ k.1
+front (Ended _ h) _ x _ (inr k) = front h _ x _ k.1
+front (Byte tag) _ _ _ h = (tag ∷ [], h)
+front (Run _) _ x _ h = (x, h.whole)
+front (Number _) _ _ _ h = (h.digits, h.whole)
+front (Exact _) _ x _ h = (x, h.0)
 front Rest bytes x rest h = (bytes, rw h.1 (sym (append-nil bytes)))
-front (Refused refusal) bytes x rest h = absurd h
-front (Check P test refusal v) bytes x rest h = ([], h.2)
-front (Here f) bytes x rest h = front (f bytes) _ x _ h
-front (At place g) bytes x rest h = front g bytes x rest h
+front (Refused _) _ _ _ h = absurd h
+front (Check P _ _ _) _ _ _ h = ([], h.2)
+front (Here f) bytes x _ h = front (f bytes) _ x _ h
+front (At _ g) bytes x rest h = front g bytes x rest h
 
 -- ---- the end of a file: the block that the pieces are of, and the footer
 abbrev EndsIn : List ℕ → FilePieces → Type 0
@@ -45,16 +45,16 @@ behind g _ x rest p h (before, start, e, size, is) =
 
 later_ends : (bytes : List ℕ) (p : FilePieces) (rest : List ℕ) → Spells later_version bytes p rest → (rest ≡ []) × EndsIn bytes p
 unfolding later_version
-later_ends _ p _ (h, after, k, (parts, end, m, (footer, _, f, (value, e)))) =
+later_ends bytes p rest (h, after, k, (parts, end, m, (_, _, f, (value, e)))) =
     (sym e ∙ f.1, behind (header Second) _ h after p k (rw (value, f.0) ([], after, refl, inr refl, m)))
 
 after_ends : (v : Version) (c : Counts) (b : Parts) (start bytes : List ℕ) (p : FilePieces) (rest : List ℕ) → Spells (block 4 c) start b bytes
     → Spells (after_first_block v c b) bytes p rest → (rest ≡ []) × EndsIn start p
 unfolding after_first_block first_version
 after_ends One c b start _ p _ h (_, _, inl (none, (_, same)), (value, e)) = (sym e ∙ sym same ∙ none, rw (value, ← none) ([], start, refl, inl refl, h))
-after_ends One c b start bytes p rest h (_, _, inr (_, never), _) = absurd never
-after_ends Two c b start bytes p rest h k = let r = later_ends _ p _ k in (r.0, behind (block 4 c) _ b bytes p h r.1)
-after_ends Three c b start bytes p rest h k = let r = later_ends _ p _ k in (r.0, behind (block 4 c) _ b bytes p h r.1)
+after_ends One _ _ _ _ _ _ _ (_, _, inr (_, never), _) = absurd never
+after_ends Two c b _ bytes p _ h k = let r = later_ends _ p _ k in (r.0, behind (block 4 c) _ b bytes p h r.1)
+after_ends Three c b _ bytes p _ h k = let r = later_ends _ p _ k in (r.0, behind (block 4 c) _ b bytes p h r.1)
 
 file_ends : (bytes : List ℕ) (p : FilePieces) (rest : List ℕ) → Spells file bytes p rest → (rest ≡ []) × EndsIn bytes p
 unfolding file
@@ -89,13 +89,7 @@ pub counted : (bytes : List ℕ) (p : FilePieces) (d c : FileCounts) → pieces_
     → d.leap_seconds ≡ p.counts.leap_seconds → (Some d ≡ Some c) ↔ HasCounts bytes c
 counted bytes p d c read m n = (
   λ e. subst (HasCounts bytes) (same_Some d c e) (record { pieces = p; has = (pieces_law _).takes p read; transitions_are = m; leap_seconds_are = n }),
-  λ k.
-      let one = value_once (pieces_law _) p k.pieces ((pieces_law _).takes p read) k.has in
-      let same : d ≡ c = λ i. record {
-        transitions = (m ∙ ap (λ x. x.counts.transitions) one ∙ sym k.transitions_are) i;
-        leap_seconds = (n ∙ ap (λ x. x.counts.leap_seconds) one ∙ sym k.leap_seconds_are) i;
-      } in
-      ap Some same,
+  λ k. let one = value_once (pieces_law _) p k.pieces ((pieces_law _).takes p read) k.has in grind linear,
 )
 
 -- bytes of which a piece is missing or has a fault have none

@@ -9,11 +9,11 @@ use Rattle.tz_info.proofs.{
   Words.{place_by, places_by_kind, pos, refl, rule_day, second_in, seconds_by_kind, start_in, sym, true, weekday_below, weekday_later, weekday_of, year_start},
   Words.{ℕ, ℤ, ◌%◌, ◌*ℤ◌, ◌+ℤ◌, ◌+◌, ◌-ℤ◌, ◌-◌, ◌<◌, ◌∙◌, ◌≡◌, ◌≤ℤ◌, ◌⊎◌},
 }
-use Rattle.tz_info.specs.{Steps.ChangingYears.{AreWithinYears}, declared.rule.day.DayForm.TheVariants.{Julian0, Julian1, MonthWeekday}}
+use Rattle.tz_info.specs.{Steps.ChangingYears.{AreWithinYears}}
 
 first_of_month : (year : ℤ) (month : ℕ) → day_number year month 1 ≡ year_start year +ℤ pos (days_of_months (is_leap year) (month - 1))
 unfolding day_number
-first_of_month _ _ = omega (arith, floors)
+first_of_month year month = grind (arith, floors)
 
 sum_on : (day start : ℤ) (n place : ℕ) → day ≡ start +ℤ pos n → day +ℤ pos place ≡ start +ℤ pos (n + place)
 sum_on day _ n _ e = omega (arith, floors)
@@ -61,8 +61,7 @@ moment_by_kind t offset year _ d seconds kind fits near e f g =
 pub within_years : (t : DayTime) (offset : ℤ) (seconds : List ℤ) → IsRuleDay t.day → IsNear (moment t offset) → seconds ≡ seconds_by_kind t offset
     → AreWithinYears seconds
 within_years t offset seconds fits near e year =
-    let kept = moment_by_kind t _ _ (year_start year) (pos 0) _ _ fits near e refl refl in
-    (omega (arith, floors), omega (arith, floors))
+    let kept = moment_by_kind t _ _ (year_start year) (pos 0) _ _ fits near e refl refl in grind (arith, floors)
 
 -- ---- margins
 -- how far the moments of a rule lie from the ends of their years; further outside than eight days they never lie
@@ -96,7 +95,7 @@ calm_year a starts ends year rule e f all =
     rw (start, end) at calm
 
 shifted : (x y base : ℤ) → int_le (x -ℤ base) (y -ℤ base) ≡ int_le x y
-shifted x y _ = grind arith
+shifted x y base = grind arith
 
 margin_by : (a : Alternate) (starts ends : List ℤ) (margin : ℤ) (calm : Bool) → IsAlternateRule a → starts ≡ seconds_by_kind a.start a.std.offset
     → ends ≡ seconds_by_kind a.end a.dst.offset → are_calm starts ends ≡ calm → margin ≡ cond calm (pos 172_800) (neg_ℤ (pos 691_200)) → IsMargin a margin

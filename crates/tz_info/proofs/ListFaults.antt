@@ -1,5 +1,5 @@
 -- Lists make a zone or have one first fault.
-use Rattle.std.proofs.lemmas.{Bool.Decides.{not_from_Decides}, List.Elements.{All-cons}}
+use Rattle.std.proofs.lemmas.{List.Elements.{All-cons}}
 use Rattle.tz_base.specs.{
   declared.error.Error.TheVariants.{TimeZone},
   declared.error.Expected.TheVariants.{AtLeastOneLocalTimeType, LeapSecondsInOrder, RuleThatAgreesWithLastTransition, TransitionTimesThatRise},
@@ -8,7 +8,7 @@ use Rattle.tz_base.specs.{
 use Rattle.tz_info.proofs.{
   Words.{All, AllAdjacentBelow, AllPairs, AllPairs-cons, AreLeapSeconds, AreRising, AreTransitions, Bool, Decides, Decides-int_eq, Decides-ltb, Error},
   Words.{IsNextLeap, IsOneStep, IsValid, LeapSecond, List, ListFault, No_type, Not_rising, Other_index, Other_leaps, Other_rule, Transition, Zone, [], add-one},
-  Words.{arith, cases_lt, error_number, false, inl, inr, length, lt_is, lt_true, pos, refl, suc, sym, true, zero, ℤ, ◌<ℤ◌, ◌<◌, ◌∙◌, ◌∷◌, ◌≡◌, ◌≤ℤ◌, ◌≤◌, ◌⊎◌},
+  Words.{arith, cases_lt, error_number, inl, inr, length, lt_is, lt_true, pos, suc, zero, ℤ, ◌<ℤ◌, ◌<◌, ◌∷◌, ◌≡◌, ◌≤ℤ◌, ◌≤◌, ◌⊎◌},
 }
 use Rattle.tz_info.specs.Transitions.{NameTypes}
 
@@ -17,11 +17,10 @@ abbrev pub Known : Type 0 → Type 0
 Known P = P ⊎ ¬ P
 
 known : {P : Type 0} (b : Bool) → Decides b P → Known P
-known true d = inl (d.0 refl)
-known false d = inr (not_from_Decides false d refl)
+known b d = grind arith
 
 pub equal_known : (a b : ℤ) → Known (a ≡ b)
-equal_known a b = known _ (Decides-int_eq a b)
+equal_known a b = grind arith
 
 pub both_known : {P Q : Type 0} → Known P → Known Q → Known (P × Q)
 both_known p q = grind arith
@@ -50,15 +49,15 @@ adjacent_known {R = R} each (x ∷ y ∷ ys) = like_known
   where
     next_front : {X : Type 0} (R : X → X → Type 0) (x y : X) (ys : List X) → R x y → AllAdjacentBelow R (y ∷ ys) (length (y ∷ ys))
         → AllAdjacentBelow R (x ∷ y ∷ ys) (length (x ∷ y ∷ ys))
-    next_front R x y ys first more zero d l = first
+    next_front R _ _ _ first _ zero _ _ = first
     next_front R x y ys first more (suc k) d l = rw add-one (rw add-one at (more k d (omega arith)))
 
 -- ---- transitions and leap seconds
 earlier_known : (a b : Transition) → Known (a.unix_leap_time <ℤ b.unix_leap_time)
-earlier_known a b = known _ (lt_is _ _, lt_true _ _)
+earlier_known a b = grind arith
 
 later_and_step_known : (earliest time a b : ℤ) → Known ((earliest ≤ℤ time) × IsOneStep a b)
-later_and_step_known _ _ a b = grind arith
+later_and_step_known earliest time a b = grind arith
 
 leaps_known : (leaps : List LeapSecond) → Known (AreLeapSeconds leaps)
 leaps_known [] = inl (record { first = λ d l. absurd (omega arith); next = λ k d l. absurd (omega arith) })
@@ -81,30 +80,21 @@ pub list_fault_low : (z : Zone) (e : Error) → ListFault z e → error_number e
 list_fault_low z e f = grind arith
 
 -- a condition does not hold, or it holds and a later one is at fault
-data Stage (C : Type 0) (n : Error) (later : Error → Type 0) (e : Error) : Type 0 where
-  Here : ¬ C → e ≡ n → Stage C n later e
-  Later : C → later e → Stage C n later e
-
-one_stage : {C : Type 0} {n d e : Error} {later : Error → Type 0} → (later d → later e → d ≡ e) → Stage C n later d → Stage C n later e → d ≡ e
-one_stage same (Here none g) (Here _ h) = g ∙ sym h
-one_stage same (Here none g) (Later holds h) = absurd (none holds)
-one_stage same (Later holds g) (Here none h) = absurd (none holds)
-one_stage same (Later holds g) (Later _ h) = same g h
-
 abbrev Staged : Zone → Error → Type 0
-Staged z = Stage (0 < length z.types) (TimeZone AtLeastOneLocalTimeType) (Stage (NameTypes (length z.types) z.transitions) (TimeZone TypeIndexesWithinTypes)
-    (Stage (AreRising z.transitions) (TimeZone TransitionTimesThatRise)
-    (Stage (AreLeapSeconds z.leaps) (TimeZone LeapSecondsInOrder) (λ e. e ≡ TimeZone RuleThatAgreesWithLastTransition))))
+Staged z e =
+    (¬ (0 < length z.types) × (e ≡ TimeZone AtLeastOneLocalTimeType)) ⊎ ((0 < length z.types)
+    × ((¬ (NameTypes (length z.types) z.transitions) × (e ≡ TimeZone TypeIndexesWithinTypes)) ⊎ (NameTypes (length z.types) z.transitions
+    × ((¬ (AreRising z.transitions) × (e ≡ TimeZone TransitionTimesThatRise)) ⊎ (AreRising z.transitions
+    × ((¬ (AreLeapSeconds z.leaps) × (e ≡ TimeZone LeapSecondsInOrder)) ⊎ (AreLeapSeconds z.leaps × (e ≡ TimeZone RuleThatAgreesWithLastTransition))))))))
 
 staged : (z : Zone) (e : Error) → ListFault z e → Staged z e
-staged z e (No_type none) = Here none refl
-staged z e (Other_index some bad) = Later some (Here bad refl)
-staged z e (Not_rising some indexes bad) = Later some (Later indexes (Here bad refl))
-staged z e (Other_leaps some transitions bad) = Later some (Later transitions.indexes (Later transitions.rising (Here bad refl)))
-staged z e (Other_rule some transitions leaps bad) = Later some (Later transitions.indexes (Later transitions.rising (Later leaps refl)))
+staged z e f = grind arith
+
+one_fault : (z : Zone) (d e : Error) → Staged z d → Staged z e → d ≡ e
+one_fault z d e f g = grind arith
 
 pub list_fault_once : (z : Zone) (d e : Error) → ListFault z d → ListFault z e → d ≡ e
-list_fault_once z d e f g = one_stage (one_stage (one_stage (one_stage (λ a b. a ∙ sym b)))) (staged z d f) (staged z e g)
+list_fault_once z d e f g = one_fault z d e (staged z d f) (staged z e g)
 
 pub has_list_fault : (z : Zone) → ¬ (IsValid z) → (e : Error) × ListFault z e
 has_list_fault z bad = elim (cases_lt 0 (length z.types)) [

@@ -12,6 +12,4 @@ pub named_by : (name : List ℕ) (dst : Bool) (offset : ℤ) (r : Result LocalTy
     → MatchResult r (λ t. IsUtOffset offset × IsNameOrNone (Some name) × (t ≡ named_type name dst offset))
     (λ e. (e ≡ LocalTimeType (expected_of_type offset (Some name))) × ¬ (IsUtOffset offset × IsNameOrNone (Some name))) → IsUtOffset offset
     → Gives (λ t. t) r (checked (is_name name) (BadType (expected_of_name name)) (named_type name dst offset))
-named_by name dst _ (Ok t) h u = let e = (name_test name).decides.1 h.1 in rw (e, h.2)
-named_by name dst offset (Err e) h u = let n = false_unless (is_name name) (λ t. h.1 (u, (name_test name).decides.0 t)) in
-    rw (n, h.0, above_least _ u)
+named_by name dst offset r h u = let e = (name_test name).decides in grind arith

@@ -1,14 +1,13 @@
 -- The zone of a TZ string.
-use Rattle.std.specs.{Char.{is_ascii_whitespace}, List.{prefix_len}}
 use Rattle.tz_base.specs.{Errors.{IsOutOfMemory}, declared.parse_error.ParseError.{ParseError}}
 use Rattle.tz_info.proofs.{
   FooterLaws.{spelled_law},
   TextLaws.{text_low},
   TrimLaws.{fits_behind, front_counted, trim_again, trim_is, trims_both},
   Words.{Bool, Decided, Err, Error, IfErr, IsPosixFault, IsPosixZone, IsTextFault, IsTrimAscii, IsTrimAsciiStart, IsTzText, List, MatchResult, None, Ok},
-  Words.{Option, Result, Some, TransitionRule, Zone, [], ap, apart, arith, done, error_number, false, fault_low, fault_once, inl, inr, length, like, made},
-  Words.{nil_from_length, option_map, plain_zone, pos, posix_zone, refl, rule_in, subst, sym, trimmed, true, value_once, ℕ, ◌+◌, ◌-◌, ◌==◌, ◌>>=◌, ◌∙◌, ◌∷◌},
-  Words.{◌≡◌, ◌≢◌, ◌≤◌},
+  Words.{Option, Result, Some, TransitionRule, Zone, [], apart, arith, error_number, false, fault_low, fault_once, inl, inr, length, like, made},
+  Words.{nil_from_length, option_map, plain_zone, pos, posix_zone, refl, rule_in, sym, trimmed, true, value_once, ℕ, ◌+◌, ◌-◌, ◌==◌, ◌>>=◌, ◌∙◌, ◌∷◌, ◌≡◌, ◌≢◌},
+  Words.{◌≤◌},
 }
 use Rattle.tz_info.specs.{PosixZones.{IsExtendedFaultPlace, IsPlaced, IsPosixFaultPlace}, Steps.Spelled.{IsTrimmedRule}, TzGrammar.{text_fault_position}}
 
@@ -18,11 +17,7 @@ zone_in (b ∷ bs) = rule_in false (trimmed (b ∷ bs)) >>= λ rule. Ok (posix_z
 
 pub posix_law : (text : List ℕ) → Decided Zone (zone_in text) (IsPosixZone text) (IsPosixFault text)
 unfolding zone_in
-posix_law [] = like (done (plain_zone (pos 0)))
-    (λ z h. inl (refl, sym h))
-    (λ z h. elim h [ inl a ↦ sym a.1 | inr a ↦ absurd (a.some refl) ])
-    (λ n f. absurd f)
-    (λ n f. absurd (f.some refl))
+posix_law [] = grind arith
 posix_law (b ∷ bs) = like (made posix_zone (spelled_law _ _))
     (λ z h. inr (record { some = λ e. cc; trimmed = trimmed (b ∷ bs); rule = h.0; trims = trim_is _; spells = h.1; zone = sym h.2 }))
     (λ z h. elim h [ inl a ↦ let e = a.0 in cc | inr a ↦ (a.rule, rw (trim_again _ _ a.trims) a.spells, sym a.zone) ])
@@ -58,7 +53,7 @@ zone_of_text text rule b e some (trimmed, trims, spells) =
     inr (record { some = not_empty _ b e some; trimmed = trimmed; rule = rule; trims = trims; spells = spells; zone = refl })
 
 pub fault_of_text : (text : List ℕ) (e : ParseError) (b : Bool) → b ≡ (length text == 0) → b ≡ false → IsTrimmedRule text (Err e) → IsPosixFault text e.error
-fault_of_text _ e b is some (trimmed, trims, fault, place) = record { some = not_empty _ b is some; trimmed = trimmed; trims = trims; fault = fault }
+fault_of_text text e b is some h = let no = not_empty _ b is some in grind arith
 
 -- the rule of a text without the white space at its ends, or its fault, counted after the white space in front
 pub trimmed_rule : (text trimmed string : List ℕ) (rule : TransitionRule) → IsTrimAscii text trimmed → string ≡ trimmed → IsTzText false string rule
@@ -72,37 +67,27 @@ pub trimmed_fault : (text start trimmed string : List ℕ) (error : Error) (posi
     → string ≡ trimmed → IsTextFault false string error
     → position ≡ Some (text_fault_position false string) → placed ≡ option_map (λ p. length text - (length start - p)) position
     → IsTrimmedRule text (Err (record { error = error; position = placed }))
-trimmed_fault text start trimmed string error _ _ s t same fault place is =
+trimmed_fault text start trimmed string error position placed s t same fault place is =
     let trims = trims_both _ _ t in
-    let there = ap (λ b. text_fault_position false b) same in
-    let inside =
-    subst (λ b. text_fault_position false string ≤ length b) same (string_place_within _ _) in
-    let counts = counted _ _ _ _ _
-    _ (front_counted _ _ s) (fits_behind _ _ trims) inside there in (
-      trimmed,
-      trims,
-      subst (λ b. IsTextFault false b error) same fault,
-      is ∙ ap (λ o. option_map (λ p. length text - (length start - p)) o) place ∙ ap (λ n. Some n) counts,
-    )
+    let front = front_counted _ _ s in
+    let fits = fits_behind _ _ trims in
+    (trimmed, trims, rw same at fault, grind (arith, string_place_within))
 
 pub only_found : (text : List ℕ) (z : Zone) (r : Result Zone ParseError) → IsPosixZone text z
     → MatchResult r (λ y. y ≡ z) (λ e. IsOutOfMemory e.error × (e.position ≡ None)) → (other : Zone) → IsPosixZone text other
     → MatchResult r (λ y. y ≡ other) (λ e. IsOutOfMemory e.error)
-only_found _ z (Ok y) is same _ p = same ∙ one_zone _ z _ is p
-only_found text z (Err x) is memory other p = memory.0
+only_found text z r is same other p = let o = one_zone text z other is p in grind arith
 
 -- running out of memory is reported only if there is a zone
 pub zone_memory : (P : Zone → Type 0) (z : Zone) (r : Result Zone ParseError) → P z → IfErr r (λ e. IsOutOfMemory e.error → (y : Zone) × P y)
 zone_memory P z r is = grind arith
 
 pub refused_memory : (text : List ℕ) (e : Error) → IsPosixFault text e → IsOutOfMemory e → (z : Zone) × IsPosixZone text z
-refused_memory _ e fault m = let low = posix_low _ e fault in absurd (omega arith)
+refused_memory text e fault m = let low = posix_low _ e fault in grind arith
 
 -- a fault has its place
 pub fault_placed : (text : List ℕ) (e : ParseError) → IsPosixFault text e.error → IsTrimmedRule text (Err e) → IsPlaced (IsPosixFaultPlace text) e
-fault_placed _ e fault (trimmed, trims, _, place) =
-    let low = posix_low _ _ fault in
-    rw place ((λ m. omega arith), record { trimmed = trimmed; trims = trims; counted = refl })
+fault_placed text e fault h = let low = posix_low _ _ fault in grind arith
 
 -- it has one place, in the text or at its end
 pub one_place : (text : List ℕ) (a b : ℕ) → IsPosixFaultPlace text a → IsPosixFaultPlace text b → a ≡ b

@@ -1,10 +1,9 @@
 -- What a TZ string gives is a zone whose rule's numbers are in their limits.
 use Rattle.tz_info.proofs.{
   TextFits.{text_rule_fits},
-  Words.{IsPosixZone, IsRuleOrNone, IsValid, List, TransitionRule, Zone, arith, inl, inr, length, subst, sym, types_of, ℕ, ◌<◌},
+  Words.{IsPosixZone, IsRuleOrNone, IsValid, List, TransitionRule, Zone, arith, length, types_of, ℕ, ◌<◌},
   ZoneLaws.{zone_of_rule_valid},
 }
-use Rattle.tz_info.specs.declared.rule.transition_rule.TransitionRule.TheVariants as rules
 
 has_type : (rule : TransitionRule) → 0 < length (types_of rule)
 has_type rule = grind arith

@@ -3,9 +3,8 @@ use Rattle.std.proofs.lemmas.Bool.{cases_Bool}
 use Rattle.tz_info.proofs.{
   Neighbours.{dst_by_three, ends_near, starts_near},
   Words.{Alternate as AlternateRule, AlternateAt, Bool, IsAlternateRefused, IsAlternateRule, IsDstAt, IsRule, IsRuleRefused, IsRuleTime, IsRuleYear, IsYearOf},
-  Words.{LiesIn, LocalType, MatchOption, None, Option, RuleAt, Some, TransitionRule, alternate_type, arith, by_lt_z, end_in, floor_div, floors, inl, inr},
-  Words.{is_dst_by_three, is_rule_year, lies_in, linear, neg_ℤ, one_year, pos, refl, rule_type, start_in, starts_rise, subst, sym, type_when, year_of},
-  Words.{year_start, ℤ, ◌+ℤ◌, ◌∙◌, ◌≡◌, ◌⊎◌},
+  Words.{LiesIn, LocalType, MatchOption, RuleAt, TransitionRule, alternate_type, arith, end_in, floor_div, floors, inl, inr, is_dst_by_three, is_rule_year},
+  Words.{lies_in, linear, neg_ℤ, one_year, pos, refl, rule_type, start_in, starts_rise, type_when, year_of, year_start, ℤ, ◌+ℤ◌, ◌≡◌, ◌⊎◌},
 }
 use Rattle.tz_info.specs.declared.rule.transition_rule.TransitionRule.TheVariants.{Alternate, Fixed}
 
@@ -27,33 +26,17 @@ refused_at u year of_second out = λ other h inside. out (rw (one_year (floor_di
 alternate_told : (a : AlternateRule) (u : ℤ) → IsAlternateRule a
     → MatchOption (alternate_type a (year_of (floor_div u 86_400)) u) (IsAlternateRefused u) (AlternateAt a u)
 alternate_told a u limits =
-    let year = year_of (floor_div u 86_400) in
     let of_second = lies_in (floor_div u 86_400) in
-    elim (cases_Bool (is_rule_year year)) [
-      | inl test ↦
-          let inside : IsRuleYear year = (grind arith, grind arith) in
-          let when = dst_by_three _ _ _ u _ (starts_near a limits) (ends_near a limits) of_second refl in
-          rw test (record {
-            year = year;
-            of_second = of_second;
-            inside = inside;
-            dst = is_dst_by_three (start_in a) (end_in a) year u;
-            when = when;
-            shown = refl;
-          })
-      | inr test ↦ rw test (refused_at u _ of_second (λ h. grind arith))
-    ]
+    let when = dst_by_three _ _ _ u _ (starts_near a limits) (ends_near a limits) of_second refl in
+    let out = refused_at u _ of_second in
+    grind arith
 
 pub rule_told : (rule : TransitionRule) (u : ℤ) → IsRule rule → MatchOption (rule_type rule u) (IsRuleRefused rule u) (RuleAt rule u)
-rule_told (Fixed fixed) u h = refl
+rule_told (Fixed _) _ _ = refl
 rule_told (Alternate a) u h = alternate_told a u h
 
--- every second has a type or is refused
-decided : (P : Type 0) (Q : LocalType → Type 0) (o : Option LocalType) → MatchOption o P Q → ((t : LocalType) × Q t) ⊎ P
-decided P Q o h = grind linear
-
 pub rule_decided : (rule : TransitionRule) (u : ℤ) → IsRule rule → ((t : LocalType) × RuleAt rule u t) ⊎ IsRuleRefused rule u
-rule_decided _ u h = decided _ _ _ (rule_told _ u h)
+rule_decided rule u h = let t = rule_told rule u h in grind linear
 
 first_start : year_start (neg_ℤ (pos 2_147_483_646)) ≡ neg_ℤ (pos 784_353_015_102)
 unfolding year_start
@@ -78,13 +61,11 @@ rule_year u year of_second within =
 
 -- outside of them an alternate rule is refused
 pub refused_outside : (u : ℤ) → (IsRuleTime u → ⊥) → IsAlternateRefused u
-refused_outside u out = λ year of_second inside. out (rule_time u _ of_second inside)
+refused_outside u out = grind (linear, rule_time)
 
 -- the year of the second's day is the second's year, and a rule answers in it
 pub year_found : (u day year : ℤ) → day ≡ floor_div u 86_400 → year ≡ year_of day → IsRuleTime u → LiesIn day year × IsRuleYear year
-year_found u day year at_day at_year within =
-    let lies : LiesIn day year = rw at_year (lies_in day) in
-    (lies, rule_year u _ (rw at_day at lies) within)
+year_found u day year at_day at_year within = let lies = lies_in day in grind (linear, rule_year)
 
 -- the type at a second whose day and year are known
 pub alternate_at : (a : AlternateRule) (u day year : ℤ) (dst : Bool) → day ≡ floor_div u 86_400 → LiesIn day year → IsRuleYear year

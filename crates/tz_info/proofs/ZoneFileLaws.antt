@@ -2,8 +2,8 @@
 use Rattle.tz_base.specs.declared.error.Error.TheVariants.{OutOfMemory}
 use Rattle.tz_info.proofs.{
   TzFileLaws.{one_zone},
-  Words.{linear, Err, Error, FilePieces, HasPieces, IfErr, IfOk, In_file, IsTzFile, IsValid, IsZoneFault, List, ListFault, MatchResult, No_memory, Not_valid, Ok},
-  Words.{Result, TimeZone, Zone, inl, inr, subst, sym, ℕ, ◌∙◌, ◌≡◌, ◌⊎◌},
+  Words.{Err, Error, FilePieces, HasPieces, IfErr, IfOk, In_file, IsTzFile, IsValid, IsZoneFault, List, ListFault, MatchResult, No_memory, Not_valid, Ok},
+  Words.{Result, TimeZone, Zone, inl, inr, linear, ℕ, ◌∙◌, ◌≡◌, ◌⊎◌},
 }
 
 -- what making a zone of lists answers
@@ -15,9 +15,7 @@ made_found bytes lists r f m = grind linear
 
 pub made_only : (bytes : List ℕ) (lists : Zone) (r : Result TimeZone Error) → IsTzFile bytes lists → Makes lists r
     → (z : Zone) → IsTzFile bytes z → IsValid z → MatchResult r (λ y. y ≡ z) (λ e. e ≡ OutOfMemory)
-made_only _ _ (Ok y) f m z g v = m.1 ∙ one_zone _ _ z f g
-made_only bytes lists (Err e) f (inl m) z g v = absurd (m.1 (rw (one_zone _ z _ g f) at v))
-made_only bytes lists (Err e) f (inr m) z g v = m.0
+made_only bytes lists r f m z g v = let one = one_zone bytes z lists g f in grind linear
 
 pub made_fault : (bytes : List ℕ) (lists : Zone) (r : Result TimeZone Error) → IsTzFile bytes lists → Makes lists r → IfErr r (λ e. IsZoneFault bytes e)
 made_fault bytes lists r f m = grind (linear, In_file, Not_valid, No_memory)

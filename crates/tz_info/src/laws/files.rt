@@ -49,7 +49,7 @@ pub fn fault_place()
 {}
 
 /// The bytes from the position of the first part on are the parts, in order, and the footer.
-#[tactic(auto, using(crate::proofs::FilePlaceLaws::parts_stand))]
+#[tactic(auto, using(crate::proofs::FilePlaceOnce::parts_stand))]
 pub fn part_places()
     ensures { (bytes : List ℕ) (p : FilePieces) (q : PartPlaces) → HasPieces bytes p
         → ArePartPlaces p q → q.end ≡ length bytes

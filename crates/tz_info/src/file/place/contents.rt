@@ -16,10 +16,9 @@ use tz_base::{Error, Expected};
 
 /// Returns the position of the first fault: in a type, an indicator, the footer or the lists.
 #[tactic(auto, using(
-    crate::proofs::FilePlaceLaws::footer_within,
+    crate::proofs::FilePlaceOnce::footer_within,
     crate::specs::FilePlaces::In_footer,
     crate::specs::FilePlaces::In_indicators,
-    crate::specs::FilePlaces::In_lists,
     crate::specs::FilePlaces::In_type,
 ))]
 pub fn place_in_contents(pieces: &Pieces<'_>, places: PartPlaces) -> usize
@@ -39,7 +38,7 @@ pub fn place_in_contents(pieces: &Pieces<'_>, places: PartPlaces) -> usize
     place_in_lists(pieces, places)
 }
 
-#[tactic(auto, using(crate::proofs::FilePlaceLaws::type_place))]
+#[tactic(auto, using(crate::proofs::FilePlaceOnce::type_place))]
 fn fault_in_types(pieces: &Pieces<'_>) -> Option<usize>
     requires { HasLengths (pieces_of pieces.now) }
     ensures { MatchOption result (AreTypes (pieces_of pieces.now))

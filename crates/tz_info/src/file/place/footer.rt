@@ -31,9 +31,9 @@ fn fault_in_bytes(extended: bool, bytes: &[u8]) -> Option<usize>
 }
 
 #[tactic(auto, using(
-    crate::proofs::FilePlaceLaws::text_place,
-    crate::proofs::FilePlaceLaws::text_fits,
-    crate::proofs::FilePlaceLaws::text_says,
+    crate::proofs::FilePlaceOnce::text_place,
+    crate::proofs::FilePlaceOnce::text_fits,
+    crate::proofs::FilePlaceOnce::text_says,
     crate::proofs::FooterLaws::between,
     crate::specs::FilePlaces::No_first,
     crate::specs::FilePlaces::No_last,
@@ -56,7 +56,7 @@ fn fault_in_utf8(extended: bool, bytes: &[u8]) -> Option<usize>
 }
 
 #[tactic(auto, using(
-    crate::proofs::FilePlaceLaws::no_zero,
+    crate::proofs::FilePlaceOnce::no_zero,
     crate::proofs::PosixLaws::not_empty,
     crate::proofs::TextLaws::fault_by,
     crate::proofs::TextLaws::found_by,

@@ -23,7 +23,7 @@ pub fn left_of_file(bytes: &[u8]) -> usize
     }
 }
 
-#[tactic(auto, using(crate::proofs::FilePlaceLaws::block_left))]
+#[tactic(auto, using(crate::proofs::FilePlaceOnce::block_left))]
 fn left_of_block(bytes: &[u8], header: &Header) -> usize
     ensures { result ≡ length (from_fault (after_header header.now) bytes.now) }
 {
@@ -37,7 +37,7 @@ fn left_of_block(bytes: &[u8], header: &Header) -> usize
 // After the first block: nothing in version 1, or else a second header with its block.
 #[tactic(
     auto,
-    using(crate::proofs::FilePlaceLaws::first_left),
+    using(crate::proofs::FilePlaceOnce::first_left),
     unfolding(crate::specs::FilePieces::after_first_block),
 )]
 fn left_after_block(bytes: &[u8], version: Version) -> usize
@@ -52,7 +52,7 @@ fn left_after_block(bytes: &[u8], version: Version) -> usize
 
 #[tactic(
     auto,
-    using(crate::proofs::FilePlaceLaws::block_left),
+    using(crate::proofs::FilePlaceOnce::block_left),
     unfolding(crate::specs::FilePieces::later_version),
 )]
 fn left_of_later(bytes: &[u8]) -> usize
@@ -83,7 +83,7 @@ fn left_of_magic(bytes: &[u8]) -> usize
     if bytes.len() < 4 { 0 } else { bytes.len() }
 }
 
-#[tactic(auto, using(crate::proofs::FilePlaceLaws::version_fault))]
+#[tactic(auto, using(crate::proofs::FilePlaceOnce::version_fault))]
 fn left_from_version(bytes: &[u8], place: Place) -> usize
     ensures { result ≡ length (from_fault (from_version place) bytes.now) }
 {
@@ -104,7 +104,7 @@ fn left_after_version(bytes: &[u8], version: Version) -> usize
     }
 }
 
-#[tactic(auto, using(crate::proofs::FilePlaceLaws::counts_left))]
+#[tactic(auto, using(crate::proofs::FilePlaceOnce::counts_left))]
 fn left_of_counts(bytes: &[u8], version: Version) -> usize
     ensures { result ≡ length (from_fault (counts_of version) bytes.now) }
 {

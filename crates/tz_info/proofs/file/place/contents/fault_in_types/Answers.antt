@@ -1,4 +1,4 @@
-use Rattle.tz_info.proofs.{FilePlaceLaws.next_type, Words.{arith, pieces_of}}
+use Rattle.tz_info.proofs.{FilePlaceOnce.next_type, Words.{arith, pieces_of}}
 use Rattle.tz_info.proofs.file.place.contents.fault_in_types.Goals as goal
 
 pub loop-k-preserved : goal.loop-k-preserved

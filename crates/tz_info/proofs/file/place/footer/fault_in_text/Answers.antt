@@ -1,4 +1,4 @@
-use Rattle.tz_info.proofs.{FilePlaceLaws.{no_zero}, PosixLaws.{not_empty}, TextLaws.{found_by}, Words.{Ok, Some, ◌∙◌}}
+use Rattle.tz_info.proofs.{FilePlaceOnce.{no_zero}, PosixLaws.{not_empty}, TextLaws.{found_by}, Words.{Ok, Some, ◌∙◌}}
 use Rattle.tz_info.proofs.file.place.footer.fault_in_text.Goals as goal
 
 pub returns-in-Ok : goal.returns-in-Ok

@@ -1,4 +1,4 @@
-use Rattle.tz_info.{proofs.FilePlaceLaws.space_is, specs.FilePlaces.{At_leap, At_rule, At_time}}
+use Rattle.tz_info.{proofs.FilePlaceOnce.space_is, specs.FilePlaces.{At_leap, At_rule, At_time}}
 use Rattle.tz_info.proofs.file.place.lists.place_in_lists.Goals as goal
 
 pub returns-in-Some-first_not_later : goal.returns-in-Some-first_not_later
