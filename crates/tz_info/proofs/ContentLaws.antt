@@ -6,7 +6,7 @@ use Rattle.tz_info.proofs.{
   Words.{Transition, [], all_below, ap, append_assoc, arith, bind, cases_lt, done, drop, drop-drop, exact_cut, file_time, get_or, get_or-eq_default},
   Words.{indicators_of, inl, inr, leap_second_in, leap_second_of, length, length-append, length-drop, length-take, like, made, nil_from_length, pair_agrees},
   Words.{record_at, refl, said, slice_index, subst, suc, sym, take, take-append-drop, transition_in, true, values_below, zero, ℕ, ◌*◌, ◌++◌, ◌+◌, ◌<◌, ◌>>=◌},
-  Words.{◌∙◌, ◌∷◌, ◌≡◌, ◌⊎◌},
+  Words.{◌∷◌, ◌≡◌, ◌⊎◌},
 }
 
 -- ---- values at places, from the first one on
@@ -120,25 +120,23 @@ transitions_law zero w _ (i ∷ is) l m = absurd (omega arith)
 transitions_law (suc n) w times [] l m = absurd (omega arith)
 transitions_law (suc n) w times (i ∷ is) l m =
     let sizes = behind_first n w _ l in
+    let whole = take-append-drop w times in
     like (first_and_more n _ _ _
     (ap (λ b. Ok (record { unix_leap_time = file_time w b; type_index = i })) (first_record w _))
     (λ k. ap (λ b. Ok (record { unix_leap_time = file_time w b; type_index = slice_index is k })) (next_record w _ k))
     (done (record { unix_leap_time = file_time w (take w times); type_index = i }))
     (transitions_law n w _ is sizes.1 (omega arith)))
     (λ ts h. subst (SpellTransitions w times (i ∷ is)) h.2.2 (record {
-      times_are = (take w times, drop w times, sym (take-append-drop w times), sizes.0, ap (λ t. t.unix_leap_time) h.1, h.2.1.times_are);
+      times_are = (_, _, sym whole, sizes.0, cc, h.2.1.times_are);
       indexes_are = cc;
     }))
     (λ ts h. first_transition w _ i is ts h)
-    (λ e f. elim f [ inl none ↦ none | inr k ↦ k.2 ])
+    (λ e f. grind arith)
     (λ e f. absurd f)
 
 -- ---- leap seconds
-leap_takes : (w : ℕ) (bytes : List ℕ) → length bytes ≡ w + 4 → SpellsLeapSecond w bytes (leap_second_of w bytes)
-leap_takes w bytes l = grind (arith, take-append-drop, length-take)
-
 leap_law : (w : ℕ) (bytes : List ℕ) → length bytes ≡ w + 4 → Decided LeapSecond (Ok (leap_second_of w bytes)) (SpellsLeapSecond w bytes) (λ _. ⊥)
-leap_law w _ l = grind (arith, leap_takes, exact_cut)
+leap_law w bytes l = grind (arith, exact_cut, take-append-drop, length-take)
 
 pub leap_seconds_law : (n w : ℕ) (part : List ℕ) → length part ≡ n * (w + 4)
     → Decided (List LeapSecond) (values_below n (leap_second_in w part)) (SpellLeapSeconds w part) (λ _. ⊥)

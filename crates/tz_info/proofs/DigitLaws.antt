@@ -13,7 +13,7 @@ enough (suc f) (suc g) (suc m) h k = ap suc (enough f g _ (omega arith) (omega a
 
 pub digits-half : (m : ℕ) → digits (suc m) ≡ suc (digits (suc m / 2))
 unfolding digits
-digits-half m = ap suc (enough m _ _ (omega arith) (omega arith))
+digits-half m = ap suc (grind (arith, enough))
 
 within_more : (f m n : ℕ) → m ≤ n → digits_within f m ≤ digits_within f n
 within_more zero m n h = omega arith

@@ -94,4 +94,4 @@ counted bytes p d c read m n = (
 
 -- bytes of which a piece is missing or has a fault have none
 pub uncounted : (bytes : List ℕ) (e : Error) (c : FileCounts) → pieces_at bytes ≡ Err e → HasCounts bytes c → ⊥
-uncounted _ e c read k = let whole = (pieces_law _).again k.pieces k.has in cc
+uncounted bytes e c read k = let whole = (pieces_law _).again k.pieces k.has in cc

@@ -1,12 +1,7 @@
 -- Where a file is at fault, and that it is at one place.
 use Rattle.std.proofs.{lemmas.List.Sums.{prefix_len-le-length}, lemmas.Str.{utf8_valid_len-IsValidUpTo}}
 use Rattle.std.specs.{Char.{is_ascii_whitespace}, List.{prefix_len}}
-use Rattle.tz_base.specs.{
-  Fronts.{optional_tag_at},
-  Grammar.{Grammar, Nothing, Then, be_u32, from_fault},
-  declared.error.Error.TheVariants.{InvalidTzFile, LocalTimeType},
-  declared.error.Expected.TheVariants.{OffsetAboveI32Min, ZeroOrOneAsIsDst},
-}
+use Rattle.tz_base.specs.{Fronts.{optional_tag_at}, Grammar.{Grammar, Nothing, Then, be_u32, from_fault}}
 use Rattle.tz_info.proofs.{
   FilePieceLaws.{has_lengths, pieces_law, whole},
   FooterLaws.{spelled_law},
@@ -31,13 +26,10 @@ use Rattle.tz_info.specs.{
   declared.file.place.PartPlaces.{PartPlaces},
 }
 
-abbrev pub parts_length : Parts → ℕ
-parts_length b =
-    length b.times
-    + (length b.type_indexes + (length b.types + (length b.designations + (length b.leap_seconds + (length b.standard_wall + length b.ut_local)))))
-
 -- they are no longer than the file
-pub fit : (bytes : List ℕ) (p : FilePieces) → HasPieces bytes p → parts_length p.parts + length (footer_bytes p.footer) ≤ length bytes
+pub fit : (bytes : List ℕ) (p : FilePieces) → HasPieces bytes p → length p.parts.times + (length p.parts.type_indexes
+    + (length p.parts.types + (length p.parts.designations + (length p.parts.leap_seconds + (length p.parts.standard_wall + (length p.parts.ut_local
+    + length (footer_bytes p.footer))))))) ≤ length bytes
 fit _ p h = let w = whole _ p h in grind (arith, length-append)
 
 -- and each begins at its position
@@ -82,11 +74,8 @@ unfolding version version_1 exact_at optional_tag_at
 version_fault place bytes e h = grind arith
 
 -- ---- what the loops keep
-pub next_none : (P : ℕ → Type 0) (n : ℕ) → HoldsOfNone P n → ¬ (P n) → HoldsOfNone P (n + 1)
-next_none P n before here = grind (linear, before)
-
 pub next_false : (P : ℕ → Type 0) (n : ℕ) (b : Bool) → HoldsOfNone P n → IsTrue b ↔ P n → b ≡ false → HoldsOfNone P (n + 1)
-next_false P n b none is other = grind (linear, next_none, none)
+next_false P n b none is other = below_more (λ k. ¬ (P k)) n none (λ h. grind linear)
 
 pub next_type : (p : FilePieces) (k : ℕ) (t : LocalType) → ((j : ℕ) → j < k → IsTypeAt p j)
     → type_of_record p.parts.designations (record_at 6 p.parts.types k) ≡ Ok t
@@ -104,7 +93,7 @@ no_zero (b ∷ bs) h = (h 0 (omega arith), no_zero bs (λ k l. h (suc k) (omega 
 
 pub next_later : (p : FilePieces) (k : ℕ) (here before : ℤ) → HoldsOfNone (IsNotLater p) k → here ≡ time_at p k → before ≡ time_at p (k - 1) → before <ℤ here
     → HoldsOfNone (IsNotLater p) (k + 1)
-next_later p k here before none is was later = grind (linear, next_none)
+next_later p k here before none is was later = below_more (λ j. ¬ (IsNotLater p j)) k none (λ h. grind linear)
 
 -- ---- the footer
 pub space_is : (bytes start : List ℕ) → IsTrimAsciiStart bytes start → length bytes - length start ≡ prefix_len is_ascii_whitespace bytes
@@ -140,25 +129,6 @@ text_says extended bytes text utf8 newlines t s = grind (linear, trims_both, no_
 -- ---- the first of some numbers
 first_once : (P : ℕ → Type 0) (n j k : ℕ) → IsFirstBelow P n j → IsFirstBelow P n k → j ≡ k
 first_once P n j k a b = grind arith
-
--- ---- types
-not_at : (p : FilePieces) (k : ℕ) (e : Error) → IsTypeAt p k → TypeFault p.parts.designations (record_at 6 p.parts.types k) e → ⊥
-not_at p k e t f = apart (type_law _ _) t.0 e t.1 f
-
-type_index : (p : FilePieces) (m n : ℕ) (a : IsTypePlace p m) (b : IsTypePlace p n) → a.index < b.index → ⊥
-type_index p m n a b l = not_at p _ _ (b.before a.index l) a.fault
-
-type_once : (p : FilePieces) (m n : ℕ) → IsTypePlace p m → IsTypePlace p n → m ≡ n
-type_once p m n a b =
-    let same : a.index ≡ b.index = omega (arith, type_index p m n a b, type_index p n m b a) in
-    let e = fault_once (type_law _ _) _ _ a.fault (rw (← same) at b.fault) in
-    cc
-
-types_spelled : (p : FilePieces) (n : ℕ) → AreTypes p → IsTypePlace p n → ⊥
-types_spelled p n each a = not_at p _ _ (each a.index a.below) a.fault
-
-pairs_agree : (p : FilePieces) (n k : ℕ) → IndicatorsAgree p.parts.standard_wall p.parts.ut_local → IsFirstBelow (IsOtherPair p) n k → ⊥
-pairs_agree p n k agree f = grind arith
 
 -- ---- the footer
 no_zero_at : (text : List ℕ) (k : ℕ) → HasNoZero text → k < length text → slice_index text k ≢ 0
@@ -207,44 +177,75 @@ rule_says : (extended : Bool) (footer : Option (List ℕ)) (bytes : List ℕ) (r
     → HasRule extended footer rule → IsFooterPlace extended bytes n → ⊥
 rule_says extended footer bytes rule n is has place = grind (arith, footer_says)
 
--- ---- the whole
-lists_once : (p : FilePieces) (q : PartPlaces) (m n : ℕ) → IsListPlace p q m → IsListPlace p q n → m ≡ n
-lists_once _ _ _ _ (At_index j f) (At_index k g) = omega (arith, first_once _ _ j k f g)
-lists_once _ _ _ _ (At_index j f) (At_time _ none _) = absurd (none j f.below f.here)
-lists_once _ _ _ _ (At_index j f) (At_leap _ none _ _) = absurd (none j f.below f.here)
-lists_once _ _ _ _ (At_index j f) (At_rule none _ _) = absurd (none j f.below f.here)
-lists_once _ _ _ _ (At_time _ none _) (At_index k g) = absurd (none k g.below g.here)
-lists_once _ _ _ _ (At_time j _ f) (At_time k _ g) = rw (first_once _ _ j k f g) refl
-lists_once _ _ _ _ (At_time j _ f) (At_leap _ _ t _) = absurd (t j f.below f.here)
-lists_once _ _ _ _ (At_time j _ f) (At_rule _ t _) = absurd (t j f.below f.here)
-lists_once _ _ _ _ (At_leap _ none _ _) (At_index k g) = absurd (none k g.below g.here)
-lists_once _ _ _ _ (At_leap _ _ t _) (At_time k _ g) = absurd (t k g.below g.here)
-lists_once _ _ _ _ (At_leap j _ _ f) (At_leap k _ _ g) = rw (first_once _ _ j k f g) refl
-lists_once _ _ _ _ (At_leap j _ _ f) (At_rule _ _ l) = absurd (l j f.below f.here)
-lists_once _ _ _ _ (At_rule none _ _) (At_index k g) = absurd (none k g.below g.here)
-lists_once _ _ _ _ (At_rule _ t _) (At_time k _ g) = absurd (t k g.below g.here)
-lists_once _ _ _ _ (At_rule _ _ l) (At_leap k _ _ g) = absurd (l k g.below g.here)
-lists_once _ _ _ _ (At_rule _ _ _) (At_rule _ _ _) = refl
+field_low : (e : Error) → before_field e ≤ 5
+field_low e = grind arith
 
-content_once : (p : FilePieces) (q : PartPlaces) (m n : ℕ) → IsContentPlace p q m → IsContentPlace p q n → m ≡ n
-content_once p _ _ _ (In_type j f) (In_type k g) = omega (arith, type_once p j k f g)
-content_once p _ _ _ (In_type j f) (In_indicators _ t _) = absurd (types_spelled p j t f)
-content_once p _ _ _ (In_type j f) (In_footer _ _ t _ _ _) = absurd (types_spelled p j t f)
-content_once p _ _ _ (In_type j f) (In_lists _ _ t _ _ _) = absurd (types_spelled p j t f)
-content_once p _ _ _ (In_indicators _ t _) (In_type k g) = absurd (types_spelled p k t g)
-content_once p _ _ _ (In_indicators j _ f) (In_indicators k _ g) = omega (arith, first_once _ _ j k f g)
-content_once p _ _ _ (In_indicators j _ f) (In_footer _ _ _ i _ _) = absurd (pairs_agree p _ j i f)
-content_once p _ _ _ (In_indicators j _ f) (In_lists _ _ _ i _ _) = absurd (pairs_agree p _ j i f)
-content_once p _ _ _ (In_footer _ _ t _ _ _) (In_type k g) = absurd (types_spelled p k t g)
-content_once p _ _ _ (In_footer _ _ _ i _ _) (In_indicators k _ g) = absurd (pairs_agree p _ k i g)
-content_once p _ _ _ (In_footer bytes j t i s f) (In_footer other k u h o g) =
-    let same : bytes ≡ other = cc in
-    omega (arith, footer_once _ _ j k (rw same at f) g)
-content_once _ _ _ _ (In_footer _ j _ _ s f) (In_lists _ _ _ _ o _) = absurd (rule_says _ _ _ _ j s o f)
-content_once p _ _ _ (In_lists _ _ t _ _ _) (In_type k g) = absurd (types_spelled p k t g)
-content_once p _ _ _ (In_lists _ _ _ i _ _) (In_indicators k _ g) = absurd (pairs_agree p _ k i g)
-content_once _ _ _ _ (In_lists _ _ _ _ h _) (In_footer _ k _ _ s g) = absurd (rule_says _ _ _ _ k s h g)
-content_once p q m n (In_lists _ _ _ _ _ f) (In_lists _ _ _ _ _ g) = lists_once p q m n f g
+step_within : (w n k l : ℕ) → l ≡ n * w → k < n → k * w ≤ l
+step_within w n k l is below = grind arith
+
+-- whole pieces, and the places of their parts
+module _ (p : FilePieces) (q : PartPlaces) where
+  not_at : (k : ℕ) (e : Error) → IsTypeAt p k → TypeFault p.parts.designations (record_at 6 p.parts.types k) e → ⊥
+  not_at k e t f = apart (type_law _ _) t.0 e t.1 f
+
+  type_index : (m n : ℕ) (a : IsTypePlace p m) (b : IsTypePlace p n) → a.index < b.index → ⊥
+  type_index m n a b l = not_at _ _ (b.before a.index l) a.fault
+
+  type_once : (m n : ℕ) → IsTypePlace p m → IsTypePlace p n → m ≡ n
+  type_once m n a b =
+      let same : a.index ≡ b.index = omega (arith, type_index m n a b, type_index n m b a) in
+      let e = fault_once (type_law _ _) _ _ a.fault (rw (← same) at b.fault) in
+      cc
+
+  types_spelled : (n : ℕ) → AreTypes p → IsTypePlace p n → ⊥
+  types_spelled n each a = not_at _ _ (each a.index a.below) a.fault
+
+  pairs_agree : (n k : ℕ) → IndicatorsAgree p.parts.standard_wall p.parts.ut_local → IsFirstBelow (IsOtherPair p) n k → ⊥
+  pairs_agree n k agree f = grind arith
+
+  lists_once : (m n : ℕ) → IsListPlace p q m → IsListPlace p q n → m ≡ n
+  lists_once _ _ (At_index j f) (At_index k g) = omega (arith, first_once _ _ j k f g)
+  lists_once _ _ (At_index j f) (At_time _ none _) = absurd (none j f.below f.here)
+  lists_once _ _ (At_index j f) (At_leap _ none _ _) = absurd (none j f.below f.here)
+  lists_once _ _ (At_index j f) (At_rule none _ _) = absurd (none j f.below f.here)
+  lists_once _ _ (At_time _ none _) (At_index k g) = absurd (none k g.below g.here)
+  lists_once _ _ (At_time j _ f) (At_time k _ g) = rw (first_once _ _ j k f g) refl
+  lists_once _ _ (At_time j _ f) (At_leap _ _ t _) = absurd (t j f.below f.here)
+  lists_once _ _ (At_time j _ f) (At_rule _ t _) = absurd (t j f.below f.here)
+  lists_once _ _ (At_leap _ none _ _) (At_index k g) = absurd (none k g.below g.here)
+  lists_once _ _ (At_leap _ _ t _) (At_time k _ g) = absurd (t k g.below g.here)
+  lists_once _ _ (At_leap j _ _ f) (At_leap k _ _ g) = rw (first_once _ _ j k f g) refl
+  lists_once _ _ (At_leap j _ _ f) (At_rule _ _ l) = absurd (l j f.below f.here)
+  lists_once _ _ (At_rule none _ _) (At_index k g) = absurd (none k g.below g.here)
+  lists_once _ _ (At_rule _ t _) (At_time k _ g) = absurd (t k g.below g.here)
+  lists_once _ _ (At_rule _ _ l) (At_leap k _ _ g) = absurd (l k g.below g.here)
+  lists_once _ _ (At_rule _ _ _) (At_rule _ _ _) = refl
+
+  content_once : (m n : ℕ) → IsContentPlace p q m → IsContentPlace p q n → m ≡ n
+  content_once _ _ (In_type j f) (In_type k g) = omega (arith, type_once j k f g)
+  content_once _ _ (In_type j f) (In_indicators _ t _) = absurd (types_spelled j t f)
+  content_once _ _ (In_type j f) (In_footer _ _ t _ _ _) = absurd (types_spelled j t f)
+  content_once _ _ (In_type j f) (In_lists _ _ t _ _ _) = absurd (types_spelled j t f)
+  content_once _ _ (In_indicators _ t _) (In_type k g) = absurd (types_spelled k t g)
+  content_once _ _ (In_indicators j _ f) (In_indicators k _ g) = omega (arith, first_once _ _ j k f g)
+  content_once _ _ (In_indicators j _ f) (In_footer _ _ _ i _ _) = absurd (pairs_agree _ j i f)
+  content_once _ _ (In_indicators j _ f) (In_lists _ _ _ i _ _) = absurd (pairs_agree _ j i f)
+  content_once _ _ (In_footer _ _ t _ _ _) (In_type k g) = absurd (types_spelled k t g)
+  content_once _ _ (In_footer _ _ _ i _ _) (In_indicators k _ g) = absurd (pairs_agree _ k i g)
+  content_once _ _ (In_footer bytes j t i s f) (In_footer other k u h o g) =
+      let same : bytes ≡ other = cc in
+      omega (arith, footer_once _ _ j k (rw same at f) g)
+  content_once _ _ (In_footer _ j _ _ s f) (In_lists _ _ _ _ o _) = absurd (rule_says _ _ _ _ j s o f)
+  content_once _ _ (In_lists _ _ t _ _ _) (In_type k g) = absurd (types_spelled k t g)
+  content_once _ _ (In_lists _ _ _ i _ _) (In_indicators k _ g) = absurd (pairs_agree _ k i g)
+  content_once _ _ (In_lists _ _ _ _ h _) (In_footer _ k _ _ s g) = absurd (rule_says _ _ _ _ k s h g)
+  content_once m n (In_lists _ _ _ _ _ f) (In_lists _ _ _ _ _ g) = lists_once m n f g
+
+  list_within : (n : ℕ) → HasLengths p → ArePartPlaces p q → IsListPlace p q n → n ≤ q.end
+  list_within n l a f = grind (arith, step_within, prefix_len-le-length)
+
+  content_within : (n : ℕ) → HasLengths p → ArePartPlaces p q → IsContentPlace p q n → n ≤ q.end
+  content_within n l a f = grind (arith, field_low, footer_within, list_within)
 
 -- the parts of a file have one position each
 places_once : (p : FilePieces) (q r : PartPlaces) → ArePartPlaces p q → ArePartPlaces p r → q.end ≡ r.end → q ≡ r
@@ -258,19 +259,6 @@ file_place_once bytes m n (In_contents p q j has are end f) (In_contents o r k h
     let same = value_once (pieces_law _) o p had has in
     let places = places_once p q r are (rw same at were) (end ∙ sym last) in
     content_once p q j k f (rw (same, ← places) at g)
-
--- ---- it is in the file, or at its end
-field_low : (e : Error) → before_field e ≤ 5
-field_low e = grind arith
-
-step_within : (w n k l : ℕ) → l ≡ n * w → k < n → k * w ≤ l
-step_within w n k l is below = grind arith
-
-list_within : (p : FilePieces) (q : PartPlaces) (n : ℕ) → HasLengths p → ArePartPlaces p q → IsListPlace p q n → n ≤ q.end
-list_within p q n l a f = grind (arith, step_within, prefix_len-le-length)
-
-content_within : (p : FilePieces) (q : PartPlaces) (n : ℕ) → HasLengths p → ArePartPlaces p q → IsContentPlace p q n → n ≤ q.end
-content_within p q n l a f = grind (arith, field_low, footer_within, list_within)
 
 pub file_place_within : (bytes : List ℕ) (n : ℕ) → IsFilePlace bytes n → n ≤ length bytes
 file_place_within bytes n place = grind (arith, has_lengths, content_within)

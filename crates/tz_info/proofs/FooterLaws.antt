@@ -3,7 +3,7 @@ use Rattle.std.proofs.lemmas.{Bool.{or_parts}, Slice.Eq.{ends_is}}
 use Rattle.tz_base.specs.declared.error.{Error.TheVariants.{InvalidTzFile, Utf8}, Expected.TheVariants.{FooterBetweenNewlines, FooterInUtf8, TzTextInFooter}}
 use Rattle.tz_info.proofs.{
   TextLaws.{text_law},
-  TrimLaws.{trim_again, trim_is, trim_whole},
+  TrimLaws.{trim_is, trim_whole},
   Words.{Bool, Colon, Decided, Decides, Decides-eqb, Decides-or, Error, FooterFault, HasNoZero, HasText, In_text, IsBetweenNewlines, IsFooter, IsTextFault},
   Words.{IsTzText, IsUtf8, IsUtf8-from_is_utf8, List, No_newlines, Not_utf8, Option, SaysRule, TransitionRule, Zero, [], arith, choice, ends_with, false},
   Words.{footer_at, inl, inr, is_between_newlines, is_no_text, is_utf8-from_IsUtf8, is_zero, like, list_any, made, nat_eq, refl, refused, rule_in},
@@ -68,20 +68,12 @@ fault_is extended bytes n (inl u) = elim u.1 [
       ]
 ]
 
-in_text : (extended : Bool) (bytes text : List ℕ) (n : Error) → HasText bytes text
-    → (IsNoText text × (n ≡ InvalidTzFile TzTextInFooter)) ⊎ (¬ (IsNoText text) × ((text ≢ []) × IsTextFault extended text n))
-    → ReadFault extended bytes (trimmed bytes) n
-in_text _ _ _ n has fault = rw (trim_again _ _ has.trimmed) (inl (has.utf8, inl (has.newlines, fault)))
-
-is_text : (text : List ℕ) → slice_index text 0 ≢ 58 → HasNoZero text → ¬ (IsNoText text)
-is_text text colon zero h = grind arith
-
 fault_again : (extended : Bool) (bytes : List ℕ) (n : Error) → FooterFault extended bytes n → ReadFault extended bytes (trimmed bytes) n
 fault_again _ _ _ (Not_utf8 bad) = inr (bad, refl)
 fault_again _ _ _ (No_newlines utf8 bad) = inl (utf8, inr (bad, refl))
-fault_again _ _ _ (Colon _ has colon) = in_text _ _ _ _ has (inl (inl colon, refl))
-fault_again _ _ _ (Zero _ has zero) = in_text _ _ _ _ has (inl (inr zero, refl))
-fault_again _ _ _ (In_text _ m has colon zero some fault) = in_text _ _ _ m has (inr (is_text _ colon zero, (some, fault)))
+fault_again extended bytes _ (Colon text has colon) = grind (arith, trim_whole)
+fault_again extended bytes _ (Zero text has zero) = grind (arith, trim_whole)
+fault_again extended bytes n (In_text text m has colon zero some fault) = grind (arith, trim_whole)
 
 pub footer_law : (extended : Bool) (bytes : List ℕ)
     → Decided (Option TransitionRule) (footer_at extended bytes) (IsFooter extended bytes) (FooterFault extended bytes)

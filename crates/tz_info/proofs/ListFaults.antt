@@ -6,9 +6,9 @@ use Rattle.tz_base.specs.{
   declared.error.Expected.TheVariants.{TypeIndexesWithinTypes},
 }
 use Rattle.tz_info.proofs.{
-  Words.{All, AllAdjacentBelow, AllPairs, AllPairs-cons, AreLeapSeconds, AreRising, AreTransitions, Bool, Decides, Decides-int_eq, Decides-ltb, Error},
-  Words.{IsNextLeap, IsOneStep, IsValid, LeapSecond, List, ListFault, No_type, Not_rising, Other_index, Other_leaps, Other_rule, Transition, Zone, [], add-one},
-  Words.{arith, cases_lt, error_number, inl, inr, length, lt_is, lt_true, pos, suc, zero, ℤ, ◌<ℤ◌, ◌<◌, ◌∷◌, ◌≡◌, ◌≤ℤ◌, ◌≤◌, ◌⊎◌},
+  Words.{All, AllAdjacentBelow, AllPairs, AllPairs-cons, AreLeapSeconds, AreRising, AreTransitions, Bool, Decides, Decides-ltb, Error, IsNextLeap, IsOneStep},
+  Words.{IsValid, LeapSecond, List, ListFault, No_type, Not_rising, Other_index, Other_leaps, Other_rule, Transition, Zone, [], add-one, arith, cases_lt},
+  Words.{error_number, inl, inr, length, pos, suc, zero, ℤ, ◌<ℤ◌, ◌<◌, ◌∷◌, ◌≡◌, ◌≤ℤ◌, ◌≤◌, ◌⊎◌},
 }
 use Rattle.tz_info.specs.Transitions.{NameTypes}
 
@@ -30,12 +30,12 @@ like_known to from p = grind arith
 
 -- ---- of each element, and of each and the next
 all_known : {X : Type 0} {P : X → Type 0} → ((x : X) → Known (P x)) → (xs : List X) → Known (All P xs)
-all_known each [] = inl (λ k d l. absurd (omega arith))
+all_known each [] = inl (grind arith)
 all_known {P = P} each (x ∷ xs) = like_known
     (λ h. All-cons P x xs h.0 h.1) (λ h. (h 0 x (omega arith), λ k d l. h (suc k) d (omega arith))) (both_known (each x) (all_known each xs))
 
 pairs_known : {X : Type 0} {R : X → X → Type 0} → ((x y : X) → Known (R x y)) → (xs : List X) → Known (AllPairs R xs)
-pairs_known each [] = inl (λ i j d l m. absurd (omega arith))
+pairs_known each [] = inl (grind arith)
 pairs_known {R = R} each (x ∷ xs) = like_known (λ h. AllPairs-cons R x xs h.0 h.1)
     (λ h. (λ k d l. h 0 (suc k) d (omega arith) (omega arith), λ i j d l m. h (suc i) (suc j) d (omega arith) (omega arith)))
     (both_known (all_known (each x) xs) (pairs_known each xs))

@@ -1,12 +1,9 @@
 -- The test of a name says whether a type can have it.
 use Rattle.tz_base.specs.declared.error.Error.TheVariants.{LocalTimeType}
 use Rattle.tz_info.proofs.{
-  Words.{Bool, Err, Error, Gives, IsNameOrNone, IsUtOffset, List, LocalTimeType as BadType, LocalType, MatchResult, Ok, Result, Some, arith, checked},
-  Words.{expected_of_name, expected_of_type, false_unless, int_le, is_name, name_test, named_type, neg_ℤ, pos, true, ℕ, ℤ, ◌≡◌},
+  Words.{Bool, Error, Gives, IsNameOrNone, IsUtOffset, List, LocalTimeType as BadType, LocalType, MatchResult, Result, Some, arith, checked, expected_of_name},
+  Words.{expected_of_type, is_name, name_test, named_type, ℕ, ℤ, ◌≡◌},
 }
-
-above_least : (offset : ℤ) → IsUtOffset offset → int_le (neg_ℤ (pos 2_147_483_647)) offset ≡ true
-above_least _ u = grind arith
 
 pub named_by : (name : List ℕ) (dst : Bool) (offset : ℤ) (r : Result LocalType Error)
     → MatchResult r (λ t. IsUtOffset offset × IsNameOrNone (Some name) × (t ≡ named_type name dst offset))

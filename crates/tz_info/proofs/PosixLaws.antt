@@ -6,8 +6,7 @@ use Rattle.tz_info.proofs.{
   TrimLaws.{fits_behind, front_counted, trim_again, trim_is, trims_both},
   Words.{Bool, Decided, Err, Error, IfErr, IsPosixFault, IsPosixZone, IsTextFault, IsTrimAscii, IsTrimAsciiStart, IsTzText, List, MatchResult, None, Ok},
   Words.{Option, Result, Some, TransitionRule, Zone, [], apart, arith, error_number, false, fault_low, fault_once, inl, inr, length, like, made},
-  Words.{nil_from_length, option_map, plain_zone, pos, posix_zone, refl, rule_in, sym, trimmed, true, value_once, ℕ, ◌+◌, ◌-◌, ◌==◌, ◌>>=◌, ◌∙◌, ◌∷◌, ◌≡◌, ◌≢◌},
-  Words.{◌≤◌},
+  Words.{nil_from_length, option_map, plain_zone, pos, posix_zone, rule_in, sym, trimmed, true, value_once, ℕ, ◌+◌, ◌-◌, ◌==◌, ◌>>=◌, ◌∷◌, ◌≡◌, ◌≢◌, ◌≤◌},
 }
 use Rattle.tz_info.specs.{PosixZones.{IsExtendedFaultPlace, IsPlaced, IsPosixFaultPlace}, Steps.Spelled.{IsTrimmedRule}, TzGrammar.{text_fault_position}}
 
@@ -49,8 +48,7 @@ not_empty text b h e k = grind arith
 
 pub zone_of_text : (text : List ℕ) (rule : TransitionRule) (b : Bool) → b ≡ (length text == 0) → b ≡ false → IsTrimmedRule text (Ok rule)
     → IsPosixZone text (posix_zone rule)
-zone_of_text text rule b e some (trimmed, trims, spells) =
-    inr (record { some = not_empty _ b e some; trimmed = trimmed; rule = rule; trims = trims; spells = spells; zone = refl })
+zone_of_text text rule b e some (trimmed, trims, spells) = inr (grind arith)
 
 pub fault_of_text : (text : List ℕ) (e : ParseError) (b : Bool) → b ≡ (length text == 0) → b ≡ false → IsTrimmedRule text (Err e) → IsPosixFault text e.error
 fault_of_text text e b is some h = let no = not_empty _ b is some in grind arith

@@ -1,10 +1,9 @@
 -- A rule has one type at a second, or is refused there, and never both.
-use Rattle.std.proofs.lemmas.Bool.{cases_Bool}
 use Rattle.tz_info.proofs.{
   Neighbours.{dst_by_three, ends_near, starts_near},
   Words.{Alternate as AlternateRule, AlternateAt, Bool, IsAlternateRefused, IsAlternateRule, IsDstAt, IsRule, IsRuleRefused, IsRuleTime, IsRuleYear, IsYearOf},
-  Words.{LiesIn, LocalType, MatchOption, RuleAt, TransitionRule, alternate_type, arith, end_in, floor_div, floors, inl, inr, is_dst_by_three, is_rule_year},
-  Words.{lies_in, linear, neg_ℤ, one_year, pos, refl, rule_type, start_in, starts_rise, type_when, year_of, year_start, ℤ, ◌+ℤ◌, ◌≡◌, ◌⊎◌},
+  Words.{LiesIn, LocalType, MatchOption, RuleAt, TransitionRule, alternate_type, arith, end_in, floor_div, floors, lies_in, linear, neg_ℤ, one_year, pos, refl},
+  Words.{rule_type, start_in, starts_rise, type_when, year_of, year_start, ℤ, ◌+ℤ◌, ◌≡◌, ◌⊎◌},
 }
 use Rattle.tz_info.specs.declared.rule.transition_rule.TransitionRule.TheVariants.{Alternate, Fixed}
 

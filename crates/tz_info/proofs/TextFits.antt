@@ -1,7 +1,7 @@
 -- The numbers of a rule that a TZ string spells are in their limits.
 use Rattle.tz_info.proofs.{
-  Words.{Bool, day, days, DayForm, IsRule, IsRuleDay, IsTzText, IsWithinDay, IsWithinWeek, List, Spells, TransitionRule, alternate, date, dst_offset, duration, fixed},
-  Words.{given_offset, julian_date, linear, month_date, named, next_hour, offset, optional_time, rule, text, time, ℕ, ℤ},
+  Words.{Bool, DayForm, IsRule, IsRuleDay, IsTzText, IsWithinDay, IsWithinWeek, List, Spells, TransitionRule, alternate, date, day, days, dst_offset, duration},
+  Words.{fixed, given_offset, julian_date, linear, month_date, named, next_hour, offset, optional_time, rule, text, time, ℕ, ℤ},
 }
 use Rattle.tz_info.specs.TzGrammar.{checked_day, numbered_day}
 

@@ -2,22 +2,13 @@
 use Rattle.tz_base.specs.declared.parse_error.ParseError.{ParseError}
 use Rattle.tz_info.proofs.{
   Words.{Bool, Decided, Err, Error, IfErr, IfOk, IsOkAnd, IsTextFault, IsTzText, List, Ok, Result, Spells, TransitionRule, [], alternate, ap, apart, end},
-  Words.{error_number, fault_low, fault_once, fixed, inl, inr, lawful, named, read, rule, said, sym, text, value_once, ℕ, ℤ, ◌∙◌, ◌≡◌, ◌≤◌},
+  Words.{error_number, fault_low, fault_once, fixed, lawful, linear, named, read, rule, said, text, value_once, ℕ, ◌≡◌, ◌≤◌},
 }
 use Rattle.tz_info.specs.Steps.Spelled.{IsParsed}
 
--- no byte follows a TZ string
-rule_ends : (extended : Bool) (at name : List ℕ) (east : ℤ) (bytes : List ℕ) (r : TransitionRule) (rest : List ℕ)
-    → Spells (rule extended at name east) bytes r rest → rest ≡ []
-unfolding rule fixed alternate named end
-rule_ends _ _ _ _ _ _ _ (inl (none, (_, _, std, (_, e)))) = sym e ∙ sym std.2 ∙ none
-rule_ends _ _ _ _ _ _ _ (inr (_, (_, _, _, (_, _, _, (_, _, _, (_, _, inl (none, (_, at_end)), (_, _, std, (_, _, dst, (_, e))))))))) =
-    sym e ∙ sym dst.2 ∙ sym std.2 ∙ sym at_end ∙ none
-rule_ends _ _ _ _ _ _ _ (inr (_, (_, _, _, (_, _, _, (_, _, _, (_, _, inr (_, never), _)))))) = absurd never
-
 text_ends : (extended : Bool) (bytes : List ℕ) (r : TransitionRule) (rest : List ℕ) → Spells (text extended) bytes r rest → rest ≡ []
-unfolding text
-text_ends _ _ r _ (name, _, _, (east, after, _, h)) = rule_ends _ _ _ _ _ r _ h
+unfolding text rule fixed alternate named end
+text_ends extended bytes r rest h = grind linear
 
 pub text_law : (extended : Bool) (bytes : List ℕ)
     → Decided (TransitionRule × List ℕ) (read (text extended) bytes) (λ p. IsTzText extended bytes p.0 × (p.1 ≡ [])) (IsTextFault extended bytes)

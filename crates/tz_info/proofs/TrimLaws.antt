@@ -3,8 +3,8 @@ use Rattle.std.proofs.lemmas.Bool.{cases_Bool}
 use Rattle.std.proofs.lemmas.List.Sums.{prefix_len-le-length, prefix_len_is}
 use Rattle.std.specs.List.{prefix_len}
 use Rattle.tz_info.proofs.{
-  Words.{BeginsBare, EndsBare, IsAsciiWhitespaceBelow, IsAsciiWhitespaceFrom, IsSpace, IsTrimAscii, IsTrimAsciiStart, IsTrimmed, List, [], ap, arith, drop},
-  Words.{false, inl, inr, is_ascii_whitespace, length, length-append, length-take, min, refl, slice_index, suc, sym, take, trimmed, trimmed_back},
+  Words.{BeginsBare, EndsBare, IsAsciiWhitespaceBelow, IsAsciiWhitespaceFrom, IsSpace, IsTrimAscii, IsTrimAsciiStart, IsTrimmed, List, [], ap, append-nil},
+  Words.{arith, drop, false, inl, inr, is_ascii_whitespace, length, length-append, length-take, min, refl, slice_index, suc, sym, take, trimmed, trimmed_back},
   Words.{trimmed_front, unless_space, zero, ℕ, ◌++◌, ◌+◌, ◌-◌, ◌<◌, ◌∙◌, ◌∷◌, ◌≡◌, ◌≤◌},
 }
 
@@ -12,10 +12,6 @@ use Rattle.tz_info.proofs.{
 space_front : (before rest : List ℕ) → IsSpace before → trimmed_front (before ++ rest) ≡ trimmed_front rest
 space_front [] _ _ = refl
 space_front (b ∷ bs) rest h = rw h.0 (space_front bs _ h.1)
-
-space_is_none : (after : List ℕ) → IsSpace after → trimmed_front after ≡ []
-space_is_none [] _ = refl
-space_is_none (b ∷ bs) h = rw h.0 (space_is_none bs h.1)
 
 space_back : (after : List ℕ) → IsSpace after → trimmed_back after ≡ []
 space_back [] _ = refl
@@ -27,7 +23,7 @@ back_again (b ∷ []) after e s = rw (space_back _ s, e)
 back_again (b ∷ c ∷ cs) _ e s = ap (λ t. unless_space b t) (back_again (c ∷ cs) _ e s)
 
 front_again : (text after : List ℕ) → BeginsBare text → EndsBare text → IsSpace after → trimmed_back (trimmed_front (text ++ after)) ≡ text
-front_again [] _ _ _ s = ap trimmed_back (space_is_none _ s)
+front_again [] after _ _ s = ap trimmed_back (rw append-nil at (space_front after [] s))
 front_again (x ∷ xs) after b e s = rw b (back_again _ _ e s)
 
 pub trim_whole : (before text after : List ℕ) → IsSpace before → IsSpace after → BeginsBare text → EndsBare text → trimmed (before ++ (text ++ after)) ≡ text

@@ -73,10 +73,7 @@ kind_of bytes e f = grind arith
 
 pub fault_once : (bytes : List ℕ) (d e : Error) → IsFileFault bytes d → IsFileFault bytes e → d ≡ e
 fault_once bytes d e f g = elim (kind_of _ d f) [
-  | inl a ↦ elim (kind_of _ e g) [
-    | inl b ↦ one_fault (file_law bytes) d e a b
-    | inr b ↦ absurd (apart (file_law _) b.0 d b.1 a)
-  ]
+  | inl a ↦ elim (kind_of _ e g) [ inl b ↦ one_fault (file_law bytes) d e a b | inr b ↦ absurd (apart (file_law _) b.0 d b.1 a) ]
   | inr a ↦ elim (kind_of _ e g) [
     | inl b ↦ absurd (apart (file_law bytes) a.0 e a.1 b)
     | inr b ↦ list_fault_once b.0 d e (rw (one_zone bytes a.0 b.0 a.1 b.1) at a.2) b.2
