@@ -6,9 +6,11 @@ use Rattle.tz_info.proofs.{
   TrimLaws.{trim_is, trim_whole},
   Words.{Bool, Colon, Decided, Decides, Decides-eqb, Decides-or, Error, FooterFault, HasNoZero, HasText, In_text, IsBetweenNewlines, IsFooter, IsTextFault},
   Words.{IsTzText, IsUtf8, IsUtf8-from_is_utf8, List, No_newlines, Not_utf8, Option, SaysRule, TransitionRule, Zero, [], arith, choice, ends_with, false},
-  Words.{footer_at, inl, inr, is_between_newlines, is_no_text, is_utf8-from_IsUtf8, is_zero, like, list_any, made, nat_eq, refl, refused, rule_in},
-  Words.{rule_or_none, said, slice_index, trimmed, ℕ, ◌==◌, ◌∷◌, ◌≡◌, ◌≢◌, ◌⊎◌},
+  Words.{false_unless, footer_at, inl, inr, is_between_newlines, is_no_text, is_utf8-from_IsUtf8, is_zero, like, list_any, made, nat_eq, refl, refused},
+  Words.{rule_in, rule_or_none, said, slice_index, trimmed, ℕ, ◌==◌, ◌∷◌, ◌≡◌, ◌≢◌, ◌⊎◌},
 }
+
+pub ruleset utf8_tests = (IsUtf8-from_is_utf8, is_utf8-from_IsUtf8, false_unless)
 
 -- ---- newlines
 pub between : (bytes : List ℕ) → Decides (is_between_newlines bytes) (IsBetweenNewlines bytes)
@@ -56,12 +58,15 @@ ReadFault extended bytes text n =
     ⊎ (¬ (IsNoText text) × ((text ≢ []) × IsTextFault extended text n)))) ⊎ (¬ (IsBetweenNewlines bytes) × (n ≡ InvalidTzFile FooterBetweenNewlines))))
     ⊎ (¬ (IsUtf8 bytes) × (n ≡ Utf8 FooterInUtf8))
 
+text_has : (bytes : List ℕ) → IsUtf8 bytes → IsBetweenNewlines bytes → HasText bytes (trimmed bytes)
+text_has bytes u b = record { utf8 = u; newlines = b; trimmed = trim_is _ }
+
 fault_is : (extended : Bool) (bytes : List ℕ) (n : Error) → ReadFault extended bytes (trimmed bytes) n → FooterFault extended bytes n
 fault_is extended bytes n (inr u) = rw u.1 (Not_utf8 u.0)
 fault_is extended bytes n (inl u) = elim u.1 [
   | inr b ↦ rw b.1 (No_newlines u.0 b.0)
   | inl b ↦
-      let has : HasText bytes (trimmed bytes) = record { utf8 = u.0; newlines = b.0; trimmed = trim_is _ } in
+      let has = text_has _ u.0 b.0 in
       elim b.1 [
         | inl k ↦ rw k.1 (elim k.0 [ inl colon ↦ Colon (trimmed bytes) has colon | inr zero ↦ Zero (trimmed bytes) has zero ])
         | inr k ↦ In_text (trimmed bytes) n has (λ e. k.0 (inl e)) (no_zero _ k.0) k.1.0 k.1.1
@@ -86,13 +91,7 @@ footer_law extended bytes = like
       | inl u ↦ elim u.1 [
         | inl b ↦ elim b.1 [
           | inl k ↦ absurd k.1
-          | inr k ↦ record {
-            text = trimmed bytes;
-            has_text = record { utf8 = u.0; newlines = b.0; trimmed = trim_is _ };
-            no_colon = λ e. k.0 (inl e);
-            no_zero = no_zero _ k.0;
-            says = k.1;
-          }
+          | inr k ↦ record { text = _; has_text = text_has _ u.0 b.0; no_colon = λ e. k.0 (inl e); no_zero = no_zero _ k.0; says = k.1 }
         ]
         | inr b ↦ absurd b.1
       ]

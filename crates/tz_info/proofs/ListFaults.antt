@@ -6,11 +6,11 @@ use Rattle.tz_base.specs.{
   declared.error.Expected.TheVariants.{TypeIndexesWithinTypes},
 }
 use Rattle.tz_info.proofs.{
-  Words.{All, AllAdjacentBelow, AllPairs, AllPairs-cons, AreLeapSeconds, AreRising, AreTransitions, Bool, Decides, Decides-ltb, Error, IsNextLeap, IsOneStep},
-  Words.{IsValid, LeapSecond, List, ListFault, No_type, Not_rising, Other_index, Other_leaps, Other_rule, Transition, Zone, [], add-one, arith, cases_lt},
-  Words.{error_number, inl, inr, length, pos, suc, zero, ℤ, ◌<ℤ◌, ◌<◌, ◌∷◌, ◌≡◌, ◌≤ℤ◌, ◌≤◌, ◌⊎◌},
+  Words.{All, AllAdjacentBelow, AllPairs, AllPairs-cons, AreLeapSeconds, AreRising, AreTransitions, Bool, Decides, Decides-ltb, Error, IsNextLeap, IsValid},
+  Words.{LeapSecond, List, ListFault, No_type, Not_rising, Other_index, Other_leaps, Other_rule, Transition, Zone, [], add-one, arith, cases_lt, error_number},
+  Words.{inl, inr, length, suc, zero, ℤ, ◌<ℤ◌, ◌<◌, ◌∷◌, ◌≡◌, ◌≤◌, ◌⊎◌},
 }
-use Rattle.tz_info.specs.Transitions.{NameTypes}
+use Rattle.tz_info.specs.{Leaps.{IsFirstLeap}, Transitions.{NameTypes}}
 
 -- ---- what can be tested holds or does not
 abbrev pub Known : Type 0 → Type 0
@@ -41,8 +41,8 @@ pairs_known {R = R} each (x ∷ xs) = like_known (λ h. AllPairs-cons R x xs h.0
     (both_known (all_known (each x) xs) (pairs_known each xs))
 
 adjacent_known : {X : Type 0} {R : X → X → Type 0} → ((x y : X) → Known (R x y)) → (xs : List X) → Known (AllAdjacentBelow R xs (length xs))
-adjacent_known each [] = inl (λ k d l. absurd (omega arith))
-adjacent_known each (x ∷ []) = inl (λ k d l. absurd (omega arith))
+adjacent_known each [] = inl (grind arith)
+adjacent_known each (x ∷ []) = inl (grind arith)
 adjacent_known {R = R} each (x ∷ y ∷ ys) = like_known
     (λ h. next_front R x y ys h.0 h.1) (λ h. (h 0 x (omega arith), λ k d l. rw add-one (rw add-one at (h (suc k) d (omega arith)))))
     (both_known (each x y) (adjacent_known each (y ∷ ys)))
@@ -56,18 +56,16 @@ adjacent_known {R = R} each (x ∷ y ∷ ys) = like_known
 earlier_known : (a b : Transition) → Known (a.unix_leap_time <ℤ b.unix_leap_time)
 earlier_known a b = grind arith
 
-later_and_step_known : (earliest time a b : ℤ) → Known ((earliest ≤ℤ time) × IsOneStep a b)
-later_and_step_known earliest time a b = grind arith
+first_leap_known : (e : LeapSecond) → Known (IsFirstLeap e)
+first_leap_known e = grind arith
+
+next_leap_known : (a b : LeapSecond) → Known (IsNextLeap a b)
+next_leap_known a b = grind arith
 
 leaps_known : (leaps : List LeapSecond) → Known (AreLeapSeconds leaps)
-leaps_known [] = inl (record { first = λ d l. absurd (omega arith); next = λ k d l. absurd (omega arith) })
-leaps_known (e ∷ es) = like_known (λ h. record { first = λ d l. record { since_epoch = h.0.0; step = h.0.1 }; next = h.1 })
-    (λ h. let first = h.first e (omega arith) in ((first.since_epoch, first.step), h.next))
-    (both_known (later_and_step_known _ _ (pos 0) _) (adjacent_known next_known (e ∷ es)))
-  where
-    next_known : (a b : LeapSecond) → Known (IsNextLeap a b)
-    next_known a b = like_known (λ h. record { later = h.0; step = h.1 }) (λ h. (h.later, h.step))
-        (later_and_step_known _ _ a.correction b.correction)
+leaps_known [] = inl (grind arith)
+leaps_known (e ∷ es) = like_known (λ h. record { first = λ d l. h.0; next = h.1 }) (λ h. (h.first e (omega arith), h.next))
+    (both_known (first_leap_known e) (adjacent_known next_leap_known (e ∷ es)))
 
 -- ---- the first fault
 pub list_fault_or_valid : (z : Zone) (e : Error) → ListFault z e → IsValid z → ⊥
@@ -107,7 +105,8 @@ has_list_fault z bad = elim (cases_lt 0 (length z.types)) [
           let transitions : AreTransitions (length z.types) _ = record { indexes = indexes; rising = rising } in
           elim (leaps_known _) [
             | inr other ↦ (_, Other_leaps some transitions other)
-            | inl leaps ↦ (_, Other_rule some transitions leaps (λ agrees. bad (record { some = some; transitions = transitions; leaps = leaps; agrees = agrees })))
+            | inl leaps ↦
+                (_, Other_rule some transitions leaps (λ agrees. bad (record { some = some; transitions = transitions; leaps = leaps; agrees = agrees })))
           ]
     ]
   ]

@@ -6,7 +6,7 @@ use Rattle.tz_info.proofs.{
   TrimLaws.{fits_behind, front_counted, trim_again, trim_is, trims_both},
   Words.{Bool, Decided, Err, Error, IfErr, IsPosixFault, IsPosixZone, IsTextFault, IsTrimAscii, IsTrimAsciiStart, IsTzText, List, MatchResult, None, Ok},
   Words.{Option, Result, Some, TransitionRule, Zone, [], apart, arith, error_number, false, fault_low, fault_once, inl, inr, length, like, made},
-  Words.{nil_from_length, option_map, plain_zone, pos, posix_zone, rule_in, sym, trimmed, true, value_once, ℕ, ◌+◌, ◌-◌, ◌==◌, ◌>>=◌, ◌∷◌, ◌≡◌, ◌≢◌, ◌≤◌},
+  Words.{nil_from_length, option_map, plain_zone, pos, posix_zone, rule_in, sym, trimmed, true, value_once, ℕ, ◌-◌, ◌==◌, ◌>>=◌, ◌∷◌, ◌≡◌, ◌≢◌, ◌≤◌},
 }
 use Rattle.tz_info.specs.{PosixZones.{IsExtendedFaultPlace, IsPlaced, IsPosixFaultPlace}, Steps.Spelled.{IsTrimmedRule}, TzGrammar.{text_fault_position}}
 
@@ -58,9 +58,6 @@ pub trimmed_rule : (text trimmed string : List ℕ) (rule : TransitionRule) → 
     → IsTrimmedRule text (Ok rule)
 trimmed_rule text trimmed _ rule t same spells = (trimmed, trims_both _ _ t, rw same at spells)
 
-counted : (all left front room p q : ℕ) → left + front ≡ all → front + room ≤ all → p ≤ room → p ≡ q → all - (left - p) ≡ front + q
-counted all _ _ _ p q whole fits inside same = omega arith
-
 pub trimmed_fault : (text start trimmed string : List ℕ) (error : Error) (position placed : Option ℕ) → IsTrimAsciiStart text start → IsTrimAscii text trimmed
     → string ≡ trimmed → IsTextFault false string error
     → position ≡ Some (text_fault_position false string) → placed ≡ option_map (λ p. length text - (length start - p)) position
@@ -89,10 +86,7 @@ fault_placed text e fault h = let low = posix_low _ _ fault in grind arith
 
 -- it has one place, in the text or at its end
 pub one_place : (text : List ℕ) (a b : ℕ) → IsPosixFaultPlace text a → IsPosixFaultPlace text b → a ≡ b
-one_place text a b p q =
-    let s = trim_again _ _ p.trims in
-    let t = trim_again _ _ q.trims in
-    cc
+one_place text a b p q = let s = trim_again _ _ p.trims in let t = trim_again _ _ q.trims in cc
 
 pub place_within : (text : List ℕ) (place : ℕ) → IsPosixFaultPlace text place → place ≤ length text
 place_within _ _ p = omega (arith, fits_behind _ _ p.trims)

@@ -1,9 +1,9 @@
 -- A rule has one type at a second, or is refused there, and never both.
 use Rattle.tz_info.proofs.{
   Neighbours.{dst_by_three, ends_near, starts_near},
-  Words.{Alternate as AlternateRule, AlternateAt, Bool, IsAlternateRefused, IsAlternateRule, IsDstAt, IsRule, IsRuleRefused, IsRuleTime, IsRuleYear, IsYearOf},
-  Words.{LiesIn, LocalType, MatchOption, RuleAt, TransitionRule, alternate_type, arith, end_in, floor_div, floors, lies_in, linear, neg_ℤ, one_year, pos, refl},
-  Words.{rule_type, start_in, starts_rise, type_when, year_of, year_start, ℤ, ◌+ℤ◌, ◌≡◌, ◌⊎◌},
+  Words.{Alternate as AlternateRule, AlternateAt, Bool, IsAlternateRefused, IsDstAt, IsRule, IsRuleRefused, IsRuleTime, IsRuleYear, IsYearOf, LiesIn},
+  Words.{LocalType, MatchOption, RuleAt, TransitionRule, arith, end_in, floor_div, floors, lies_in, linear, neg_ℤ, one_year, pos, refl, rule_type, start_in},
+  Words.{starts_rise, type_when, year_of, year_start, ℤ, ◌+ℤ◌, ◌≡◌, ◌⊎◌},
 }
 use Rattle.tz_info.specs.declared.rule.transition_rule.TransitionRule.TheVariants.{Alternate, Fixed}
 
@@ -19,20 +19,15 @@ pub rule_not_refused : (rule : TransitionRule) (u : ℤ) (t : LocalType) → Rul
 rule_not_refused rule u t h refused = grind linear
 
 refused_at : (u year : ℤ) → IsYearOf u year → (IsRuleYear year → ⊥) → IsAlternateRefused u
-refused_at u year of_second out = λ other h inside. out (rw (one_year (floor_div u 86_400) other year h of_second) at inside)
+refused_at u year of_second out other h inside = out (rw (one_year (floor_div u 86_400) other year h of_second) at inside)
 
--- the type that is computed is the rule's, or the rule is refused
-alternate_told : (a : AlternateRule) (u : ℤ) → IsAlternateRule a
-    → MatchOption (alternate_type a (year_of (floor_div u 86_400)) u) (IsAlternateRefused u) (AlternateAt a u)
-alternate_told a u limits =
+pub rule_told : (rule : TransitionRule) (u : ℤ) → IsRule rule → MatchOption (rule_type rule u) (IsRuleRefused rule u) (RuleAt rule u)
+rule_told (Fixed _) _ _ = refl
+rule_told (Alternate a) u limits =
     let of_second = lies_in (floor_div u 86_400) in
     let when = dst_by_three _ _ _ u _ (starts_near a limits) (ends_near a limits) of_second refl in
     let out = refused_at u _ of_second in
     grind arith
-
-pub rule_told : (rule : TransitionRule) (u : ℤ) → IsRule rule → MatchOption (rule_type rule u) (IsRuleRefused rule u) (RuleAt rule u)
-rule_told (Fixed _) _ _ = refl
-rule_told (Alternate a) u h = alternate_told a u h
 
 pub rule_decided : (rule : TransitionRule) (u : ℤ) → IsRule rule → ((t : LocalType) × RuleAt rule u t) ⊎ IsRuleRefused rule u
 rule_decided rule u h = let t = rule_told rule u h in grind linear
@@ -48,9 +43,9 @@ last_start = refl
 -- the seconds of the years that a rule answers in
 pub rule_time : (u year : ℤ) → IsYearOf u year → IsRuleYear year → IsRuleTime u
 rule_time u year of_second inside =
-    let first = starts_rise (neg_ℤ (pos 2_147_483_646)) year inside.0 in
-    let last = starts_rise (year +ℤ pos 1) (pos 2_147_483_646) (omega (arith, floors)) in
-    (omega (arith, floors, first_start), omega (arith, floors, last_start))
+    let low = starts_rise (neg_ℤ (pos 2_147_483_646)) year in
+    let high = starts_rise (year +ℤ pos 1) (pos 2_147_483_646) in
+    grind (arith, floors, first_start, last_start)
 
 pub rule_year : (u year : ℤ) → IsYearOf u year → IsRuleTime u → IsRuleYear year
 rule_year u year of_second within =

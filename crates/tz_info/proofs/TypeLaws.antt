@@ -51,8 +51,9 @@ text_takes names i n x inside e same =
 
 text_again : (names : List ℕ) (i : ℕ) (x : List ℕ) → StandsAt names i x
     → (i < length names) × (Place names i ≡ Some (length x)) × (take (length x) (drop i names) ≡ x)
-text_again names i x s = let after : drop i names ≡ x ++ (0 ∷ s.after) = rw (s.whole, ← s.at) (drop_front s.before (x ++ (0 ∷ s.after))) in
-   grind (arith, length-append, zero_again, take-append_seam)
+text_again names i x s =
+    let after : drop i names ≡ x ++ (0 ∷ s.after) = rw (s.whole, ← s.at) (drop_front s.before (x ++ (0 ∷ s.after))) in
+    grind (arith, length-append, zero_again, take-append_seam)
 
 text_law : (names : List ℕ) (i : ℕ)
     → Decided (List ℕ) (designation_at names i) (StandsAt names i)
