@@ -38,12 +38,11 @@ module _ (extended : Bool) (bytes : List ℕ) where
   found_by (Ok rule) (rest, g) = ((text_law _ _).takes (rule, rest) g).0
   found_by (Err _) _ = tt
 
-pub only_by : (extended : Bool) (bytes : List ℕ) (r : Result TransitionRule ParseError) → IsParsed extended bytes r → (rule : TransitionRule)
-    → IsTzText extended bytes rule → IsOkAnd r (λ y. y ≡ rule)
-only_by _ _ (Ok y) g _ h = one_rule _ _ y _ (found_by _ _ (Ok y) g) h
-only_by extended _ (Err _) g _ h = refused_or_spelled extended _ _ _ ((text_law _ _).fails _ g.0) h
+  pub only_by : (r : Result TransitionRule ParseError) → IsParsed extended bytes r → (rule : TransitionRule) → IsTzText extended bytes rule
+      → IsOkAnd r (λ y. y ≡ rule)
+  only_by (Ok y) g _ h = one_rule y _ (found_by (Ok y) g) h
+  only_by (Err _) g _ h = refused_or_spelled _ _ ((text_law _ _).fails _ g.0) h
 
-pub fault_by : (extended : Bool) (bytes : List ℕ) (r : Result TransitionRule ParseError) → IsParsed extended bytes r
-    → IfErr r (λ e. IsTextFault extended bytes e.error)
-fault_by _ _ (Ok _) _ = tt
-fault_by _ _ (Err e) g = (text_law _ _).fails e.error g.0
+  pub fault_by : (r : Result TransitionRule ParseError) → IsParsed extended bytes r → IfErr r (λ e. IsTextFault extended bytes e.error)
+  fault_by (Ok _) _ = tt
+  fault_by (Err e) g = (text_law _ _).fails e.error g.0

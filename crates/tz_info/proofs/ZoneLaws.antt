@@ -23,12 +23,8 @@ same_passed z u x y a b = passed_here z u x a ∙ sym (passed_here z u y b)
 pub some_once : (o : Option LocalType) (s t : LocalType) → o ≡ Some s → o ≡ Some t → s ≡ t
 some_once o s t h k = cc
 
-or_else_once : (rule : Option TransitionRule) (o : Option LocalType) (u : ℤ) (s t : LocalType) → RuleOrElse rule u (o ≡ Some s) s
-    → RuleOrElse rule u (o ≡ Some t) t → s ≡ t
-or_else_once rule o u s t h k = grind (linear, rule_once)
-
 pub type_once : (z : Zone) (u : ℤ) (s t : LocalType) → TypeAt z u s → TypeAt z u t → s ≡ t
-type_once z u s t a b = grind (linear, same_passed, or_else_once, before_or_from_last)
+type_once z u s t a b = grind (linear, same_passed, rule_once, before_or_from_last)
 
 pub type_not_refused : (z : Zone) (u : ℤ) (t : LocalType) → TypeAt z u t → IsTypeRefused z u → ⊥
 type_not_refused z u t a r = grind (linear, same_passed)
@@ -37,13 +33,9 @@ type_not_refused z u t a r = grind (linear, same_passed)
 pub inside_listed : {X : Type 0} (xs : List X) (i : ℕ) → i < length xs → (x : X) × (slice_get xs i ≡ Some x)
 inside_listed xs i h = let c = slice_get_cases xs i in grind arith
 
-or_else_listed : (rule : Option TransitionRule) (z : Zone) (u : ℤ) (i : ℕ) (t : LocalType) → RuleOrElse rule u (HasType z i t) t
-    → ((k : ℕ) × (k < length z.types) × HasType z k t) ⊎ IsTypeOf rule u t
-or_else_listed rule z u i t h = grind (linear, slice_get_within)
-
 -- a type in force is in the list or is the rule's
 pub type_listed : (z : Zone) (u : ℤ) (t : LocalType) → TypeAt z u t → ((k : ℕ) × (k < length z.types) × HasType z k t) ⊎ IsTypeOf z.rule u t
-type_listed z u t a = grind (linear, before_or_from_last, slice_get_within, or_else_listed)
+type_listed z u t a = grind (linear, before_or_from_last, slice_get_within)
 
 pub fits_or_not : (a : ℤ) → SFits w64 a ⊎ (SFits w64 a → ⊥)
 fits_or_not a = grind arith
@@ -79,10 +71,9 @@ decided_at : (z : Zone) (u x : ℤ) → IsValid z → IsRuleOrNone z.rule → (0
     → ((t : LocalType) × TypeAt z u t) ⊎ IsTypeRefused z u
 decided_at z u x valid limits of_second =
     let below = last_index_below _ x 0 _ valid.some valid.transitions.indexes in
+    let (t, listed) = inside_listed _ _ below in
     elim (before_or_from_last z x) [
-      | inl before ↦
-          let t = inside_listed _ _ below in
-          inl (t.0, record { leap_time = x; of_second = of_second; in_force = grind (arith, t.1) })
+      | inl before ↦ inl (t, record { leap_time = x; of_second = of_second; in_force = grind (arith, listed) })
       | inr last ↦ elim (or_else_decided _ z u _ below limits) [
         | inl t ↦ inl (t.0, record { leap_time = x; of_second = of_second; in_force = grind (arith, t.1) })
         | inr refused ↦ inr (by_rule x of_second last refused)
