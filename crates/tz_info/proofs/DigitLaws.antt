@@ -3,17 +3,17 @@ use Rattle.tz_info.proofs.SearchWords.{ap, arith, digits, digits_within, refl, s
 
 -- more fuel than enough changes nothing
 enough : (f g m : ℕ) → m ≤ f → m ≤ g → digits_within f m ≡ digits_within g m
-enough zero zero m h k = refl
-enough zero (suc g) zero h k = refl
+enough zero zero _ _ _ = refl
+enough zero (suc _) zero _ _ = refl
 enough zero (suc g) (suc m) h k = omega arith
-enough (suc f) zero zero h k = refl
+enough (suc _) zero zero _ _ = refl
 enough (suc f) zero (suc m) h k = omega arith
-enough (suc f) (suc g) zero h k = refl
+enough (suc _) (suc _) zero _ _ = refl
 enough (suc f) (suc g) (suc m) h k = ap suc (enough f g _ (omega arith) (omega arith))
 
 pub digits-half : (m : ℕ) → digits (suc m) ≡ suc (digits (suc m / 2))
 unfolding digits
-digits-half m = ap suc (enough m _ _ (omega arith) (omega arith))
+digits-half m = ap suc (grind (arith, enough))
 
 within_more : (f m n : ℕ) → m ≤ n → digits_within f m ≤ digits_within f n
 within_more zero m n h = omega arith

@@ -1,68 +1,97 @@
 -- The law of the pieces of a file.
 use Rattle.std.proofs.lemmas.Option.{same_Some}
+use Rattle.tz_base.specs.Grammar.{At, Byte, Check, Ended, Grammar, Here, Marked, Nothing, Number, Refused, Rest, Run, Then}
 use Rattle.tz_info.proofs.{
-  Words.{Bool, Decided, Err, Error, FileCounts, FilePieces, HasCounts, HasLengths, HasPieces, List, Ok, Option, Parts, PieceFault, Some, Spells, Version, []},
-  Words.{after_first_block, ap, block, file, first_version, inl, inr, later_version, lawful, made, pieces_at, refl, said, subst, sym, value_once, ℕ, ◌↔◌, ◌∙◌},
-  Words.{◌≡◌, ◌⊎◌},
+  Words.{Decided, Err, Error, Exact, FileCounts, FilePieces, HasCounts, HasLengths, HasPieces, List, Ok, Parts, PieceFault, Some, Spells, Version, []},
+  Words.{after_first_block, ap, append-nil, append_assoc, block, file, first_version, inl, inr, later_version, lawful, linear, made, pieces_at, refl, said},
+  Words.{subst, sym, value_once, ℕ, ◌++◌, ◌↔◌, ◌∙◌, ◌∷◌, ◌≡◌, ◌⊎◌},
 }
-use Rattle.tz_info.specs.declared.file.header.{Counts.{Counts}, Version.TheVariants.{One, Three, Two}}
+use Rattle.tz_info.specs.{
+  FileHeaders.{header},
+  FilePlaces.{footer_bytes, in_order},
+  declared.file.header.{Counts.{Counts}, Place.TheVariants.{First, Second}, Version.TheVariants.{One, Three, Two}},
+}
 
--- no byte follows a file
-after_ends : (v : Version) (c : Counts) (b : Parts) (bytes : List ℕ) (p : FilePieces) (rest : List ℕ)
-    → Spells (after_first_block v c b) bytes p rest → rest ≡ []
-unfolding after_first_block first_version later_version
-after_ends One c b _ p _ (_, _, inl (none, (_, same)), (_, e)) = sym e ∙ sym same ∙ none
-after_ends One c b bytes p rest (_, _, inr (_, never), _) = absurd never
-after_ends Two c b bytes p rest (_, _, _, (_, _, _, (_, _, f, (_, e)))) = sym e ∙ f.1
-after_ends Three c b bytes p rest (_, _, _, (_, _, _, (_, _, f, (_, e)))) = sym e ∙ f.1
+-- ---- what is spelled comes first, and what follows after it
+front : {X : Type 0} (g : Grammar X) (bytes : List ℕ) (x : X) (rest : List ℕ) → Spells g bytes x rest → (before : List ℕ) × (bytes ≡ before ++ rest)
+front (Nothing _) _ _ _ h = ([], h.1)
+front (Then g f) _ x rest (y, after, h, k) =
+    let a = front g _ y _ h in
+    let b = front (f y) after x rest k in
+    (a.0 ++ b.0, a.1 ∙ ap (λ s. a.0 ++ s) b.1 ∙ sym (append_assoc a.0 b.0 rest))
+front (Marked tag g _) _ x _ (inl k) = let a = front g k.0 x _ k.2 in (tag ∷ a.0, k.1 ∙ ap (λ s. tag ∷ s) a.1)
+front (Marked _ _ h) bytes x _ (inr k) = front h bytes x _ k.1
+front (Ended g _) _ x _ (inl k) = front g _ x _ k.1
+front (Ended _ h) _ x _ (inr k) = front h _ x _ k.1
+front (Byte tag) _ _ _ h = (tag ∷ [], h)
+front (Run _) _ x _ h = (x, h.whole)
+front (Number _) _ _ _ h = (h.digits, h.whole)
+front (Exact _) _ x _ h = (x, h.0)
+front Rest bytes x rest h = (bytes, rw h.1 (sym (append-nil bytes)))
+front (Refused _) _ _ _ h = absurd h
+front (Check P _ _ _) _ _ _ h = ([], h.2)
+front (Here f) bytes x _ h = front (f bytes) _ x _ h
+front (At _ g) bytes x rest h = front g bytes x rest h
 
-file_ends : (bytes : List ℕ) (p : FilePieces) (rest : List ℕ) → Spells file bytes p rest → rest ≡ []
+-- ---- the end of a file: the block that the pieces are of, and the footer
+abbrev EndsIn : List ℕ → FilePieces → Type 0
+EndsIn bytes p = (before : List ℕ) × (start : List ℕ) × (bytes ≡ before ++ start) × ((p.time_size ≡ 4) ⊎ (p.time_size ≡ 8))
+    × Spells (block p.time_size p.counts) start p.parts (footer_bytes p.footer)
+
+behind : {X : Type 0} (g : Grammar X) (bytes : List ℕ) (x : X) (rest : List ℕ) (p : FilePieces) → Spells g bytes x rest → EndsIn rest p → EndsIn bytes p
+behind g _ x rest p h (before, start, e, size, is) =
+    let a = front g _ x _ h in
+    (a.0 ++ before, start, a.1 ∙ ap (λ s. a.0 ++ s) e ∙ sym (append_assoc a.0 before start), size, is)
+
+later_ends : (bytes : List ℕ) (p : FilePieces) (rest : List ℕ) → Spells later_version bytes p rest → (rest ≡ []) × EndsIn bytes p
+unfolding later_version
+later_ends bytes p rest (h, after, k, (parts, end, m, (_, _, f, (value, e)))) =
+    (sym e ∙ f.1, behind (header Second) _ h after p k (rw (value, f.0) ([], after, refl, inr refl, m)))
+
+after_ends : (v : Version) (c : Counts) (b : Parts) (start bytes : List ℕ) (p : FilePieces) (rest : List ℕ) → Spells (block 4 c) start b bytes
+    → Spells (after_first_block v c b) bytes p rest → (rest ≡ []) × EndsIn start p
+unfolding after_first_block first_version
+after_ends One c b start _ p _ h (_, _, inl (none, (_, same)), (value, e)) = (sym e ∙ sym same ∙ none, rw (value, ← none) ([], start, refl, inl refl, h))
+after_ends One _ _ _ _ _ _ _ (_, _, inr (_, never), _) = absurd never
+after_ends Two c b _ bytes p _ h k = let r = later_ends _ p _ k in (r.0, behind (block 4 c) _ b bytes p h r.1)
+after_ends Three c b _ bytes p _ h k = let r = later_ends _ p _ k in (r.0, behind (block 4 c) _ b bytes p h r.1)
+
+file_ends : (bytes : List ℕ) (p : FilePieces) (rest : List ℕ) → Spells file bytes p rest → (rest ≡ []) × EndsIn bytes p
 unfolding file
-file_ends _ p _ (header, _, _, (parts, after, _, h)) = after_ends _ _ _ _ p _ h
+file_ends _ p _ (h, start, k, (parts, _, m, n)) = let r = after_ends _ _ _ _ _ p _ m n in (r.0, behind (header First) _ h start p k r.1)
 
 pub pieces_law : (bytes : List ℕ) → Decided FilePieces (pieces_at bytes) (HasPieces bytes) (PieceFault bytes)
 unfolding pieces_at
 pieces_law bytes = said (made (λ p. p.0) (lawful file bytes))
-    (λ p h. subst (HasPieces bytes) h.2 (subst (Spells file bytes h.0.0) (file_ends _ _ _ h.1) h.1))
+    (λ p h. rw h.2 at (rw (file_ends _ _ _ h.1).0 at h.1))
     (λ p h. ((p, []), h, refl))
 
--- ---- counts
-same_counts : (c d : FileCounts) → d.transitions ≡ c.transitions → d.leap_seconds ≡ c.leap_seconds → d ≡ c
-same_counts c d p q = λ i. record { transitions = p i; leap_seconds = q i }
+-- ---- lengths
+of_block : (p : FilePieces) (start rest : List ℕ) → (p.time_size ≡ 4) ⊎ (p.time_size ≡ 8) → Spells (block p.time_size p.counts) start p.parts rest → HasLengths p
+unfolding block
+of_block p start rest size h = grind linear
 
+pub has_lengths : (bytes : List ℕ) (p : FilePieces) → HasPieces bytes p → HasLengths p
+has_lengths _ p h = let e = (file_ends _ p _ h).1 in of_block p e.1 _ e.3 e.4
+
+-- ---- the parts, in order
+block_whole : (p : FilePieces) (start rest : List ℕ) → Spells (block p.time_size p.counts) start p.parts rest → start ≡ in_order p.parts rest
+unfolding block
+block_whole p start rest h = grind linear
+
+-- the last block and the footer are the end of the file
+pub whole : (bytes : List ℕ) (p : FilePieces) → HasPieces bytes p → (before : List ℕ) × (bytes ≡ before ++ in_order p.parts (footer_bytes p.footer))
+whole _ p h = let e = (file_ends _ p _ h).1 in (e.0, e.2 ∙ ap (λ s. e.0 ++ s) (block_whole p e.1 _ e.4))
+
+-- ---- counts
 -- whole pieces have one pair of counts
 pub counted : (bytes : List ℕ) (p : FilePieces) (d c : FileCounts) → pieces_at bytes ≡ Ok p → d.transitions ≡ p.counts.transitions
     → d.leap_seconds ≡ p.counts.leap_seconds → (Some d ≡ Some c) ↔ HasCounts bytes c
 counted bytes p d c read m n = (
   λ e. subst (HasCounts bytes) (same_Some d c e) (record { pieces = p; has = (pieces_law _).takes p read; transitions_are = m; leap_seconds_are = n }),
-  λ k.
-      let one = value_once (pieces_law _) p k.pieces ((pieces_law _).takes p read) k.has in
-      ap Some (same_counts c d
-      (m ∙ ap (λ x. x.counts.transitions) one ∙ sym k.transitions_are)
-      (n ∙ ap (λ x. x.counts.leap_seconds) one ∙ sym k.leap_seconds_are)),
+  λ k. let one = value_once (pieces_law _) p k.pieces ((pieces_law _).takes p read) k.has in grind linear,
 )
 
 -- bytes of which a piece is missing or has a fault have none
 pub uncounted : (bytes : List ℕ) (e : Error) (c : FileCounts) → pieces_at bytes ≡ Err e → HasCounts bytes c → ⊥
-uncounted _ e c read k = let whole = (pieces_law _).again k.pieces k.has in cc
-
--- ---- lengths
-of_block : (w : ℕ) (x : Bool) (c : Counts) (bytes : List ℕ) (b : Parts) (rest : List ℕ) (o : Option (List ℕ)) → (w ≡ 4) ⊎ (w ≡ 8)
-    → Spells (block w c) bytes b rest → HasLengths (record { extended = x; time_size = w; counts = c; parts = b; footer = o })
-unfolding block
-of_block w x c _ b _ o k (_, _, times, (_, _, indexes, (_, _, types, (_, _, _, (_, _, leaps, (_, _, _, (_, _, _, (value, _)))))))) =
-    subst (λ y. HasLengths (record { extended = x; time_size = w; counts = c; parts = y; footer = o })) (sym value)
-    (record { time_size = k; times = times.1; type_indexes = indexes.1; types = types.1; leap_seconds = leaps.1 })
-
-after_lengths : (v : Version) (c : Counts) (b : Parts) (start bytes : List ℕ) (p : FilePieces) (rest : List ℕ) → Spells (block 4 c) start b bytes
-    → Spells (after_first_block v c b) bytes p rest → HasLengths p
-unfolding after_first_block first_version later_version
-after_lengths One c b _ _ p _ h (_, _, _, (value, _)) = subst HasLengths (sym value) (of_block 4 _ c _ b _ _ (inl refl) h)
-after_lengths Two c b start bytes p rest h (header, after, _, (parts, end, k, (_, _, _, (value, _)))) =
-    subst HasLengths (sym value) (of_block 8 _ _ _ _ end _ (inr refl) k)
-after_lengths Three c b start bytes p rest h (header, after, _, (parts, end, k, (_, _, _, (value, _)))) =
-    subst HasLengths (sym value) (of_block 8 _ _ _ _ end _ (inr refl) k)
-
-pub has_lengths : (bytes : List ℕ) (p : FilePieces) → HasPieces bytes p → HasLengths p
-unfolding file
-has_lengths _ p (header, after, _, (parts, end, h, k)) = after_lengths _ _ _ _ end p [] h k
+uncounted bytes e c read k = let whole = (pieces_law _).again k.pieces k.has in cc

@@ -1,198 +1,264 @@
--- A file is at fault at one place.
-use Rattle.std.proofs.lemmas.{List.Sums.{prefix_len-le-length}, Str.{utf8_valid_len-IsValidUpTo}}
+-- Where a file is at fault, and that it is at one place.
+use Rattle.std.proofs.{lemmas.List.Sums.{prefix_len-le-length}, lemmas.Str.{utf8_valid_len-IsValidUpTo}}
 use Rattle.std.specs.{Char.{is_ascii_whitespace}, List.{prefix_len}}
-use Rattle.tz_base.specs.declared.error.{Error.TheVariants.{InvalidTzFile, LocalTimeType}, Expected.TheVariants.{OffsetAboveI32Min, ZeroOrOneAsIsDst}}
+use Rattle.tz_base.specs.{Fronts.{optional_tag_at}, Grammar.{Grammar, Nothing, Then, be_u32, from_fault}}
 use Rattle.tz_info.proofs.{
-  FilePieceLaws.{has_lengths, pieces_law},
-  FilePlaceLaws.{footer_within},
+  FilePieceLaws.{has_lengths, pieces_law, whole},
   FooterLaws.{spelled_law},
-  TrimLaws.{trim_again},
+  PosixLaws.{string_place_within},
+  TrimLaws.{fits_behind, front_counted, trim_again, trim_whole, trims_both},
   TypeLaws.{type_law},
-  Words.{Bool, Error, FilePieces, HasLengths, HasNoZero, IndicatorsAgree, IsBetweenNewlines, IsFooter, List, None, Option, SaysRule, Some, TransitionRule},
-  Words.{TypeFault, [], ap, apart, arith, cases_lt, fault_once, inl, inr, length, record_at, refl, slice_index, subst, suc, sym, value_once, zero, ℕ, ◌*◌, ◌+◌},
-  Words.{◌<◌, ◌∙◌, ◌∷◌, ◌≡◌, ◌≢◌, ◌≤◌, ◌⊎◌},
+  Words.{Bool, Err, Error, Exact, FilePieces, HasLengths, HasNoZero, HasPieces, IndicatorsAgree, IsBetweenNewlines, IsFooter, IsTrimAscii, IsTrimAsciiStart},
+  Words.{IsTrimmed, IsTrue, IsUtf8, List, LocalType, None, Ok, Option, Parts, SaysRule, Some, TransitionRule, TypeFault, [], after_first_block, ap, apart},
+  Words.{arith, below_more, block, drop, drop_front, exact_at, false, fault_once, first_version, length, length-append, linear, read, record_at, refl},
+  Words.{slice_index, suc, sym, type_of_record, value_once, zero, ℕ, ℤ, ◌*◌, ◌+◌, ◌-◌, ◌<ℤ◌, ◌<◌, ◌↔◌, ◌∙◌, ◌∷◌, ◌≡◌, ◌≢◌, ◌≤◌},
 }
 use Rattle.tz_info.specs.{
-  FilePlaces.{ArePartPlaces, AreTypes, At_index, At_leap, At_rule, At_time, Colon, In_contents, In_footer, In_indicators, In_lists, In_piece, In_string},
-  FilePlaces.{In_text, In_type, IsContentPlace, IsFilePlace, IsFirstBelow, IsFooterPlace, IsListPlace, IsOtherPair, IsTextPlace, IsTypePlace, No_first},
-  FilePlaces.{No_last, Not_utf8, Zero, before_field, footer_bytes},
+  FileHeaders.{six_counts, version, version_1},
+  FilePlaces.{ArePartPlaces, AreTypes, At_index, At_leap, At_rule, At_time, Colon, HoldsOfNone, In_contents, In_footer, In_indicators, In_lists, In_piece},
+  FilePlaces.{In_string, In_text, In_type, IsContentPlace, IsFilePlace, IsFirstBelow, IsFooterPlace, IsListPlace, IsNotLater, IsOtherPair, IsTextPlace},
+  FilePlaces.{IsTypeAt, IsTypePlace, No_first, No_last, Not_utf8, Zero, before_field, footer_bytes, in_order, time_at},
+  Steps.Places.{SaysSome},
   TzFiles.{HasRule},
+  declared.file.header.Counts.{Counts},
+  declared.file.header.Place.{Place},
+  declared.file.header.Version.TheVariants.{One},
   declared.file.place.PartPlaces.{PartPlaces},
 }
 
+-- they are no longer than the file
+pub fit : (bytes : List ℕ) (p : FilePieces) → HasPieces bytes p → length p.parts.times + (length p.parts.type_indexes
+    + (length p.parts.types + (length p.parts.designations + (length p.parts.leap_seconds + (length p.parts.standard_wall + (length p.parts.ut_local
+    + length (footer_bytes p.footer))))))) ≤ length bytes
+fit _ p h = let w = whole _ p h in grind (arith, length-append)
+
+-- and each begins at its position
+pub parts_stand : (bytes : List ℕ) (p : FilePieces) (q : PartPlaces) → HasPieces bytes p → ArePartPlaces p q → q.end ≡ length bytes
+    → drop q.times bytes ≡ in_order p.parts (footer_bytes p.footer)
+parts_stand bytes p q h are end =
+    let w = whole _ p h in
+    let at : length w.0 ≡ q.times = grind (arith, length-append) in
+    rw (w.1, ← at) (drop_front w.0 (in_order p.parts (footer_bytes p.footer)))
+
+-- ---- the end of a piece that is too short
+-- what can't be read is too short
+pub record EndsShort {X : Type 0} (g : Grammar X) : Type 0 where
+  pub short : (bytes : List ℕ) (e : Error) → read g bytes ≡ Err e → from_fault g bytes ≡ []
+
+nothing_short : {X : Type 0} (x : X) → EndsShort (Nothing x)
+nothing_short x = record { short = λ bytes e h. cc }
+
+exact_short : (n : ℕ) → EndsShort (Exact n)
+exact_short n = record { short = λ bytes e h. refl }
+
+then_short : {X Y : Type 0} {g : Grammar X} {f : X → Grammar Y} → EndsShort g → ((x : X) → EndsShort (f x)) → EndsShort (Then g f)
+then_short {X = X} {g = g} {f = f} first next = let n = λ (x : X). (next x).short in grind (linear, first.short, n)
+
+pub block_left : (w : ℕ) (c : Counts) (bytes : List ℕ) (e : Error) → read (block w c) bytes ≡ Err e → from_fault (block w c) bytes ≡ []
+unfolding block
+block_left w c = let s : EndsShort (block w c) = search (then_short, exact_short, nothing_short) depth 20 in s.short
+
+pub counts_left : (bytes : List ℕ) (e : Error) → read six_counts bytes ≡ Err e → from_fault six_counts bytes ≡ []
+unfolding six_counts be_u32
+counts_left = let s : EndsShort six_counts = search (then_short, exact_short, nothing_short) depth 30 in s.short
+
+-- ---- what follows a header
+pub first_left : (c : Counts) (p : Parts) (bytes : List ℕ) → from_fault (after_first_block One c p) bytes ≡ bytes
+unfolding after_first_block first_version
+first_left c p bytes = grind linear
+
+-- ---- the magic and the version
+-- a version is rejected at its byte
+pub version_fault : (place : Place) (bytes : List ℕ) (e : Error) → read (version place) bytes ≡ Err e → length (from_fault (version place) bytes) ≡ length bytes
+unfolding version version_1 exact_at optional_tag_at
+version_fault place bytes e h = grind arith
+
+-- ---- what the loops keep
+pub next_false : (P : ℕ → Type 0) (n : ℕ) (b : Bool) → HoldsOfNone P n → IsTrue b ↔ P n → b ≡ false → HoldsOfNone P (n + 1)
+next_false P n b none is other = below_more (λ k. ¬ (P k)) n none (λ h. grind linear)
+
+pub next_type : (p : FilePieces) (k : ℕ) (t : LocalType) → ((j : ℕ) → j < k → IsTypeAt p j)
+    → type_of_record p.parts.designations (record_at 6 p.parts.types k) ≡ Ok t
+    → (j : ℕ) → j < k + 1 → IsTypeAt p j
+next_type p k t before here = below_more (IsTypeAt p) k before (t, (type_law _ _).takes t here)
+
+pub type_place : (p : FilePieces) (k : ℕ) (e : Error) → k < p.counts.types → ((j : ℕ) → j < k → IsTypeAt p j)
+    → type_of_record p.parts.designations (record_at 6 p.parts.types k) ≡ Err e
+    → IsTypePlace p (6 * k + before_field e)
+type_place p k e below before here = let f = (type_law _ _).fails e here in grind linear
+
+pub no_zero : (text : List ℕ) → HoldsOfNone (λ i. slice_index text i ≡ 0) (length text) → HasNoZero text
+no_zero [] _ = tt
+no_zero (b ∷ bs) h = (h 0 (omega arith), no_zero bs (λ k l. h (suc k) (omega arith)))
+
+pub next_later : (p : FilePieces) (k : ℕ) (here before : ℤ) → HoldsOfNone (IsNotLater p) k → here ≡ time_at p k → before ≡ time_at p (k - 1) → before <ℤ here
+    → HoldsOfNone (IsNotLater p) (k + 1)
+next_later p k here before none is was later = below_more (λ j. ¬ (IsNotLater p j)) k none (λ h. grind linear)
+
+-- ---- the footer
+pub space_is : (bytes start : List ℕ) → IsTrimAsciiStart bytes start → length bytes - length start ≡ prefix_len is_ascii_whitespace bytes
+space_is _ _ t = omega (arith, front_counted _ _ t)
+
+text_within : (extended : Bool) (text : List ℕ) (n : ℕ) → IsTextPlace extended text n → n ≤ length text
+text_within extended text n place = grind (arith, string_place_within)
+
+in_text : (extended : Bool) (bytes text : List ℕ) (n : ℕ) → IsTrimmed bytes text → IsTextPlace extended text n
+    → prefix_len is_ascii_whitespace bytes + n ≤ length bytes
+in_text _ _ _ n t place = omega (arith, fits_behind _ _ t, text_within _ _ n place)
+
+pub footer_within : (extended : Bool) (bytes : List ℕ) (n : ℕ) → IsFooterPlace extended bytes n → n ≤ length bytes
+footer_within _ _ n (Not_utf8 m bad up) = omega arith
+footer_within extended bytes n (No_first u s) = omega arith
+footer_within extended bytes n (No_last u s b) = omega arith
+footer_within _ _ _ (In_text _ m has place) = in_text _ _ _ m has.trimmed place
+
+-- the position of a fault in a footer's text
+module _ (extended : Bool) (bytes start text : List ℕ) (n : ℕ) (s : IsTrimAsciiStart bytes start) (t : IsTrimAscii bytes text)
+    (place : IsTextPlace extended text n) where
+  pub text_place : IsUtf8 bytes → IsBetweenNewlines bytes → IsFooterPlace extended bytes ((length bytes - length start) + n)
+  text_place utf8 newlines =
+      rw (space_is _ _ s) (In_text text n (record { utf8 = utf8; newlines = newlines; trimmed = trims_both _ _ t }) place)
+
+  pub text_fits : (length bytes - length start) + n ≤ length bytes
+  text_fits = rw (space_is _ _ s) (in_text _ _ _ n (trims_both _ _ t) place)
+
+pub text_says : (extended : Bool) (bytes text : List ℕ) → IsUtf8 bytes → IsBetweenNewlines bytes → IsTrimAscii bytes text → SaysSome extended text
+    → (rule : Option TransitionRule) × HasRule extended (Some bytes) rule
+text_says extended bytes text utf8 newlines t s = grind (linear, trims_both, no_zero)
+
 -- ---- the first of some numbers
 first_once : (P : ℕ → Type 0) (n j k : ℕ) → IsFirstBelow P n j → IsFirstBelow P n k → j ≡ k
-first_once P n j k a b = elim (cases_lt j k) [
-  | inl l ↦ absurd (b.before j l a.here)
-  | inr g ↦ elim (cases_lt k j) [ inl l ↦ absurd (a.before k l b.here) | inr h ↦ omega arith ]
-]
-
--- ---- types
-type_index : (p : FilePieces) (m n : ℕ) (a : IsTypePlace p m) (b : IsTypePlace p n) → a.index < b.index → ⊥
-type_index p m n a b l = let t = b.before a.index l in apart (type_law _ _) t.0 a.error t.1 a.fault
-
-type_error : (p : FilePieces) (j k : ℕ) (d e : Error) → j ≡ k → TypeFault p.parts.designations (record_at 6 p.parts.types j) d
-    → TypeFault p.parts.designations (record_at 6 p.parts.types k) e → d ≡ e
-type_error p j k d e same f g =
-    fault_once (type_law _ _) d e f
-    (subst (λ i. TypeFault p.parts.designations (record_at 6 p.parts.types i) e) (sym same) g)
-
-type_once : (p : FilePieces) (m n : ℕ) → IsTypePlace p m → IsTypePlace p n → m ≡ n
-type_once p m n a b = elim (cases_lt a.index b.index) [
-  | inl l ↦ absurd (type_index p m n a b l)
-  | inr g ↦ elim (cases_lt b.index a.index) [
-    | inl l ↦ absurd (type_index p n m b a l)
-    | inr h ↦
-        let same : a.index ≡ b.index = omega arith in
-        let field = ap before_field (type_error p _ _ _ _ same a.fault b.fault) in
-        omega arith
-  ]
-]
-
-types_spelled : (p : FilePieces) (n : ℕ) → AreTypes p → IsTypePlace p n → ⊥
-types_spelled p n each a = let t = each a.index a.below in apart (type_law _ _) t.0 a.error t.1 a.fault
-
-pairs_agree : (p : FilePieces) (n k : ℕ) → IndicatorsAgree p.parts.standard_wall p.parts.ut_local → IsFirstBelow (IsOtherPair p) n k → ⊥
-pairs_agree p n k agree f = agree k f.here.0 f.here.1
+first_once P n j k a b = grind arith
 
 -- ---- the footer
 no_zero_at : (text : List ℕ) (k : ℕ) → HasNoZero text → k < length text → slice_index text k ≢ 0
 no_zero_at [] k h l = omega arith
-no_zero_at (b ∷ bs) zero h l = h.0
+no_zero_at (_ ∷ _) zero h _ = h.0
 no_zero_at (b ∷ bs) (suc k) h l = no_zero_at bs k h.1 (omega arith)
 
 text_once : (extended : Bool) (text : List ℕ) (m n : ℕ) → IsTextPlace extended text m → IsTextPlace extended text n → m ≡ n
-text_once _ _ m n (Colon c) (Colon d) = refl
-text_once extended text m n (Colon c) (Zero k d f) = absurd (d c)
-text_once extended text m n (Colon c) (In_string e d z s f) = absurd (d c)
-text_once extended text m n (Zero j c f) (Colon d) = absurd (c d)
-text_once extended text m n (Zero j c f) (Zero k d g) = first_once (λ i. slice_index text i ≡ 0) _ j k f g
-text_once extended text m n (Zero j c f) (In_string e d z s g) = absurd (no_zero_at _ j z f.below f.here)
-text_once extended text m n (In_string e c z s f) (Colon d) = absurd (c d)
-text_once extended text m n (In_string e c z s f) (Zero k d g) = absurd (no_zero_at _ k z g.below g.here)
-text_once extended text m n (In_string e c z s f) (In_string d t y u g) = refl
+text_once extended text m n a b = grind (arith, no_zero_at)
 
 says_none : (extended : Bool) (text : List ℕ) (rule : Option TransitionRule) (n : ℕ) → slice_index text 0 ≢ 58 → HasNoZero text → SaysRule extended text rule
     → IsTextPlace extended text n → ⊥
-says_none _ _ _ n c z says (Colon d) = c d
-says_none extended text rule n c z says (Zero k d f) = no_zero_at _ k z f.below f.here
-says_none extended text None n c z says (In_string e d y some f) = some says
-says_none extended text (Some rule) n c z says (In_string e d y some f) = apart (spelled_law _ _) rule e says.1 f
+says_none _ _ _ _ c _ _ (Colon d) = c d
+says_none _ _ _ _ _ z _ (Zero k _ f) = no_zero_at _ k z f.below f.here
+says_none _ _ None _ _ _ says (In_string _ _ _ some _) = some says
+says_none _ _ (Some rule) _ _ _ says (In_string e _ _ _ f) = apart (spelled_law _ _) rule e says.1 f
 
 begins : (bytes : List ℕ) → IsBetweenNewlines bytes → slice_index bytes 0 ≡ 10
-begins _ b = ap (λ (s : List ℕ). slice_index s 0) b.starts
+begins bytes b = grind arith
 
 footer_once : (extended : Bool) (bytes : List ℕ) (m n : ℕ) → IsFooterPlace extended bytes m → IsFooterPlace extended bytes n → m ≡ n
-footer_once _ bytes m n (Not_utf8 j bad up) (Not_utf8 k other down) =
+footer_once _ bytes _ _ (Not_utf8 j _ up) (Not_utf8 k _ down) =
     sym (utf8_valid_len-IsValidUpTo bytes j up) ∙ utf8_valid_len-IsValidUpTo bytes k down
-footer_once extended bytes m n (Not_utf8 j bad up) (No_first u s) = absurd (bad u)
-footer_once extended bytes m n (Not_utf8 j bad up) (No_last u s b) = absurd (bad u)
-footer_once extended bytes m n (Not_utf8 j bad up) (In_text text k has place) = absurd (bad has.utf8)
-footer_once extended bytes m n (No_first u s) (Not_utf8 k bad up) = absurd (bad u)
-footer_once extended bytes m n (No_first u s) (No_first v t) = refl
-footer_once extended bytes m n (No_first u s) (No_last v t b) = absurd (s t)
-footer_once extended bytes m n (No_first u s) (In_text text k has place) = absurd (s (begins _ has.newlines))
-footer_once extended bytes m n (No_last u s b) (Not_utf8 k bad up) = absurd (bad u)
-footer_once extended bytes m n (No_last u s b) (No_first v t) = absurd (t s)
-footer_once extended bytes m n (No_last u s b) (No_last v t d) = refl
-footer_once extended bytes m n (No_last u s b) (In_text text k has place) = absurd (b has.newlines)
-footer_once extended bytes m n (In_text text j has place) (Not_utf8 k bad up) = absurd (bad has.utf8)
-footer_once extended bytes m n (In_text text j has place) (No_first u s) = absurd (s (begins bytes has.newlines))
-footer_once extended bytes m n (In_text text j has place) (No_last u s b) = absurd (b has.newlines)
+footer_once _ _ _ _ (Not_utf8 _ bad _) (No_first u _) = absurd (bad u)
+footer_once _ _ _ _ (Not_utf8 _ bad _) (No_last u _ _) = absurd (bad u)
+footer_once _ _ _ _ (Not_utf8 _ bad _) (In_text _ _ has _) = absurd (bad has.utf8)
+footer_once _ _ _ _ (No_first u _) (Not_utf8 _ bad _) = absurd (bad u)
+footer_once _ _ _ _ (No_first _ _) (No_first _ _) = refl
+footer_once _ _ _ _ (No_first _ s) (No_last _ t _) = absurd (s t)
+footer_once _ _ _ _ (No_first _ s) (In_text _ _ has _) = absurd (s (begins _ has.newlines))
+footer_once _ _ _ _ (No_last u _ _) (Not_utf8 _ bad _) = absurd (bad u)
+footer_once _ _ _ _ (No_last _ s _) (No_first _ t) = absurd (t s)
+footer_once _ _ _ _ (No_last _ _ _) (No_last _ _ _) = refl
+footer_once _ _ _ _ (No_last _ _ b) (In_text _ _ has _) = absurd (b has.newlines)
+footer_once _ _ _ _ (In_text _ _ has _) (Not_utf8 _ bad _) = absurd (bad has.utf8)
+footer_once _ bytes _ _ (In_text _ _ has _) (No_first _ s) = absurd (s (begins bytes has.newlines))
+footer_once _ _ _ _ (In_text _ _ has _) (No_last _ _ b) = absurd (b has.newlines)
 footer_once extended bytes m n (In_text text j has place) (In_text other k had there) =
     let same = sym (trim_again _ _ has.trimmed) ∙ trim_again _ _ had.trimmed in
-    ap (λ i. prefix_len is_ascii_whitespace bytes + i) (text_once _ _ j k (subst (λ s. IsTextPlace extended s j) same place) there)
+    ap (λ i. prefix_len is_ascii_whitespace bytes + i) (text_once _ _ j k (rw same at place) there)
 
 footer_says : (extended : Bool) (bytes : List ℕ) (rule : Option TransitionRule) (n : ℕ) → IsFooter extended bytes rule → IsFooterPlace extended bytes n → ⊥
-footer_says _ _ _ n f (Not_utf8 k bad up) = bad f.has_text.utf8
-footer_says extended bytes rule n f (No_first u s) = s (begins _ f.has_text.newlines)
-footer_says extended bytes rule n f (No_last u s b) = b f.has_text.newlines
-footer_says extended bytes rule n f (In_text text k has place) =
-    let same = sym (trim_again _ _ has.trimmed) ∙ trim_again _ _ f.has_text.trimmed in
-    says_none _ _ _ k f.no_colon f.no_zero f.says (subst (λ s. IsTextPlace extended s k) same place)
+footer_says extended bytes rule n f place = let t = trim_again _ _ f.has_text.trimmed in grind (arith, begins, trim_whole, says_none)
 
 rule_says : (extended : Bool) (footer : Option (List ℕ)) (bytes : List ℕ) (rule : Option TransitionRule) (n : ℕ) → footer ≡ Some bytes
     → HasRule extended footer rule → IsFooterPlace extended bytes n → ⊥
-rule_says extended _ _ rule n is has place = footer_says _ _ _ n (subst (λ f. HasRule extended f rule) is has) place
+rule_says extended footer bytes rule n is has place = grind (arith, footer_says)
 
--- the positions of a file's parts, given twice
-module _ (p : FilePieces) (q r : PartPlaces) (a : ArePartPlaces p q) (b : ArePartPlaces p r) (e : q.end ≡ r.end) where
-  -- ---- the lists
-  lists_once : (m n : ℕ) → IsListPlace p q m → IsListPlace p r n → m ≡ n
-  lists_once m n (At_index j f) (At_index k g) = omega (arith, first_once _ _ j k f g)
-  lists_once m n (At_index j f) (At_time k none g) = absurd (none j f.below f.here)
-  lists_once m n (At_index j f) (At_leap k none t g) = absurd (none j f.below f.here)
-  lists_once m n (At_index j f) (At_rule none t l) = absurd (none j f.below f.here)
-  lists_once m n (At_time j none f) (At_index k g) = absurd (none k g.below g.here)
-  lists_once m n (At_time j none f) (At_time k other g) = rw (first_once _ _ j k f g) (omega arith)
-  lists_once m n (At_time j none f) (At_leap k other t g) = absurd (t j f.below f.here)
-  lists_once m n (At_time j none f) (At_rule other t l) = absurd (t j f.below f.here)
-  lists_once m n (At_leap j none t f) (At_index k g) = absurd (none k g.below g.here)
-  lists_once m n (At_leap j none t f) (At_time k other g) = absurd (t k g.below g.here)
-  lists_once m n (At_leap j none t f) (At_leap k other u g) = rw (first_once _ _ j k f g) (omega arith)
-  lists_once m n (At_leap j none t f) (At_rule other u l) = absurd (l j f.below f.here)
-  lists_once m n (At_rule none t l) (At_index k g) = absurd (none k g.below g.here)
-  lists_once m n (At_rule none t l) (At_time k other g) = absurd (t k g.below g.here)
-  lists_once m n (At_rule none t l) (At_leap k other u g) = absurd (l k g.below g.here)
-  lists_once m n (At_rule none t l) (At_rule other u o) = omega arith
+field_low : (e : Error) → before_field e ≤ 5
+field_low e = grind arith
 
-  -- ---- the whole
-  content_once : (m n : ℕ) → IsContentPlace p q m → IsContentPlace p r n → m ≡ n
-  content_once m n (In_type j f) (In_type k g) = omega (arith, type_once p j k f g)
-  content_once m n (In_type j f) (In_indicators k t g) = absurd (types_spelled p j t f)
-  content_once m n (In_type j f) (In_footer bytes k t i s g) = absurd (types_spelled p j t f)
-  content_once m n (In_type j f) (In_lists rule k t i h g) = absurd (types_spelled p j t f)
-  content_once m n (In_indicators j t f) (In_type k g) = absurd (types_spelled p k t g)
-  content_once m n (In_indicators j t f) (In_indicators k u g) = omega (arith, first_once _ _ j k f g)
-  content_once m n (In_indicators j t f) (In_footer bytes k u i s g) = absurd (pairs_agree p _ j i f)
-  content_once m n (In_indicators j t f) (In_lists rule k u i h g) = absurd (pairs_agree p _ j i f)
-  content_once m n (In_footer bytes j t i s f) (In_type k g) = absurd (types_spelled p k t g)
-  content_once m n (In_footer bytes j t i s f) (In_indicators k u g) = absurd (pairs_agree p _ k i g)
-  content_once m n (In_footer bytes j t i s f) (In_footer other k u h o g) =
+step_within : (w n k l : ℕ) → l ≡ n * w → k < n → k * w ≤ l
+step_within w n k l is below = grind arith
+
+-- whole pieces, and the places of their parts
+module _ (p : FilePieces) (q : PartPlaces) where
+  not_at : (k : ℕ) (e : Error) → IsTypeAt p k → TypeFault p.parts.designations (record_at 6 p.parts.types k) e → ⊥
+  not_at k e t f = apart (type_law _ _) t.0 e t.1 f
+
+  type_index : (m n : ℕ) (a : IsTypePlace p m) (b : IsTypePlace p n) → a.index < b.index → ⊥
+  type_index m n a b l = not_at _ _ (b.before a.index l) a.fault
+
+  type_once : (m n : ℕ) → IsTypePlace p m → IsTypePlace p n → m ≡ n
+  type_once m n a b =
+      let same : a.index ≡ b.index = omega (arith, type_index m n a b, type_index n m b a) in
+      let e = fault_once (type_law _ _) _ _ a.fault (rw (← same) at b.fault) in
+      cc
+
+  types_spelled : (n : ℕ) → AreTypes p → IsTypePlace p n → ⊥
+  types_spelled n each a = not_at _ _ (each a.index a.below) a.fault
+
+  pairs_agree : (n k : ℕ) → IndicatorsAgree p.parts.standard_wall p.parts.ut_local → IsFirstBelow (IsOtherPair p) n k → ⊥
+  pairs_agree n k agree f = grind arith
+
+  lists_once : (m n : ℕ) → IsListPlace p q m → IsListPlace p q n → m ≡ n
+  lists_once _ _ (At_index j f) (At_index k g) = omega (arith, first_once _ _ j k f g)
+  lists_once _ _ (At_index j f) (At_time _ none _) = absurd (none j f.below f.here)
+  lists_once _ _ (At_index j f) (At_leap _ none _ _) = absurd (none j f.below f.here)
+  lists_once _ _ (At_index j f) (At_rule none _ _) = absurd (none j f.below f.here)
+  lists_once _ _ (At_time _ none _) (At_index k g) = absurd (none k g.below g.here)
+  lists_once _ _ (At_time j _ f) (At_time k _ g) = rw (first_once _ _ j k f g) refl
+  lists_once _ _ (At_time j _ f) (At_leap _ _ t _) = absurd (t j f.below f.here)
+  lists_once _ _ (At_time j _ f) (At_rule _ t _) = absurd (t j f.below f.here)
+  lists_once _ _ (At_leap _ none _ _) (At_index k g) = absurd (none k g.below g.here)
+  lists_once _ _ (At_leap _ _ t _) (At_time k _ g) = absurd (t k g.below g.here)
+  lists_once _ _ (At_leap j _ _ f) (At_leap k _ _ g) = rw (first_once _ _ j k f g) refl
+  lists_once _ _ (At_leap j _ _ f) (At_rule _ _ l) = absurd (l j f.below f.here)
+  lists_once _ _ (At_rule none _ _) (At_index k g) = absurd (none k g.below g.here)
+  lists_once _ _ (At_rule _ t _) (At_time k _ g) = absurd (t k g.below g.here)
+  lists_once _ _ (At_rule _ _ l) (At_leap k _ _ g) = absurd (l k g.below g.here)
+  lists_once _ _ (At_rule _ _ _) (At_rule _ _ _) = refl
+
+  content_once : (m n : ℕ) → IsContentPlace p q m → IsContentPlace p q n → m ≡ n
+  content_once _ _ (In_type j f) (In_type k g) = omega (arith, type_once j k f g)
+  content_once _ _ (In_type j f) (In_indicators _ t _) = absurd (types_spelled j t f)
+  content_once _ _ (In_type j f) (In_footer _ _ t _ _ _) = absurd (types_spelled j t f)
+  content_once _ _ (In_type j f) (In_lists _ _ t _ _ _) = absurd (types_spelled j t f)
+  content_once _ _ (In_indicators _ t _) (In_type k g) = absurd (types_spelled k t g)
+  content_once _ _ (In_indicators j _ f) (In_indicators k _ g) = omega (arith, first_once _ _ j k f g)
+  content_once _ _ (In_indicators j _ f) (In_footer _ _ _ i _ _) = absurd (pairs_agree _ j i f)
+  content_once _ _ (In_indicators j _ f) (In_lists _ _ _ i _ _) = absurd (pairs_agree _ j i f)
+  content_once _ _ (In_footer _ _ t _ _ _) (In_type k g) = absurd (types_spelled k t g)
+  content_once _ _ (In_footer _ _ _ i _ _) (In_indicators k _ g) = absurd (pairs_agree _ k i g)
+  content_once _ _ (In_footer bytes j t i s f) (In_footer other k u h o g) =
       let same : bytes ≡ other = cc in
-      omega (arith, footer_once _ _ j k (subst (λ x. IsFooterPlace p.extended x j) same f) g)
-  content_once m n (In_footer bytes j t i s f) (In_lists rule k u h o g) = absurd (rule_says _ _ _ _ j s o f)
-  content_once m n (In_lists rule j t i h f) (In_type k g) = absurd (types_spelled p k t g)
-  content_once m n (In_lists rule j t i h f) (In_indicators k u g) = absurd (pairs_agree p _ k i g)
-  content_once m n (In_lists rule j t i h f) (In_footer bytes k u o s g) = absurd (rule_says _ _ _ _ k s h g)
-  content_once m n (In_lists rule j t i h f) (In_lists other k u o w g) = lists_once j k f g
+      omega (arith, footer_once _ _ j k (rw same at f) g)
+  content_once _ _ (In_footer _ j _ _ s f) (In_lists _ _ _ _ o _) = absurd (rule_says _ _ _ _ j s o f)
+  content_once _ _ (In_lists _ _ t _ _ _) (In_type k g) = absurd (types_spelled k t g)
+  content_once _ _ (In_lists _ _ _ i _ _) (In_indicators k _ g) = absurd (pairs_agree _ k i g)
+  content_once _ _ (In_lists _ _ _ _ h _) (In_footer _ k _ _ s g) = absurd (rule_says _ _ _ _ k s h g)
+  content_once m n (In_lists _ _ _ _ _ f) (In_lists _ _ _ _ _ g) = lists_once m n f g
+
+  list_within : (n : ℕ) → HasLengths p → ArePartPlaces p q → IsListPlace p q n → n ≤ q.end
+  list_within n l a f = grind (arith, step_within, prefix_len-le-length)
+
+  content_within : (n : ℕ) → HasLengths p → ArePartPlaces p q → IsContentPlace p q n → n ≤ q.end
+  content_within n l a f = grind (arith, field_low, footer_within, list_within)
+
+-- the parts of a file have one position each
+places_once : (p : FilePieces) (q r : PartPlaces) → ArePartPlaces p q → ArePartPlaces p r → q.end ≡ r.end → q ≡ r
+places_once p q r a b e = grind arith
 
 pub file_place_once : (bytes : List ℕ) (m n : ℕ) → IsFilePlace bytes m → IsFilePlace bytes n → m ≡ n
-file_place_once _ m n (In_piece d f) (In_piece e g) = refl
-file_place_once bytes m n (In_piece d f) (In_contents p q k has are end g) = absurd (apart (pieces_law _) p d has f)
-file_place_once bytes m n (In_contents p q j has are end f) (In_piece e g) = absurd (apart (pieces_law _) p e has g)
+file_place_once _ _ _ (In_piece _ _) (In_piece _ _) = refl
+file_place_once _ _ _ (In_piece d f) (In_contents p _ _ has _ _ _) = absurd (apart (pieces_law _) p d has f)
+file_place_once _ _ _ (In_contents p _ _ has _ _ _) (In_piece e g) = absurd (apart (pieces_law _) p e has g)
 file_place_once bytes m n (In_contents p q j has are end f) (In_contents o r k had were last g) =
-    let same = value_once (pieces_law _) p o has had in
-    content_once o q r (subst (λ x. ArePartPlaces x q) same are) were (end ∙ sym last) j k (subst (λ x. IsContentPlace x q j) same f) g
-
--- ---- it is in the file, or at its end
-field_low : (e : Error) → before_field e ≤ 5
-field_low (LocalTimeType OffsetAboveI32Min) = omega arith
-field_low (InvalidTzFile ZeroOrOneAsIsDst) = omega arith
-field_low _ = omega arith
-
-step_within : (w n k l : ℕ) → (w ≡ 4) ⊎ (w ≡ 8) → l ≡ n * w → k < n → k * w ≤ l
-step_within w n k l (inl e) is b = rw e (omega (arith, rw e at is))
-step_within w n k l (inr e) is b = rw e (omega (arith, rw e at is, b))
-
-leap_within : (w n k l : ℕ) → (w ≡ 4) ⊎ (w ≡ 8) → l ≡ n * (w + 4) → k < n → k * (w + 4) ≤ l
-leap_within w n k l (inl e) is b = rw e (omega (arith, rw e at is))
-leap_within w n k l (inr e) is b = rw e (omega (arith, rw e at is, b))
-
-list_within : (p : FilePieces) (q : PartPlaces) (n : ℕ) → HasLengths p → ArePartPlaces p q → IsListPlace p q n → n ≤ q.end
-list_within p q n l a (At_index k f) = omega arith
-list_within p q n l a (At_time k none f) = omega (arith, step_within _ _ k _ l.time_size l.times f.below)
-list_within p q n l a (At_leap k none t f) =
-    omega (arith, leap_within _ _ k _ l.time_size l.leap_seconds f.below)
-list_within p q n l a (At_rule none t s) = omega (arith, prefix_len-le-length is_ascii_whitespace (footer_bytes p.footer))
-
-content_within : (p : FilePieces) (q : PartPlaces) (n : ℕ) → HasLengths p → ArePartPlaces p q → IsContentPlace p q n → n ≤ q.end
-content_within p q n l a (In_type k t) = omega (arith, t.below, field_low t.error)
-content_within p q n l a (In_indicators k t f) = omega arith
-content_within p q n l a (In_footer bytes k t i s f) =
-    omega (arith, footer_within _ _ k f, ap (λ (o : Option (List ℕ)). length (footer_bytes o)) s)
-content_within p q n l a (In_lists rule k t i h f) = list_within p q k l a f
+    let same = value_once (pieces_law _) o p had has in
+    let places = places_once p q r are (rw same at were) (end ∙ sym last) in
+    content_once p q j k f (rw (same, ← places) at g)
 
 pub file_place_within : (bytes : List ℕ) (n : ℕ) → IsFilePlace bytes n → n ≤ length bytes
-file_place_within _ n (In_piece e f) = omega arith
-file_place_within bytes n (In_contents p q k has are end f) = omega (arith, content_within p q k (has_lengths _ p has) are f)
+file_place_within bytes n place = grind (arith, has_lengths, content_within)

@@ -1,14 +1,16 @@
 -- The law of footers.
-use Rattle.std.proofs.lemmas.{Bool.{or_parts, true_from_ne_false}, Slice.Eq.{ends_is}}
+use Rattle.std.proofs.lemmas.{Bool.{or_parts}, Slice.Eq.{ends_is}}
 use Rattle.tz_base.specs.declared.error.{Error.TheVariants.{InvalidTzFile, Utf8}, Expected.TheVariants.{FooterBetweenNewlines, FooterInUtf8, TzTextInFooter}}
 use Rattle.tz_info.proofs.{
   TextLaws.{text_law},
-  TrimLaws.{trim_again, trim_is},
+  TrimLaws.{trim_is, trim_whole},
   Words.{Bool, Colon, Decided, Decides, Decides-eqb, Decides-or, Error, FooterFault, HasNoZero, HasText, In_text, IsBetweenNewlines, IsFooter, IsTextFault},
-  Words.{IsTzText, IsUtf8, IsUtf8-from_is_utf8, List, No_newlines, None, Not_utf8, Option, SaysRule, Some, TransitionRule, Zero, [], arith, choice, done},
-  Words.{ends_with, false, false_unless, footer_at, inl, inr, is_between_newlines, is_no_text, is_utf8-from_IsUtf8, is_zero, like, list_any, made, nat_eq},
-  Words.{refl, refused, rule_in, rule_or_none, said, slice_index, subst, sym, trimmed, ℕ, ◌==◌, ◌∷◌, ◌≡◌, ◌≢◌, ◌⊎◌},
+  Words.{IsTzText, IsUtf8, IsUtf8-from_is_utf8, List, No_newlines, Not_utf8, Option, SaysRule, TransitionRule, Zero, [], arith, choice, ends_with, false},
+  Words.{false_unless, footer_at, inl, inr, is_between_newlines, is_no_text, is_utf8-from_IsUtf8, is_zero, like, list_any, made, nat_eq, refl, refused},
+  Words.{rule_in, rule_or_none, said, slice_index, trimmed, ℕ, ◌==◌, ◌∷◌, ◌≡◌, ◌≢◌, ◌⊎◌},
 }
+
+pub ruleset utf8_tests = (IsUtf8-from_is_utf8, is_utf8-from_IsUtf8, false_unless)
 
 -- ---- newlines
 pub between : (bytes : List ℕ) → Decides (is_between_newlines bytes) (IsBetweenNewlines bytes)
@@ -17,50 +19,36 @@ between bytes =
 
 -- ---- the text
 no_zero_is : (text : List ℕ) → list_any is_zero text ≡ false → HasNoZero text
-no_zero_is [] h = tt
+no_zero_is [] _ = tt
 no_zero_is (b ∷ bs) h = let p = or_parts (b == 0) (list_any is_zero bs) h in ((λ z. grind arith), no_zero_is bs p.1)
 
 no_zero_again : (text : List ℕ) → HasNoZero text → list_any is_zero text ≡ false
-no_zero_again [] h = refl
+no_zero_again [] _ = refl
 no_zero_again (b ∷ bs) h = let e : (b == 0) ≡ false = grind arith in rw e (no_zero_again bs h.1)
 
 pub spelled_law : (extended : Bool) (text : List ℕ) → Decided TransitionRule (rule_in extended text) (IsTzText extended text) (IsTextFault extended text)
 unfolding rule_in
 spelled_law extended text = said (made (λ p. p.0) (text_law _ _))
-    (λ rule h. subst (IsTzText extended text) h.2 h.1.0)
+    (λ rule h. rw h.2 at h.1.0)
     (λ rule h. ((rule, []), (h, refl), refl))
-
--- no text is no rule
-none_said : (extended : Bool) (rule : Option TransitionRule) → SaysRule extended [] rule → None ≡ rule
-none_said _ None h = refl
-none_said extended (Some rule) h = absurd (h.0 refl)
-
-some_said : (extended : Bool) (b : ℕ) (bs : List ℕ) (rule : Option TransitionRule) → SaysRule extended (b ∷ bs) rule
-    → (r : TransitionRule) × IsTzText extended (b ∷ bs) r × (Some r ≡ rule)
-some_said _ b bs None h = cc
-some_said extended b bs (Some rule) h = (rule, h.1, refl)
 
 rule_law : (extended : Bool) (text : List ℕ)
     → Decided (Option TransitionRule) (rule_or_none extended text) (SaysRule extended text) (λ n. (text ≢ []) × IsTextFault extended text n)
-rule_law extended [] = like (done None) (λ rule e. subst (SaysRule extended []) e refl) (none_said _) (λ n h. absurd h) (λ n h. absurd (h.0 refl))
-rule_law extended (b ∷ bs) = like (made (λ r. Some r) (spelled_law _ _))
-    (λ rule h. subst (SaysRule extended (b ∷ bs)) h.2 ((λ e. cc), h.1))
-    (some_said _ b bs)
-    (λ n h. ((λ e. cc), h))
-    (λ n h. h.1)
+rule_law _ [] = grind arith
+rule_law extended (b ∷ bs) = grind (arith, spelled_law extended (b ∷ bs))
 
 -- a colon in front, or a 0 byte
 abbrev IsNoText : List ℕ → Type 0
 IsNoText text = (slice_index text 0 ≡ 58) ⊎ ¬ (HasNoZero text)
 
 has_zero : (text : List ℕ) → Decides (list_any is_zero text) (¬ (HasNoZero text))
-has_zero text = (λ t n. let f = no_zero_again _ n in cc, λ n. true_from_ne_false (list_any is_zero text) (λ f. n (no_zero_is _ f)))
+has_zero text = grind (arith, no_zero_again, no_zero_is)
 
 no_text : (text : List ℕ) → Decides (is_no_text text) (IsNoText text)
-no_text text = Decides-or (slice_index text 0 == 58) (list_any is_zero text) (Decides-eqb (slice_index text 0) 58) (has_zero _)
+no_text text = Decides-or _ _ (Decides-eqb _ 58) (has_zero _)
 
 no_zero : (text : List ℕ) → ¬ (IsNoText text) → HasNoZero text
-no_zero text h = no_zero_is _ (false_unless (list_any is_zero text) (λ t. h (inr ((has_zero _).0 t))))
+no_zero text h = grind (arith, has_zero, no_zero_is)
 
 -- ---- the whole
 abbrev ReadFault : Bool → List ℕ → List ℕ → Error → Type 0
@@ -70,38 +58,32 @@ ReadFault extended bytes text n =
     ⊎ (¬ (IsNoText text) × ((text ≢ []) × IsTextFault extended text n)))) ⊎ (¬ (IsBetweenNewlines bytes) × (n ≡ InvalidTzFile FooterBetweenNewlines))))
     ⊎ (¬ (IsUtf8 bytes) × (n ≡ Utf8 FooterInUtf8))
 
+text_has : (bytes : List ℕ) → IsUtf8 bytes → IsBetweenNewlines bytes → HasText bytes (trimmed bytes)
+text_has bytes u b = record { utf8 = u; newlines = b; trimmed = trim_is _ }
+
 fault_is : (extended : Bool) (bytes : List ℕ) (n : Error) → ReadFault extended bytes (trimmed bytes) n → FooterFault extended bytes n
-fault_is extended bytes n (inr u) = subst (FooterFault extended bytes) (sym u.1) (Not_utf8 u.0)
+fault_is extended bytes n (inr u) = rw u.1 (Not_utf8 u.0)
 fault_is extended bytes n (inl u) = elim u.1 [
-  | inr b ↦ subst (FooterFault extended bytes) (sym b.1) (No_newlines u.0 b.0)
+  | inr b ↦ rw b.1 (No_newlines u.0 b.0)
   | inl b ↦
-      let has : HasText bytes (trimmed bytes) = record { utf8 = u.0; newlines = b.0; trimmed = trim_is _ } in
+      let has = text_has _ u.0 b.0 in
       elim b.1 [
-        | inl k ↦ subst (FooterFault extended bytes) (sym k.1)
-            (elim k.0 [ inl colon ↦ Colon (trimmed bytes) has colon | inr zero ↦ Zero (trimmed bytes) has zero ])
+        | inl k ↦ rw k.1 (elim k.0 [ inl colon ↦ Colon (trimmed bytes) has colon | inr zero ↦ Zero (trimmed bytes) has zero ])
         | inr k ↦ In_text (trimmed bytes) n has (λ e. k.0 (inl e)) (no_zero _ k.0) k.1.0 k.1.1
       ]
 ]
 
-in_text : (extended : Bool) (bytes text : List ℕ) (n : Error) → HasText bytes text
-    → (IsNoText text × (n ≡ InvalidTzFile TzTextInFooter)) ⊎ (¬ (IsNoText text) × ((text ≢ []) × IsTextFault extended text n))
-    → ReadFault extended bytes (trimmed bytes) n
-in_text _ _ _ n has fault = rw (trim_again _ _ has.trimmed) (inl (has.utf8, inl (has.newlines, fault)))
-
-is_text : (text : List ℕ) → slice_index text 0 ≢ 58 → HasNoZero text → ¬ (IsNoText text)
-is_text _ colon zero h = elim h [ inl c ↦ colon c | inr z ↦ z zero ]
-
 fault_again : (extended : Bool) (bytes : List ℕ) (n : Error) → FooterFault extended bytes n → ReadFault extended bytes (trimmed bytes) n
-fault_again _ _ n (Not_utf8 bad) = inr (bad, refl)
-fault_again extended bytes n (No_newlines utf8 bad) = inl (utf8, inr (bad, refl))
-fault_again extended bytes n (Colon text has colon) = in_text _ _ _ _ has (inl (inl colon, refl))
-fault_again extended bytes n (Zero text has zero) = in_text _ _ _ _ has (inl (inr zero, refl))
-fault_again extended bytes n (In_text text m has colon zero some fault) = in_text _ _ _ m has (inr (is_text _ colon zero, (some, fault)))
+fault_again _ _ _ (Not_utf8 bad) = inr (bad, refl)
+fault_again _ _ _ (No_newlines utf8 bad) = inl (utf8, inr (bad, refl))
+fault_again extended bytes _ (Colon text has colon) = grind (arith, trim_whole)
+fault_again extended bytes _ (Zero text has zero) = grind (arith, trim_whole)
+fault_again extended bytes n (In_text text m has colon zero some fault) = grind (arith, trim_whole)
 
 pub footer_law : (extended : Bool) (bytes : List ℕ)
     → Decided (Option TransitionRule) (footer_at extended bytes) (IsFooter extended bytes) (FooterFault extended bytes)
 unfolding footer_at
-footer_law _ bytes = like
+footer_law extended bytes = like
     (choice (IsUtf8-from_is_utf8 bytes, is_utf8-from_IsUtf8 bytes)
     (choice (between _) (choice (no_text _) (refused (InvalidTzFile TzTextInFooter) (omega arith)) (rule_law _ _))
     (refused (InvalidTzFile FooterBetweenNewlines) (omega arith))) (refused (Utf8 FooterInUtf8) (omega arith)))
@@ -109,19 +91,12 @@ footer_law _ bytes = like
       | inl u ↦ elim u.1 [
         | inl b ↦ elim b.1 [
           | inl k ↦ absurd k.1
-          | inr k ↦ record {
-            text = trimmed bytes;
-            has_text = record { utf8 = u.0; newlines = b.0; trimmed = trim_is _ };
-            no_colon = λ e. k.0 (inl e);
-            no_zero = no_zero _ k.0;
-            says = k.1;
-          }
+          | inr k ↦ record { text = _; has_text = text_has _ u.0 b.0; no_colon = λ e. k.0 (inl e); no_zero = no_zero _ k.0; says = k.1 }
         ]
         | inr b ↦ absurd b.1
       ]
       | inr u ↦ absurd u.1
     ])
-    (λ rule h. rw (trim_again _ _ h.has_text.trimmed)
-    (inl (h.has_text.utf8, inl (h.has_text.newlines, inr (is_text _ h.no_colon h.no_zero, h.says)))))
+    (λ rule h. grind (arith, trim_whole))
     (fault_is _ _)
     (fault_again _ _)

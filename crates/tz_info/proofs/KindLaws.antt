@@ -6,27 +6,21 @@ use Rattle.tz_info.proofs.{
   RuleDays.{rule_day_closed},
   Words.{Alternate, Bool, DayForm, DayTime, IsAlternateRule, IsRuleDay, List, ap, are_calm, arith, closed_day, cond, day_number, day_time_second},
   Words.{days_of_months, end_in, false, floors, get_or, get_or-map, inr, int_le, is_calm, is_calm_kind, is_leap, kind_place, margin_of, moment, nat_le, neg_ℤ},
-  Words.{place_by, places_by_kind, pos, refl, rule_day, second_in, seconds_by_kind, start_in, sym, true, weekday_below, weekday_later, weekday_of, year_start},
-  Words.{ℕ, ℤ, ◌%◌, ◌*ℤ◌, ◌+ℤ◌, ◌+◌, ◌-ℤ◌, ◌-◌, ◌<◌, ◌∙◌, ◌≡◌, ◌≤ℤ◌, ◌⊎◌},
+  Words.{place_by, places_by_kind, pos, refl, second_in, seconds_by_kind, start_in, sym, true, weekday_below, weekday_later, weekday_of, year_start, ℕ, ℤ, ◌%◌},
+  Words.{◌*ℤ◌, ◌+ℤ◌, ◌+◌, ◌-ℤ◌, ◌-◌, ◌<◌, ◌∙◌, ◌≡◌, ◌≤ℤ◌, ◌⊎◌},
 }
-use Rattle.tz_info.specs.{Steps.ChangingYears.{AreWithinYears}, declared.rule.day.DayForm.TheVariants.{Julian0, Julian1, MonthWeekday}}
+use Rattle.tz_info.specs.{Steps.ChangingYears.{AreWithinYears}}
 
 first_of_month : (year : ℤ) (month : ℕ) → day_number year month 1 ≡ year_start year +ℤ pos (days_of_months (is_leap year) (month - 1))
 unfolding day_number
-first_of_month _ _ = omega (arith, floors)
+first_of_month year month = grind (arith, floors)
 
 sum_on : (day start : ℤ) (n place : ℕ) → day ≡ start +ℤ pos n → day +ℤ pos place ≡ start +ℤ pos (n + place)
 sum_on day _ n _ e = omega (arith, floors)
 
 closed_day_by : (form : DayForm) (year : ℤ) → closed_day form year ≡ year_start year +ℤ pos (place_by form (is_leap year) (weekday_of (year_start year)))
 unfolding closed_day place_by
-closed_day_by (Julian1 n) _ = refl
-closed_day_by (Julian0 n) year = refl
-closed_day_by (MonthWeekday month week weekday) year = grind (arith, first_of_month, weekday_later, sum_on)
-
-rule_day_by : (form : DayForm) (year : ℤ) → IsRuleDay form
-    → rule_day form year ≡ year_start year +ℤ pos (place_by form (is_leap year) (weekday_of (year_start year)))
-rule_day_by _ _ fits = rule_day_closed _ _ fits ∙ closed_day_by _ _
+closed_day_by form year = grind (arith, first_of_month, weekday_later, sum_on)
 
 -- the second of each of the fourteen kinds
 kind_at : (t : DayTime) (offset : ℤ) (kind : ℕ) (d : ℤ) → kind < 14
@@ -38,15 +32,14 @@ kind_at t offset kind d h =
 
 kind_parts : (leap : Bool) (first : ℕ) → first < 7
     → (cond leap 7 0 + first < 14) × (nat_le 7 (cond leap 7 0 + first) ≡ leap) × ((cond leap 7 0 + first) % 7 ≡ first)
-kind_parts true _ h = (omega arith, grind arith, omega arith)
-kind_parts false first h = (omega arith, grind arith, omega arith)
+kind_parts leap first h = grind arith
 
 -- the second at the place of the year's kind is the year's
 pub kind_found : (t : DayTime) (offset year d : ℤ) → IsRuleDay t.day → get_or (seconds_by_kind t offset) (kind_place year) d ≡ second_in t offset year
 unfolding moment
 kind_found t offset year d fits =
     let (below, leap, first) = kind_parts _ _ (weekday_below (year_start year)) in
-    let day = rule_day_by _ year fits in
+    let day = rule_day_closed t.day year fits ∙ closed_day_by t.day year in
     kind_at t _ _ d below ∙ rw (leap, first) (omega (arith, floors))
 
 -- the second at the place of the year's kind makes the year's moment, and lies near the year
@@ -64,8 +57,7 @@ moment_by_kind t offset year _ d seconds kind fits near e f g =
 pub within_years : (t : DayTime) (offset : ℤ) (seconds : List ℤ) → IsRuleDay t.day → IsNear (moment t offset) → seconds ≡ seconds_by_kind t offset
     → AreWithinYears seconds
 within_years t offset seconds fits near e year =
-    let kept = moment_by_kind t _ _ (year_start year) (pos 0) _ _ fits near e refl refl in
-    (omega (arith, floors), omega (arith, floors))
+    let kept = moment_by_kind t _ _ (year_start year) (pos 0) _ _ fits near e refl refl in grind (arith, floors)
 
 -- ---- margins
 -- how far the moments of a rule lie from the ends of their years; further outside than eight days they never lie
@@ -83,46 +75,39 @@ record IsCalm (start_first : Bool) (start end : ℤ) : Type 0 where
 calm_is : (start_first : Bool) (start end : ℤ) → is_calm start_first start end ≡ true → IsCalm start_first start end
 calm_is _ _ end h = grind arith
 
+abbrev starts : Alternate → List ℤ
+starts a = seconds_by_kind a.start a.std.offset
+
+abbrev ends : Alternate → List ℤ
+ends a = seconds_by_kind a.end a.dst.offset
+
 -- if all kinds are calm, each year is
-calm_year : (a : Alternate) (starts ends : List ℤ) (year : ℤ) → IsAlternateRule a → starts ≡ seconds_by_kind a.start a.std.offset
-    → ends ≡ seconds_by_kind a.end a.dst.offset → are_calm starts ends ≡ true
-    → IsCalm (int_le (get_or starts 0 (pos 0)) (get_or ends 0 (pos 0))) (second_in a.start a.std.offset year) (second_in a.end a.dst.offset year)
+calm_year : (a : Alternate) (year : ℤ) → IsAlternateRule a → are_calm (starts a) (ends a) ≡ true
+    → IsCalm (int_le (get_or (starts a) 0 (pos 0)) (get_or (ends a) 0 (pos 0))) (second_in a.start a.std.offset year) (second_in a.end a.dst.offset year)
 unfolding are_calm
-calm_year a starts ends year rule e f all =
+calm_year a year rule all =
     let kind = kind_place year in
-    let calm = calm_is _ (get_or starts kind (pos 0)) (get_or ends kind (pos 0))
-    (one_true 14 _ (is_calm_kind starts ends)
-    (kind_parts (is_leap year) _ (weekday_below (year_start year))).0 all) in
-    let start : get_or starts (kind_place year) (pos 0) ≡ second_in a.start a.std.offset year =
-    rw e (kind_found _ _ _ _ rule.start_day) in
-    let end : get_or ends (kind_place year) (pos 0) ≡ second_in a.end _ year = rw f (kind_found _ _ _ _ rule.end_day) in
-    rw (start, end) at calm
+    let calm = calm_is _ (get_or (starts a) kind (pos 0)) (get_or (ends a) kind (pos 0))
+    (one_true 14 _ (is_calm_kind (starts a) (ends a)) (kind_parts (is_leap year) _ (weekday_below (year_start year))).0 all) in
+    rw (kind_found a.start a.std.offset year (pos 0) rule.start_day, kind_found a.end a.dst.offset year (pos 0) rule.end_day) at calm
 
 shifted : (x y base : ℤ) → int_le (x -ℤ base) (y -ℤ base) ≡ int_le x y
-shifted x y _ = grind arith
+shifted x y base = grind arith
 
-margin_by : (a : Alternate) (starts ends : List ℤ) (margin : ℤ) (calm : Bool) → IsAlternateRule a → starts ≡ seconds_by_kind a.start a.std.offset
-    → ends ≡ seconds_by_kind a.end a.dst.offset → are_calm starts ends ≡ calm → margin ≡ cond calm (pos 172_800) (neg_ℤ (pos 691_200)) → IsMargin a margin
-margin_by a _ _ _ false rule e f all is = grind (arith, near_margin, starts_near, ends_near)
-margin_by a starts ends margin true rule e f all is =
-    let first = int_le (get_or starts 0 (pos 0)) (get_or ends 0 (pos 0)) in
-    let ordered : (year : ℤ) → int_le (start_in a year) (end_in a year) ≡ first =
-    λ year. sym (shifted (start_in a year) _ _) ∙ (calm_year a _ _ _ rule e f all).order in
+margin_by : (a : Alternate) (margin : ℤ) (calm : Bool) → IsAlternateRule a → are_calm (starts a) (ends a) ≡ calm
+    → margin ≡ cond calm (pos 172_800) (neg_ℤ (pos 691_200)) → IsMargin a margin
+margin_by a _ false rule all is = grind (arith, near_margin, starts_near, ends_near)
+margin_by a margin true rule all is =
+    let calm = λ (year : ℤ). calm_year a year rule all in
+    let ordered = λ (year : ℤ). sym (shifted (start_in a year) (end_in a year) (pos 86_400 *ℤ year_start year)) ∙ (calm year).order in
     rw is (record {
-      start = record {
-        low = λ year. let b = (calm_year a _ ends year rule e f all).start_in.0 in omega (arith, floors);
-        high = λ year. let b = (calm_year a starts ends year rule e f all).start_in.1 in omega (arith, floors);
-      };
-      end = record {
-        low = λ year. let b = (calm_year a starts ends year rule e f all).end_in.0 in omega (arith, floors);
-        high = λ year. let b = (calm_year a starts ends year rule e f all).end_in.1 in omega (arith, floors);
-      };
+      start = record { low = λ year. omega (arith, floors, (calm year).start_in.0); high = λ year. omega (arith, floors, (calm year).start_in.1) };
+      end = record { low = λ year. omega (arith, floors, (calm year).end_in.0); high = λ year. omega (arith, floors, (calm year).end_in.1) };
       order = inr (λ v w. ordered v ∙ sym (ordered w));
       bound = (omega (arith, floors), omega (arith, floors));
     })
 
 pub margin_kept : (a : Alternate) (margin : ℤ) → IsAlternateRule a
-    → margin ≡ margin_of (seconds_by_kind a.start a.std.offset) (seconds_by_kind a.end a.dst.offset) → IsMargin a margin
+    → margin ≡ margin_of (starts a) (ends a) → IsMargin a margin
 unfolding margin_of
-margin_kept a _ rule is =
-    margin_by a _ _ _ _ rule refl refl refl is
+margin_kept a _ rule is = margin_by a _ _ rule refl is

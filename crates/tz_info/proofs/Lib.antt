@@ -66,10 +66,8 @@ pub mod ReachedLaws
 pub mod DifferenceLaws
 pub mod PosixZoneLaws
 pub mod FilePieceLaws
-pub mod FilePlaceLaws
 pub mod FilePlaceOnce
 pub mod ListLaws
-pub mod RecordLaws
 pub mod ContentLaws
 pub mod TrimLaws
 pub mod TypeLaws

@@ -1,17 +1,12 @@
 -- The test of a name says whether a type can have it.
 use Rattle.tz_base.specs.declared.error.Error.TheVariants.{LocalTimeType}
 use Rattle.tz_info.proofs.{
-  Words.{Bool, Err, Error, Gives, IsNameOrNone, IsUtOffset, List, LocalTimeType as BadType, LocalType, MatchResult, Ok, Result, Some, arith, checked},
-  Words.{expected_of_name, expected_of_type, false_unless, int_le, is_name, name_test, named_type, neg_ℤ, pos, true, ℕ, ℤ, ◌≡◌},
+  Words.{Bool, Error, Gives, IsNameOrNone, IsUtOffset, List, LocalTimeType as BadType, LocalType, MatchResult, Result, Some, arith, checked, expected_of_name},
+  Words.{expected_of_type, is_name, name_test, named_type, ℕ, ℤ, ◌≡◌},
 }
-
-above_least : (offset : ℤ) → IsUtOffset offset → int_le (neg_ℤ (pos 2_147_483_647)) offset ≡ true
-above_least _ u = grind arith
 
 pub named_by : (name : List ℕ) (dst : Bool) (offset : ℤ) (r : Result LocalType Error)
     → MatchResult r (λ t. IsUtOffset offset × IsNameOrNone (Some name) × (t ≡ named_type name dst offset))
     (λ e. (e ≡ LocalTimeType (expected_of_type offset (Some name))) × ¬ (IsUtOffset offset × IsNameOrNone (Some name))) → IsUtOffset offset
     → Gives (λ t. t) r (checked (is_name name) (BadType (expected_of_name name)) (named_type name dst offset))
-named_by name dst _ (Ok t) h u = let e = (name_test name).decides.1 h.1 in rw (e, h.2)
-named_by name dst offset (Err e) h u = let n = false_unless (is_name name) (λ t. h.1 (u, (name_test name).decides.0 t)) in
-    rw (n, h.0, above_least _ u)
+named_by name dst offset r h u = let e = (name_test name).decides in grind arith

@@ -1,19 +1,6 @@
 -- What a TZ string gives is a zone whose rule's numbers are in their limits.
-use Rattle.tz_info.proofs.{
-  TextFits.{text_rule_fits},
-  Words.{IsPosixZone, IsRuleOrNone, IsValid, List, TransitionRule, Zone, arith, inl, inr, length, subst, sym, types_of, ℕ, ◌<◌},
-  ZoneLaws.{zone_of_rule_valid},
-}
-use Rattle.tz_info.specs.declared.rule.transition_rule.TransitionRule.TheVariants as rules
-
-has_type : (rule : TransitionRule) → 0 < length (types_of rule)
-has_type (rules.Fixed t) = omega arith
-has_type (rules.Alternate a) = omega arith
+use Rattle.tz_info.proofs.{TextFits.{text_rule_fits}, Words.{IsPosixZone, IsRuleOrNone, IsValid, List, Zone, arith, ℕ}, ZoneLaws.{zone_of_rule_valid}}
 
 -- types and a rule, without transitions and leap seconds, make a zone if there is a type
 pub posix_zone_valid : (text : List ℕ) (zone : Zone) → IsPosixZone text zone → IsValid zone × IsRuleOrNone zone.rule
-posix_zone_valid _ _ h = elim h [
-  | inl a ↦ subst (λ y. IsValid y × IsRuleOrNone y.rule) (sym a.1) (zone_of_rule_valid _ _ (omega arith), tt)
-  | inr a ↦ subst (λ y. IsValid y × IsRuleOrNone y.rule) (sym a.zone)
-      (zone_of_rule_valid _ _ (has_type _), text_rule_fits _ _ _ a.spells)
-]
+posix_zone_valid text zone h = grind (arith, zone_of_rule_valid, text_rule_fits)

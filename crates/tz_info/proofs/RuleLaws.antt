@@ -1,11 +1,9 @@
 -- A rule has one type at a second, or is refused there, and never both.
-use Rattle.std.proofs.lemmas.Bool.{cases_Bool}
 use Rattle.tz_info.proofs.{
   Neighbours.{dst_by_three, ends_near, starts_near},
-  Words.{Alternate as AlternateRule, AlternateAt, Bool, IsAlternateRefused, IsAlternateRule, IsDstAt, IsRule, IsRuleRefused, IsRuleTime, IsRuleYear, IsYearOf},
-  Words.{LiesIn, LocalType, MatchOption, None, Option, RuleAt, Some, TransitionRule, alternate_type, arith, by_lt_z, end_in, floor_div, floors, inl, inr},
-  Words.{is_dst_by_three, is_rule_year, lies_in, linear, neg_ℤ, one_year, pos, refl, rule_type, start_in, starts_rise, subst, sym, type_when, year_of},
-  Words.{year_start, ℤ, ◌+ℤ◌, ◌∙◌, ◌≡◌, ◌⊎◌},
+  Words.{Alternate as AlternateRule, AlternateAt, Bool, IsAlternateRefused, IsDstAt, IsRule, IsRuleRefused, IsRuleTime, IsRuleYear, IsYearOf, LiesIn},
+  Words.{LocalType, MatchOption, RuleAt, TransitionRule, arith, end_in, floor_div, floors, lies_in, linear, neg_ℤ, one_year, pos, refl, rule_type, start_in},
+  Words.{starts_rise, type_when, year_of, year_start, ℤ, ◌+ℤ◌, ◌≡◌, ◌⊎◌},
 }
 use Rattle.tz_info.specs.declared.rule.transition_rule.TransitionRule.TheVariants.{Alternate, Fixed}
 
@@ -15,48 +13,24 @@ alternate_once a u s t h k =
     let same = one_year (floor_div u 86_400) h.year k.year h.of_second k.of_second in grind arith
 
 pub rule_once : (rule : TransitionRule) (u : ℤ) (s t : LocalType) → RuleAt rule u s → RuleAt rule u t → s ≡ t
-rule_once (Fixed fixed) u s t h k = h ∙ sym k
-rule_once (Alternate a) u s t h k = alternate_once a u s t h k
+rule_once rule u s t h k = grind (linear, alternate_once)
 
 pub rule_not_refused : (rule : TransitionRule) (u : ℤ) (t : LocalType) → RuleAt rule u t → IsRuleRefused rule u → ⊥
-rule_not_refused (Fixed fixed) u t h refused = refused
-rule_not_refused (Alternate a) u t h refused = grind linear
+rule_not_refused rule u t h refused = grind linear
 
 refused_at : (u year : ℤ) → IsYearOf u year → (IsRuleYear year → ⊥) → IsAlternateRefused u
-refused_at u year of_second out = λ other h inside. out (subst IsRuleYear (one_year (floor_div u 86_400) other year h of_second) inside)
-
--- the type that is computed is the rule's, or the rule is refused
-alternate_told : (a : AlternateRule) (u : ℤ) → IsAlternateRule a
-    → MatchOption (alternate_type a (year_of (floor_div u 86_400)) u) (IsAlternateRefused u) (AlternateAt a u)
-alternate_told a u limits =
-    let year = year_of (floor_div u 86_400) in
-    let of_second = lies_in (floor_div u 86_400) in
-    elim (cases_Bool (is_rule_year year)) [
-      | inl test ↦
-          let inside : IsRuleYear year = (grind arith, grind arith) in
-          let when = dst_by_three _ _ _ u _ (starts_near a limits) (ends_near a limits) of_second refl in
-          rw test (record {
-            year = year;
-            of_second = of_second;
-            inside = inside;
-            dst = is_dst_by_three (start_in a) (end_in a) year u;
-            when = when;
-            shown = refl;
-          })
-      | inr test ↦ rw test (refused_at u _ of_second (λ h. grind arith))
-    ]
+refused_at u year of_second out other h inside = out (rw (one_year (floor_div u 86_400) other year h of_second) at inside)
 
 pub rule_told : (rule : TransitionRule) (u : ℤ) → IsRule rule → MatchOption (rule_type rule u) (IsRuleRefused rule u) (RuleAt rule u)
-rule_told (Fixed fixed) u h = refl
-rule_told (Alternate a) u h = alternate_told a u h
-
--- every second has a type or is refused
-decided : (P : Type 0) (Q : LocalType → Type 0) (o : Option LocalType) → MatchOption o P Q → ((t : LocalType) × Q t) ⊎ P
-decided P Q None h = inr h
-decided P Q (Some t) h = inl (t, h)
+rule_told (Fixed _) _ _ = refl
+rule_told (Alternate a) u limits =
+    let of_second = lies_in (floor_div u 86_400) in
+    let when = dst_by_three _ _ _ u _ (starts_near a limits) (ends_near a limits) of_second refl in
+    let out = refused_at u _ of_second in
+    grind arith
 
 pub rule_decided : (rule : TransitionRule) (u : ℤ) → IsRule rule → ((t : LocalType) × RuleAt rule u t) ⊎ IsRuleRefused rule u
-rule_decided _ u h = decided _ _ _ (rule_told _ u h)
+rule_decided rule u h = let t = rule_told rule u h in grind linear
 
 first_start : year_start (neg_ℤ (pos 2_147_483_646)) ≡ neg_ℤ (pos 784_353_015_102)
 unfolding year_start
@@ -69,30 +43,23 @@ last_start = refl
 -- the seconds of the years that a rule answers in
 pub rule_time : (u year : ℤ) → IsYearOf u year → IsRuleYear year → IsRuleTime u
 rule_time u year of_second inside =
-    let first = starts_rise (neg_ℤ (pos 2_147_483_646)) year inside.0 in
-    let last = starts_rise (year +ℤ pos 1) (pos 2_147_483_646) (omega (arith, floors)) in
-    (omega (arith, floors, first_start), omega (arith, floors, last_start))
+    let low = starts_rise (neg_ℤ (pos 2_147_483_646)) year in
+    let high = starts_rise (year +ℤ pos 1) (pos 2_147_483_646) in
+    grind (arith, floors, first_start, last_start)
 
 pub rule_year : (u year : ℤ) → IsYearOf u year → IsRuleTime u → IsRuleYear year
 rule_year u year of_second within =
-    let from = by_lt_z year (neg_ℤ (pos 2_147_483_646))
-    (λ less. let before = starts_rise (year +ℤ pos 1) (neg_ℤ (pos 2_147_483_646)) (omega (arith, floors)) in
-    omega (arith, floors, first_start))
-    (λ h. h) in
-    let to = by_lt_z (pos 2_147_483_645) year
-    (λ more. let behind = starts_rise (pos 2_147_483_646) year (omega (arith, floors)) in omega (arith, floors, last_start))
-    (λ h. h) in
-    (from, to)
+    let low = starts_rise (year +ℤ pos 1) (neg_ℤ (pos 2_147_483_646)) in
+    let high = starts_rise (pos 2_147_483_646) year in
+    grind (arith, floors, first_start, last_start)
 
 -- outside of them an alternate rule is refused
 pub refused_outside : (u : ℤ) → (IsRuleTime u → ⊥) → IsAlternateRefused u
-refused_outside u out = λ year of_second inside. out (rule_time u _ of_second inside)
+refused_outside u out = grind (linear, rule_time)
 
 -- the year of the second's day is the second's year, and a rule answers in it
 pub year_found : (u day year : ℤ) → day ≡ floor_div u 86_400 → year ≡ year_of day → IsRuleTime u → LiesIn day year × IsRuleYear year
-year_found u day year at_day at_year within =
-    let lies : LiesIn day year = rw at_year (lies_in day) in
-    (lies, rule_year u _ (rw at_day at lies) within)
+year_found u day year at_day at_year within = let lies = lies_in day in grind (linear, rule_year)
 
 -- the type at a second whose day and year are known
 pub alternate_at : (a : AlternateRule) (u day year : ℤ) (dst : Bool) → day ≡ floor_div u 86_400 → LiesIn day year → IsRuleYear year

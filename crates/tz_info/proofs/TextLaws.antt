@@ -2,28 +2,19 @@
 use Rattle.tz_base.specs.declared.parse_error.ParseError.{ParseError}
 use Rattle.tz_info.proofs.{
   Words.{Bool, Decided, Err, Error, IfErr, IfOk, IsOkAnd, IsTextFault, IsTzText, List, Ok, Result, Spells, TransitionRule, [], alternate, ap, apart, end},
-  Words.{error_number, fault_low, fault_once, fixed, inl, inr, lawful, named, read, rule, said, subst, sym, text, value_once, ℕ, ℤ, ◌∙◌, ◌≡◌, ◌≤◌},
+  Words.{error_number, fault_low, fault_once, fixed, lawful, linear, named, read, rule, said, text, value_once, ℕ, ◌≡◌, ◌≤◌},
 }
 use Rattle.tz_info.specs.Steps.Spelled.{IsParsed}
 
--- no byte follows a TZ string
-rule_ends : (extended : Bool) (at name : List ℕ) (east : ℤ) (bytes : List ℕ) (r : TransitionRule) (rest : List ℕ)
-    → Spells (rule extended at name east) bytes r rest → rest ≡ []
-unfolding rule fixed alternate named end
-rule_ends _ at _ _ _ r _ (inl (none, (_, _, std, (_, e)))) = sym e ∙ sym std.2 ∙ none
-rule_ends _ at name east bytes r rest (inr (_, (_, _, _, (_, _, _, (_, _, _, (_, _, inl (none, (_, at_end)), (_, _, std, (_, _, dst, (_, e))))))))) =
-    sym e ∙ sym dst.2 ∙ sym std.2 ∙ sym at_end ∙ none
-rule_ends extended at name east bytes r rest (inr (_, (_, _, _, (_, _, _, (_, _, _, (_, _, inr (_, never), _)))))) = absurd never
-
 text_ends : (extended : Bool) (bytes : List ℕ) (r : TransitionRule) (rest : List ℕ) → Spells (text extended) bytes r rest → rest ≡ []
-unfolding text
-text_ends _ _ r _ (name, _, _, (east, after, _, h)) = rule_ends _ _ _ _ _ r _ h
+unfolding text rule fixed alternate named end
+text_ends extended bytes r rest h = grind linear
 
 pub text_law : (extended : Bool) (bytes : List ℕ)
     → Decided (TransitionRule × List ℕ) (read (text extended) bytes) (λ p. IsTzText extended bytes p.0 × (p.1 ≡ [])) (IsTextFault extended bytes)
 text_law extended bytes = said (lawful (text extended) bytes)
-    (λ p h. let none = text_ends _ _ p.0 p.1 h in (subst (Spells (text extended) bytes p.0) none h, none))
-    (λ p h. subst (Spells (text extended) bytes p.0) (sym h.1) h.0)
+    (λ p h. let none = text_ends _ _ p.0 p.1 h in (rw none at h, none))
+    (λ p h. rw h.1 h.0)
 
 -- the bytes of a TZ string, with or without the extension
 module _ (extended : Bool) (bytes : List ℕ) where
@@ -45,14 +36,13 @@ module _ (extended : Bool) (bytes : List ℕ) where
   -- ---- what a reader of a whole text answers
   pub found_by : (r : Result TransitionRule ParseError) → IsParsed extended bytes r → IfOk r (λ rule. IsTzText extended bytes rule)
   found_by (Ok rule) (rest, g) = ((text_law _ _).takes (rule, rest) g).0
-  found_by (Err e) g = tt
+  found_by (Err _) _ = tt
 
-pub only_by : (extended : Bool) (bytes : List ℕ) (r : Result TransitionRule ParseError) → IsParsed extended bytes r → (rule : TransitionRule)
-    → IsTzText extended bytes rule → IsOkAnd r (λ y. y ≡ rule)
-only_by extended bytes (Ok y) g _ h = one_rule _ _ y _ (found_by _ _ (Ok y) g) h
-only_by extended bytes (Err e) g rule h = refused_or_spelled extended _ _ _ ((text_law _ _).fails _ g.0) h
+  pub only_by : (r : Result TransitionRule ParseError) → IsParsed extended bytes r → (rule : TransitionRule) → IsTzText extended bytes rule
+      → IsOkAnd r (λ y. y ≡ rule)
+  only_by (Ok y) g _ h = one_rule y _ (found_by (Ok y) g) h
+  only_by (Err _) g _ h = refused_or_spelled _ _ ((text_law _ _).fails _ g.0) h
 
-pub fault_by : (extended : Bool) (bytes : List ℕ) (r : Result TransitionRule ParseError) → IsParsed extended bytes r
-    → IfErr r (λ e. IsTextFault extended bytes e.error)
-fault_by _ _ (Ok y) g = tt
-fault_by extended bytes (Err e) g = (text_law _ _).fails e.error g.0
+  pub fault_by : (r : Result TransitionRule ParseError) → IsParsed extended bytes r → IfErr r (λ e. IsTextFault extended bytes e.error)
+  fault_by (Ok _) _ = tt
+  fault_by (Err e) g = (text_law _ _).fails e.error g.0

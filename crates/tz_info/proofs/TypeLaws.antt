@@ -1,29 +1,28 @@
 -- Local time types: what is read is spelled, what is spelled is read, and an error is that of the fault.
+use Rattle.std.proofs.lemmas.Bool.{cases_Bool}
 use Rattle.tz_base.specs.{
   declared.error.Error.TheVariants.{InvalidTzFile, LocalTimeType, OutOfMemory},
   declared.error.Expected.TheVariants.{NameWithinDesignations, ZeroByteAfterName, ZeroOrOneAsIsDst},
 }
 use Rattle.tz_info.proofs.{
   ListLaws.{first_refusal},
-  RecordLaws.{records},
-  Words.{Bool, Decided, Decides-and, Decides-eqb, Decides-ltb, Err, Error, Gives, HasNoZero, HasTypeFault, IsMark, IsNameOrNone, IsUtOffset, List, LocalType},
-  Words.{MatchResult, No_text, None, Ok, Option, Other_mark, Other_type, Result, Some, SpellTypes, SpellsType, StandsAt, TypeFault, [], ap, arith, bind},
-  Words.{bind_err, by_error, choice, cond, designation_at, designation_of, done, drop, drop_front, expected_of_place, expected_of_type, false, false_unless},
-  Words.{front_of, guard, inl, inr, int_lt, is_name_or_none, is_zero, least_offset, length, length-append, length-take, like, lt_is, lt_true, mark_in, mark_of},
-  Words.{name_test, nat_lt, offset_in, place_in, pos, position_from, record_at, refl, refused, subst, suc, sym, take, take-append-drop, take-append_seam},
-  Words.{text_before_zero, true, type_in, type_of, type_of_record, values_below, with_next_type, ℕ, ℤ, ◌*◌, ◌++◌, ◌+◌, ◌<ℤ◌, ◌<◌, ◌==◌, ◌∙◌, ◌∷◌, ◌≡◌, ◌≤ℤ◌},
-  Words.{◌⊎◌},
+  ContentLaws.{records},
+  Words.{Bool, Decided, Decides, Decides-and, Decides-eqb, Decides-ltb, Err, Error, Gives, HasNoZero, HasTypeFault, IsMark, IsNameOrNone, IsUtOffset, List},
+  Words.{LocalType, MatchResult, No_text, None, Ok, Option, Other_mark, Other_type, Result, Some, SpellTypes, SpellsType, StandsAt, TypeFault, [], ap, arith},
+  Words.{bind, bind_err, by_error, choice, designation_at, designation_of, done, drop, drop_front, expected_of_place, expected_of_type, false, front_of, guard},
+  Words.{inl, inr, int_lt, is_name_or_none, is_zero, least_offset, length, length-append, length-take, like, lt_is, lt_true, mark_in, mark_of, name_test},
+  Words.{nat_tests, offset_in, place_in, pos, position_from, record_at, refl, refused, suc, sym, take, take-append-drop, take-append_seam, text_before_zero},
+  Words.{true, type_in, type_of, type_of_record, values_below, with_next_type, ℕ, ℤ, ◌*◌, ◌++◌, ◌+◌, ◌<ℤ◌, ◌<◌, ◌==◌, ◌∙◌, ◌∷◌, ◌≡◌, ◌≤ℤ◌, ◌⊎◌},
 }
 
 -- ---- the next 0 byte
 zero_takes : (text : List ℕ) (i n : ℕ) → position_from is_zero i text ≡ Some n
     → (m : ℕ) × (n ≡ i + m) × (after : List ℕ) × (text ≡ take m text ++ (0 ∷ after)) × HasNoZero (take m text)
 zero_takes [] i n h = cc
-zero_takes (b ∷ bs) i n h = elim (b == 0) as (λ t. (b == 0) ≡ t → cond t (Some i) (position_from is_zero (i + 1) bs) ≡ Some n
-    → (m : ℕ) × (n ≡ i + m) × (after : List ℕ) × (b ∷ bs ≡ take m (b ∷ bs) ++ (0 ∷ after)) × HasNoZero (take m (b ∷ bs))) [
-      | true ↦ λ t k. let z : b ≡ 0 = grind arith in let e : i ≡ n = cc in (0, omega arith, bs, rw z, tt)
-      | false ↦ λ t k. let r = zero_takes bs _ n k in (suc r.0, omega arith, r.2, ap (λ s. b ∷ s) r.3, ((λ z. grind arith), r.4))
-    ] refl h
+zero_takes (b ∷ bs) i n h = elim (cases_Bool (b == 0)) [
+  | inl t ↦ let k = rw t at h in let z : b ≡ 0 = grind arith in let e : i ≡ n = cc in (0, omega arith, bs, rw z, tt)
+  | inr t ↦ let r = zero_takes bs _ n (rw t at h) in (suc r.0, omega arith, r.2, ap (λ s. b ∷ s) r.3, ((λ z. grind arith), r.4))
+]
 
 zero_again : (text after : List ℕ) (i : ℕ) → HasNoZero text → position_from is_zero i (text ++ (0 ∷ after)) ≡ Some (i + length text)
 zero_again [] _ i h = ap (λ n. Some n) (omega arith)
@@ -32,10 +31,7 @@ zero_again (b ∷ bs) after i h = grind (arith, zero_again bs after (i + 1) h.1)
 -- ---- the text at a place
 front_law : (text : List ℕ) (o : Option ℕ)
     → Decided (List ℕ) (front_of text o) (λ x. (n : ℕ) × (o ≡ Some n) × (take n text ≡ x)) (λ e. (o ≡ None) × (e ≡ InvalidTzFile ZeroByteAfterName))
-front_law _ None = like (refused (InvalidTzFile ZeroByteAfterName) (omega arith)) (λ x h. absurd h) (λ x h. let e = h.1 in
-    cc) (λ e h. (refl, h)) (λ e h. h.1)
-front_law text (Some n) = like (done (take n text)) (λ x h. (n, refl, h)) (λ x h. let same : n ≡ h.0 = let e = h.1 in cc in
-    rw same h.2) (λ e h. absurd h) (λ e h. cc)
+front_law text o = grind arith
 
 abbrev Place : List ℕ → ℕ → Option ℕ
 Place names i = position_from is_zero 0 (drop i names)
@@ -50,26 +46,14 @@ text_takes names i n x inside e same =
       after = r.2;
       whole = sym (take-append-drop i names) ∙ ap (λ s. take i names ++ s) (r.3 ∙ ap (λ s. s ++ (0 ∷ r.2)) same);
       at = omega (arith, length-take i names);
-      ends = subst HasNoZero same r.4;
+      ends = rw same at r.4;
     }
 
 text_again : (names : List ℕ) (i : ℕ) (x : List ℕ) → StandsAt names i x
     → (i < length names) × (Place names i ≡ Some (length x)) × (take (length x) (drop i names) ≡ x)
 text_again names i x s =
     let after : drop i names ≡ x ++ (0 ∷ s.after) = rw (s.whole, ← s.at) (drop_front s.before (x ++ (0 ∷ s.after))) in
-    let inside = ap length s.whole ∙ length-append s.before (x ++ (0 ∷ s.after)) in
-    let behind = length-append x (0 ∷ s.after) in (
-      omega arith,
-      rw after (zero_again x _ 0 s.ends ∙ ap (λ n. Some n) (omega arith)),
-      rw after (take-append_seam x (0 ∷ s.after)),
-    )
-
--- what is expected of the place, whether it lies within the names or not
-place_inside : (names : List ℕ) (i : ℕ) → i < length names → expected_of_place names i ≡ ZeroByteAfterName
-place_inside names i inside = rw ((Decides-ltb i (length names)).1 inside)
-
-place_outside : (names : List ℕ) (i : ℕ) → ¬ (i < length names) → expected_of_place names i ≡ NameWithinDesignations
-place_outside names i outside = rw (false_unless (nat_lt i (length names)) (λ t. outside ((Decides-ltb i (length names)).0 t)))
+    grind (arith, length-append, zero_again, take-append_seam)
 
 text_law : (names : List ℕ) (i : ℕ)
     → Decided (List ℕ) (designation_at names i) (StandsAt names i)
@@ -77,29 +61,21 @@ text_law : (names : List ℕ) (i : ℕ)
 unfolding designation_at text_before_zero
 text_law names i = by_error (InvalidTzFile (expected_of_place names i))
     (choice (Decides-ltb i (length names)) (front_law _ _) (refused (InvalidTzFile NameWithinDesignations) (omega arith)))
-    (λ x h. elim h [ inl k ↦ text_takes _ i _ x k.0 k.1.1 k.1.2 | inr k ↦ absurd k.1 ])
-    (λ x s. let t = text_again _ i x s in inl (t.0, (length x, t.1, t.2)))
-    (λ e h. elim h [ inl k ↦ k.1.1 ∙ ap InvalidTzFile (sym (place_inside _ i k.0)) | inr k ↦ k.1 ∙ ap InvalidTzFile (sym (place_outside _ i k.0)) ])
+    (λ x h. grind (arith, text_takes))
+    (λ x s. let t = text_again _ i x s in grind arith)
+    (λ e h. grind (arith, nat_tests))
 
 -- ---- a type
-named_is : (o : Option (List ℕ)) → is_name_or_none o ≡ true → IsNameOrNone o
-named_is None h = tt
-named_is (Some text) h = (name_test text).decides.0 h
-
-named_again : (o : Option (List ℕ)) → IsNameOrNone o → is_name_or_none o ≡ true
-named_again None h = refl
-named_again (Some text) h = (name_test text).decides.1 h
-
-mark_again : (b : ℕ) (d : Bool) → IsMark b d → ((b ≡ 0) × (false ≡ d)) ⊎ (¬ (b ≡ 0) × ((b ≡ 1) × (true ≡ d)))
-mark_again b true h = inr (λ z. omega arith, (h, refl))
-mark_again b false h = inl (h, refl)
+named : (o : Option (List ℕ)) → Decides (is_name_or_none o) (IsNameOrNone o)
+named None = (λ _. tt, λ _. refl)
+named (Some text) = (name_test text).decides
 
 mark_law : (b : ℕ) → Decided Bool (mark_of b) (IsMark b) (λ e. ((d : Bool) → ¬ (IsMark b d)) × (e ≡ InvalidTzFile ZeroOrOneAsIsDst))
 mark_law b = by_error (InvalidTzFile ZeroOrOneAsIsDst)
     (choice (Decides-eqb b 0) (done false) (guard true (InvalidTzFile ZeroOrOneAsIsDst) (omega arith) (Decides-eqb b 1)))
-    (λ d h. elim h [ inl k ↦ subst (IsMark b) k.1 k.0 | inr k ↦ subst (IsMark b) k.1.1 k.1.0 ])
-    (mark_again b)
-    (λ n h. elim h [ inl k ↦ absurd k.1 | inr k ↦ k.1.1 ])
+    (λ d h. grind arith)
+    (λ d h. grind arith)
+    (λ n h. grind arith)
 
 abbrev ReadFault : List ℕ → List ℕ → Error → Type 0
 ReadFault names bytes e =
@@ -111,16 +87,14 @@ ReadFault names bytes e =
     × (e ≡ LocalTimeType (expected_of_type (offset_in bytes) (designation_of text)))))))
 
 fault_is : (names bytes : List ℕ) (e : Error) → ReadFault names bytes e → TypeFault names bytes e
-fault_is names bytes e (inl m) = subst (λ k. TypeFault names bytes k) (sym m.1) (Other_mark m.0)
+fault_is names bytes e (inl m) = rw m.1 (Other_mark m.0)
 fault_is names bytes e (inr m) = elim m.2 [
-  | inl t ↦ subst (λ k. TypeFault names bytes k) (sym t.1) (No_text m.0 m.1 t.0)
-  | inr t ↦ subst (λ k. TypeFault names bytes k) (sym t.2.1) (Other_type m.0 t.0 m.1 t.1 t.2.0)
+  | inl t ↦ rw t.1 (No_text m.0 m.1 t.0)
+  | inr t ↦ rw t.2.1 (Other_type m.0 t.0 m.1 t.1 t.2.0)
 ]
 
 fault_again : (names bytes : List ℕ) (e : Error) → TypeFault names bytes e → ReadFault names bytes e
-fault_again _ _ e (Other_mark none) = inl (none, refl)
-fault_again names bytes e (No_text dst mark none) = inr (dst, mark, inl (none, refl))
-fault_again names bytes e (Other_type dst text mark stands bad) = inr (dst, mark, inr (text, stands, (bad, refl)))
+fault_again names bytes e f = grind arith
 
 pub type_law : (names bytes : List ℕ) → Decided LocalType (type_of_record names bytes) (SpellsType names bytes) (TypeFault names bytes)
 unfolding type_of_record type_of
@@ -128,10 +102,9 @@ type_law _ bytes = like
     (bind (mark_law _) (λ dst _. bind (text_law _ _) (λ text _.
     guard (record { offset = offset_in bytes; dst = dst; name = designation_of text })
     (LocalTimeType (expected_of_type (offset_in bytes) (designation_of text))) (omega arith)
-    (Decides-and (int_lt least_offset (offset_in bytes)) (is_name_or_none (designation_of text))
-    (lt_is _ _, lt_true _ _) (named_is _, named_again _)))))
+    (Decides-and (int_lt least_offset (offset_in bytes)) (is_name_or_none (designation_of text)) (lt_is _ _, lt_true _ _) (named _)))))
     (λ t h. grind arith)
-    (λ t p. (t.dst, p.mark, (p.text, p.stands, ((rw p.offset p.above_least, rw p.name p.name_fits), rw (p.offset, p.name)))))
+    (λ t p. grind arith)
     (fault_is _ _)
     (fault_again _ _)
 
@@ -145,10 +118,7 @@ pub next_refused : (n k : ℕ) (names part : List ℕ) (types : List LocalType) 
     → (e ≡ OutOfMemory) ⊎ (with_next_type names (record_at 6 part k) types ≡ Err e) → (e ≡ OutOfMemory) ⊎ (values_below n (type_in names part) ≡ Err e)
 next_refused n k names part _ e b h r = elim r [
   | inl m ↦ inl m
-  | inr m ↦ elim (bind_err (type_of_record names (record_at 6 part k)) _ e m) [
-    | inl q ↦ inr (first_refusal n k _ _ e b h q)
-    | inr q ↦ cc
-  ]
+  | inr m ↦ elim (bind_err (type_of_record names (record_at 6 part k)) _ e m) [ inl q ↦ inr (first_refusal n k _ _ e b h q) | inr q ↦ cc ]
 ]
 
 -- ---- what the constructor answers
@@ -158,5 +128,4 @@ pub type_answers : (offset : ℤ) (dst : Bool) (text : List ℕ) (name : Option 
     (λ e. (e ≡ LocalTimeType (expected_of_type offset name)) × ¬ (IsUtOffset offset × IsNameOrNone name))
     → Gives (λ t. t) r (type_of offset dst text)
 unfolding type_of
-type_answers _ dst _ _ (Ok t) low high same h = grind (arith, named_again)
-type_answers offset dst text name (Err e) low high same h = grind (arith, named_is)
+type_answers offset dst text name r low high same h = grind (arith, named)

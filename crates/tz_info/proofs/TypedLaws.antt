@@ -5,8 +5,8 @@ use Rattle.tz_info.proofs.{
   SegmentLaws.{segment_most, segments_rise},
   SpanLaws.{all_come, out_of_years, typed_between},
   Words.{AreLeapSeconds, IsAfterTyped, IsFirstTyped, IsFromLast, IsLastTyped, IsLeapTime, IsLeapTimeRefused, IsRefusedBy, IsRuleOrNone, IsSearched},
-  Words.{IsTypeRefused, IsTyped, IsValid, LeapSecond, List, None, Option, SFits, Some, TransitionRule, Zone, arith, by_leap_time, by_lt_z, by_rule, inl, inr},
-  Words.{least_time, length, linear, neg_ℤ, pos, refl, subst, w64, ℤ, ◌+ℤ◌, ◌-ℤ◌, ◌<ℤ◌, ◌<◌, ◌≡◌, ◌≤ℤ◌},
+  Words.{IsTypeRefused, IsValid, LeapSecond, List, None, Option, SFits, Some, TransitionRule, Zone, arith, by_leap_time, by_lt_z, by_rule, inl, inr},
+  Words.{least_time, length, linear, neg_ℤ, pos, refl, w64, ℤ, ◌+ℤ◌, ◌-ℤ◌, ◌<ℤ◌, ◌<◌, ◌≡◌, ◌≤ℤ◌},
   ZoneChanges.{refused_on, to_rule},
   ZoneLaws.{type_decided},
 }
@@ -22,8 +22,8 @@ module _ (z : Zone) (valid : IsValid z) (limits : IsRuleOrNone z.rule) where
   -- if the first second of 64 bits has no type, the first one that has is that of the rule's years
   first_by : (rule : Option TransitionRule) (x : ℤ) → z.rule ≡ rule → (0 < length z.transitions → IsLeapTime z.leaps least_time x) → IsFromLast z x
       → IsRefusedBy rule least_time → IsFirstTyped z (neg_ℤ (pos 67_768_100_504_812_800))
-  first_by None x is l last refused = absurd refused
-  first_by (Some (Fixed f)) x is l last refused = absurd refused
+  first_by None _ _ _ _ refused = absurd refused
+  first_by (Some (Fixed _)) _ _ _ _ refused = absurd refused
   first_by (Some (Alternate a)) x is l last refused = record {
     fits = omega arith;
     typed = elim (type_decided z (neg_ℤ (pos 67_768_100_504_812_800)) valid limits) [ inl typed ↦ typed | inr refused ↦ absurd (in_years refused) ];
@@ -58,4 +58,4 @@ pub after_typed : (z : Zone) (last : ℤ) → SFits w64 last → IsLastTyped z l
 after_typed z last fits h not =
     let next = by_lt_z last (pos 9_223_372_036_854_775_807) (λ l. omega linear) (λ m. absurd (not (omega linear))) in
     let back : last ≡ (last +ℤ pos 1) -ℤ pos 1 = omega linear in
-    record { fits = next; typed = subst (IsTyped z) back h.typed; after = h.none (last +ℤ pos 1) next (omega linear) }
+    record { fits = next; typed = rw back at h.typed; after = h.none (last +ℤ pos 1) next (omega linear) }

@@ -1,5 +1,4 @@
 -- The law of a whole file, and what it says of a reader: a file is a zone's or has one first fault.
-use Rattle.std.proofs.lemmas.Option.{same_Some}
 use Rattle.tz_base.specs.declared.error.{Error.TheVariants.{InvalidTzFile, OutOfMemory}, Expected.TheVariants.{StandardTimeWhereTimeIsUt}}
 use Rattle.tz_info.proofs.{
   ContentLaws.{indicators_law, leap_seconds_law, transitions_law},
@@ -10,8 +9,8 @@ use Rattle.tz_info.proofs.{
   Words.{Bool, ContentFault, Decided, Err, Error, FilePieces, FooterFault, GivesInMemory, HasLengths, HasPieces, HasRule, HasTypeFault, IfErr, IfOk},
   Words.{In_contents, In_file, In_footer, In_indicators, In_piece, In_type, IndicatorsAgree, IsErrAnd, IsFileFault, IsOutOfMemory, IsTzFile, IsValid},
   Words.{IsZoneFault, List, ListFault, Lists, LocalType, No_memory, None, Not_valid, Ok, Option, PieceFault, Reads, Result, SayZone, Some, SpellTransitions},
-  Words.{SpellTypes, TimeZone, Transition, TransitionRule, Zone, ap, apart, arith, bind, done, either, error_number, fault_low as low, fault_once as one_fault},
-  Words.{file_at, footer_of, inl, inr, like, lists_in, made, pieces_at, refl, subst, sym, value_once, with_rule, with_types, zone_of_lists, ℕ, ◌≡◌, ◌≤◌, ◌⊎◌},
+  Words.{SpellTypes, TimeZone, Transition, TransitionRule, Zone, apart, arith, bind, either, error_number, fault_low as low, fault_once as one_fault, file_at},
+  Words.{footer_of, inl, inr, like, lists_in, made, pieces_at, refl, value_once, with_rule, with_types, zone_of_lists, ℕ, ◌≡◌, ◌≤◌, ◌⊎◌},
 }
 
 -- ---- what whole pieces say
@@ -20,10 +19,8 @@ RuleFault extended footer e = (bytes : List ℕ) × (footer ≡ Some bytes) × F
 
 footer_law : (extended : Bool) (footer : Option (List ℕ))
     → Decided (Option TransitionRule) (footer_of extended footer) (HasRule extended footer) (RuleFault extended footer)
-footer_law _ None = like (done None) (λ rule h. sym h) (λ rule h. sym h) (λ n f. absurd f) (λ n f. cc)
-footer_law extended (Some bytes) =
-    like (footer_bytes_law extended bytes) (λ rule h. h) (λ rule h. h) (λ n f. (bytes, refl, f))
-    (λ n f. subst (λ b. FooterFault extended b n) (sym (same_Some bytes f.0 f.1)) f.2)
+footer_law _ None = grind arith
+footer_law extended (Some bytes) = grind (arith, footer_bytes_law extended bytes)
 
 abbrev ReadFault : FilePieces → Error → Type 0
 ReadFault p n =
@@ -34,20 +31,8 @@ ReadFault p n =
     ⊎ ((rule : Option TransitionRule) × HasRule p.extended p.footer rule × (⊥
     ⊎ ((ts : List Transition) × SpellTransitions p.time_size p.parts.times p.parts.type_indexes ts × ⊥)))))))
 
-content_fault : (p : FilePieces) (n : Error) → ReadFault p n → ContentFault p n
-content_fault p n (inl f) = In_type n f
-content_fault p n (inr t) = elim t.2 [
-  | inl f ↦ subst (λ k. ContentFault p k) (sym f.1) (In_indicators t.0 t.1 f.0)
-  | inr i ↦ elim i.2 [
-    | inl f ↦ In_footer t.0 f.0 n t.1 i.1 f.1 f.2
-    | inr r ↦ elim r.2 [ inl f ↦ absurd f | inr s ↦ absurd s.2 ]
-  ]
-]
-
 fault_again : (p : FilePieces) (n : Error) → ContentFault p n → ReadFault p n
-fault_again p n (In_type m f) = inl f
-fault_again p n (In_indicators types spelled bad) = inr (types, spelled, inl (bad, refl))
-fault_again p n (In_footer types footer m spelled agree is f) = inr (types, spelled, inr (tt, agree, inl (footer, is, f)))
+fault_again p n f = grind arith
 
 say_law : (p : FilePieces) → HasLengths p → Decided Zone (lists_in p) (SayZone p) (ContentFault p)
 unfolding lists_in with_types with_rule
@@ -59,8 +44,8 @@ say_law p l = like
     made (λ leaps. record { transitions = transitions; types = types; leaps = leaps; rule = rule })
     (leap_seconds_law _ _ _ l.leap_seconds))))))
     (λ z h. grind arith)
-    (λ z s. (z.types, s.types, (tt, s.indicators, (z.rule, s.rule, (z.transitions, s.transitions, (z.leaps, s.leaps, refl))))))
-    (content_fault p)
+    (λ z s. grind arith)
+    (λ n f. grind (arith, In_type, In_indicators, In_footer))
     (fault_again p)
 
 -- ---- the whole
@@ -78,76 +63,68 @@ one_zone _ = value_once (file_law _)
 
 -- ---- the first fault
 spelling_fault : (bytes : List ℕ) (n : Error) → SpellingFault bytes n → IsFileFault bytes n
-spelling_fault _ n (inl f) = In_piece n f
-spelling_fault bytes n (inr f) = In_contents n f.0 f.1 f.2
+spelling_fault bytes n f = grind (arith, In_piece, In_contents)
 
 abbrev ValidityFault : List ℕ → Error → Type 0
 ValidityFault bytes e = (z : Zone) × IsTzFile bytes z × ListFault z e
 
 kind_of : (bytes : List ℕ) (e : Error) → IsFileFault bytes e → SpellingFault bytes e ⊎ ValidityFault bytes e
-kind_of _ e (In_piece m f) = inl (inl f)
-kind_of bytes e (In_contents m p whole f) = inl (inr (p, whole, f))
-kind_of bytes e (Not_valid z m file bad) = inr (z, file, bad)
+kind_of bytes e f = grind arith
 
 pub fault_once : (bytes : List ℕ) (d e : Error) → IsFileFault bytes d → IsFileFault bytes e → d ≡ e
 fault_once bytes d e f g = elim (kind_of _ d f) [
-  | inl a ↦ elim (kind_of _ e g) [
-    | inl b ↦ one_fault (file_law bytes) d e a b
-    | inr b ↦ absurd (apart (file_law _) b.0 d b.1 a)
-  ]
+  | inl a ↦ elim (kind_of _ e g) [ inl b ↦ one_fault (file_law bytes) d e a b | inr b ↦ absurd (apart (file_law _) b.0 d b.1 a) ]
   | inr a ↦ elim (kind_of _ e g) [
     | inl b ↦ absurd (apart (file_law bytes) a.0 e a.1 b)
-    | inr b ↦ list_fault_once b.0 d e (subst (λ y. ListFault y d) (one_zone bytes a.0 b.0 a.1 b.1) a.2) b.2
+    | inr b ↦ list_fault_once b.0 d e (rw (one_zone bytes a.0 b.0 a.1 b.1) at a.2) b.2
   ]
 ]
 
 pub fault_or_zone : (bytes : List ℕ) (e : Error) (z : Zone) → IsFileFault bytes e → IsTzFile bytes z → IsValid z → ⊥
 fault_or_zone bytes e z f file valid = elim (kind_of _ e f) [
   | inl a ↦ apart (file_law _) z e file a
-  | inr a ↦ list_fault_or_valid a.0 e a.2 (subst (λ y. IsValid y) (one_zone _ z a.0 file a.1) valid)
+  | inr (y, of, bad) ↦ list_fault_or_valid y e bad (rw (one_zone _ z y file of) at valid)
 ]
 
 pub has_fault : (bytes : List ℕ) → ((z : Zone) → IsTzFile bytes z → ¬ (IsValid z)) → (e : Error) × IsFileFault bytes e
 has_fault bytes none = elim (either (file_law bytes)) [
-  | inl z ↦ let f = has_list_fault z.0 (none z.0 z.1) in (f.0, Not_valid z.0 f.0 z.1 f.1)
-  | inr f ↦ (f.0, spelling_fault _ f.0 f.1)
+  | inl z ↦ let f = has_list_fault z.0 (none z.0 z.1) in (_, Not_valid z.0 _ z.1 f.1)
+  | inr f ↦ (_, spelling_fault _ _ f.1)
 ]
 
 -- it is not running out of memory
 pub fault_low : (bytes : List ℕ) (e : Error) → IsFileFault bytes e → error_number e ≤ 16
-fault_low bytes e f = elim (kind_of _ e f) [ inl a ↦ low (file_law _) e a | inr a ↦ list_fault_low a.0 e a.2 ]
+fault_low bytes e f = grind (arith, low (file_law bytes), list_fault_low)
 
 -- ---- what the reader of the lists answers
 pub reads : (bytes : List ℕ) (p : FilePieces) (r : Result Lists Error) → pieces_at bytes ≡ Ok p → GivesInMemory zone_of_lists r (lists_in p) → Reads r bytes
 unfolding file_at
-reads _ p (Ok lists) h g = rw h g
-reads bytes p (Err e) h g = elim g [ inl memory ↦ inr (memory, p, h) | inr refused ↦ inl (rw h refused) ]
+reads bytes p r h g = grind arith
 
 pub no_pieces : (bytes : List ℕ) (e : Error) → pieces_at bytes ≡ Err e → Reads (Err e) bytes
 unfolding file_at
-no_pieces _ e h = inl (rw h)
+no_pieces bytes e h = grind arith
 
 pub found : (bytes : List ℕ) (lists : Lists) → Reads (Ok lists) bytes → IsTzFile bytes (zone_of_lists lists)
 found bytes lists = (file_law _).takes (zone_of_lists lists)
 
 pub only : (bytes : List ℕ) (e : Error) → Reads (Err e) bytes → (z : Zone) → IsTzFile bytes z → e ≡ OutOfMemory
-only _ e (inl refused) z file = let read = (file_law _).again z file in cc
-only bytes e (inr memory) z file = memory.0
+only bytes e r z file = let read = (file_law _).again z file in grind arith
 
 pub fault : (bytes : List ℕ) (e : Error) → Reads (Err e) bytes → IsZoneFault bytes e
 fault _ e (inl refused) = In_file e (spelling_fault _ e ((file_law _).fails e refused))
 fault bytes e (inr memory) = rw memory.0 (No_memory memory.1 ((pieces_law _).takes memory.1 memory.2))
 
 pub memory : (bytes : List ℕ) (e : Error) → Reads (Err e) bytes → e ≡ OutOfMemory → (p : FilePieces) × HasPieces bytes p
-memory _ e (inl refused) is = let low = (file_law _).low e refused in let n : error_number e ≡ 17 = ap error_number is in absurd (omega arith)
-memory bytes e (inr whole) is = (whole.1, (pieces_law _).takes whole.1 whole.2)
+memory _ e (inl refused) is = let low = (file_law _).low e refused in grind arith
+memory _ _ (inr whole) _ = (whole.1, (pieces_law _).takes whole.1 whole.2)
 
 -- ---- what a reader of zones answers
 -- of a file with a fault that one is named, unless memory ran out
 pub named : (bytes : List ℕ) (r : Result TimeZone Error) → IfOk r (λ z. IsTzFile bytes z × IsValid z) → IfErr r (λ e. IsZoneFault bytes e)
     → (fault : Error) → IsFileFault bytes fault → IsErrAnd r (λ e. (e ≡ fault) ⊎ IsOutOfMemory e)
-named _ (Ok z) ok err _ f = absurd (fault_or_zone _ _ z f ok.0 ok.1)
-named bytes (Err e) ok err fault f = by bytes e fault err f where
+named _ (Ok z) ok _ _ f = absurd (fault_or_zone _ _ z f ok.0 ok.1)
+named bytes (Err e) _ err fault f = by bytes e fault err f where
   by : (bytes : List ℕ) (d e : Error) → IsZoneFault bytes d → IsFileFault bytes e → (d ≡ e) ⊎ IsOutOfMemory d
-  by bytes d e (In_file k g) f = inl (fault_once _ k e g f)
-  by bytes d e (No_memory p whole) f = inr refl
+  by _ _ e (In_file k g) f = inl (fault_once _ k e g f)
+  by _ _ _ (No_memory _ _) _ = inr refl

@@ -1,7 +1,7 @@
 -- Whether a rule agrees with the last transition.
 use Rattle.tz_info.proofs.{
   RuleLaws.{rule_not_refused, rule_once},
-  Words.{Agrees, Bool, IsRuleRefused, IsTrue, IsUnixTime, IsUnixTimeRefused, LeapSecond, List, LocalType, RuleAt, Some, Transition, TransitionRule, inl, inr},
+  Words.{Agrees, Bool, IsRuleRefused, IsTrue, IsUnixTime, IsUnixTimeRefused, LeapSecond, List, LocalType, RuleAt, Some, Transition, TransitionRule, linear},
   Words.{slice_get, sym, ℤ, ◌↔◌, ◌∙◌, ◌≡◌},
 }
 
@@ -10,8 +10,7 @@ unix_time_once _ x u v a b = a.difference ∙ sym b.difference
 
 pub differs_without_time : (types : List LocalType) (leaps : List LeapSecond) (rule : TransitionRule) (last : Transition)
     → IsUnixTimeRefused leaps last.unix_leap_time → Agrees types leaps rule last → ⊥
-differs_without_time _ _ _ _ (inl least) h = h.of_transition.not_least least
-differs_without_time types leaps rule last (inr out) h = let e = h.of_transition.difference in out (rw e at h.of_transition.fits)
+differs_without_time types leaps rule last out h = grind linear
 
 -- a rule, and what it must agree with
 module _ (types : List LocalType) (leaps : List LeapSecond) (rule : TransitionRule) (last : Transition) (u : ℤ)
@@ -19,15 +18,7 @@ module _ (types : List LocalType) (leaps : List LeapSecond) (rule : TransitionRu
   -- whether the rule agrees is whether its type there and the listed one are the same
   pub agrees_if_same : (s t : LocalType) (same : Bool) → RuleAt rule u s → slice_get types last.type_index ≡ Some t → IsTrue same ↔ (s ≡ t)
       → IsTrue same ↔ Agrees types leaps rule last
-  agrees_if_same s t _ of_rule listed e = (
-    λ h. record { unix_time = u; of_transition = of_last; type = s; of_rule = of_rule; listed = rw (e.0 h) listed },
-    λ h. e.1 (
-        let time = unix_time_once _ _ u _ of_last h.of_transition in
-        let r = rule_once rule u s h.type of_rule (rw time h.of_rule) in
-        cc),
-  )
+  agrees_if_same s t same of_rule listed e = grind (linear, unix_time_once, rule_once)
 
   pub differs_without_rule : IsRuleRefused rule u → Agrees types leaps rule last → ⊥
-  differs_without_rule refused h =
-      let e = unix_time_once _ _ u _ of_last h.of_transition in
-      rule_not_refused rule u h.type (rw e h.of_rule) refused
+  differs_without_rule refused h = grind (linear, unix_time_once, rule_not_refused)

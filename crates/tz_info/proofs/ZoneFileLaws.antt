@@ -2,30 +2,24 @@
 use Rattle.tz_base.specs.declared.error.Error.TheVariants.{OutOfMemory}
 use Rattle.tz_info.proofs.{
   TzFileLaws.{one_zone},
-  Words.{Err, Error, FilePieces, HasPieces, IfErr, IfOk, In_file, IsTzFile, IsValid, IsZoneFault, List, ListFault, MatchResult, No_memory, Not_valid, Ok},
-  Words.{Result, TimeZone, Zone, inl, inr, subst, sym, ℕ, ◌∙◌, ◌≡◌, ◌⊎◌},
+  Words.{Error, FilePieces, HasPieces, IfErr, IfOk, In_file, IsTzFile, IsValid, IsZoneFault, List, ListFault, MatchResult, No_memory, Not_valid, Result},
+  Words.{TimeZone, Zone, linear, ℕ, ◌≡◌, ◌⊎◌},
 }
 
 -- what making a zone of lists answers
 abbrev pub Makes : Zone → Result TimeZone Error → Type 0
 Makes lists r = MatchResult r (λ z. IsValid lists × (z ≡ lists)) (λ e. (ListFault lists e × ¬ (IsValid lists)) ⊎ ((e ≡ OutOfMemory) × IsValid lists))
 
-pub made_found : (bytes : List ℕ) (lists : Zone) (r : Result TimeZone Error) → IsTzFile bytes lists → Makes lists r → IfOk r (λ z. IsTzFile bytes z × IsValid z)
-made_found bytes _ (Ok z) f m = (subst (λ y. IsTzFile bytes y) (sym m.1) f, subst (λ y. IsValid y) (sym m.1) m.0)
-made_found bytes lists (Err e) f m = tt
+-- the lists of a file, and what was made of them
+module _ (bytes : List ℕ) (lists : Zone) (r : Result TimeZone Error) (f : IsTzFile bytes lists) where
+  pub made_found : Makes lists r → IfOk r (λ z. IsTzFile bytes z × IsValid z)
+  made_found m = grind linear
 
-pub made_only : (bytes : List ℕ) (lists : Zone) (r : Result TimeZone Error) → IsTzFile bytes lists → Makes lists r
-    → (z : Zone) → IsTzFile bytes z → IsValid z → MatchResult r (λ y. y ≡ z) (λ e. e ≡ OutOfMemory)
-made_only _ _ (Ok y) f m z g v = m.1 ∙ one_zone _ _ z f g
-made_only bytes lists (Err e) f (inl m) z g v = absurd (m.1 (subst (λ y. IsValid y) (one_zone _ z _ g f) v))
-made_only bytes lists (Err e) f (inr m) z g v = m.0
+  pub made_only : Makes lists r → (z : Zone) → IsTzFile bytes z → IsValid z → MatchResult r (λ y. y ≡ z) (λ e. e ≡ OutOfMemory)
+  made_only m z g v = let one = one_zone bytes z lists g f in grind linear
 
-pub made_fault : (bytes : List ℕ) (lists : Zone) (r : Result TimeZone Error) → IsTzFile bytes lists → Makes lists r → IfErr r (λ e. IsZoneFault bytes e)
-made_fault _ _ (Ok y) f m = tt
-made_fault bytes lists (Err e) f (inl m) = In_file e (Not_valid lists e f m.0)
-made_fault bytes lists (Err e) f (inr m) = rw m.0 (No_memory f.0 f.1)
+  pub made_fault : Makes lists r → IfErr r (λ e. IsZoneFault bytes e)
+  made_fault m = grind (linear, In_file, Not_valid, No_memory)
 
-pub made_memory : (bytes : List ℕ) (lists : Zone) (r : Result TimeZone Error) → IsTzFile bytes lists
-    → IfErr r (λ e. e ≡ OutOfMemory → (p : FilePieces) × HasPieces bytes p)
-made_memory _ _ (Ok y) f = tt
-made_memory bytes lists (Err e) f = λ m. (f.0, f.1)
+  pub made_memory : IfErr r (λ e. e ≡ OutOfMemory → (p : FilePieces) × HasPieces bytes p)
+  made_memory = grind linear

@@ -5,17 +5,12 @@ use Rattle.tz_info.proofs.{
   SegmentLaws.{passed_here},
   Words.{HasType, IsBeforeLast, IsFromLast, IsLeapTime, IsLeapTimeRefused, IsRefusedBy, IsRuleOrNone, IsTypeOf, IsTypeRefused, IsValid, LeapSecond, List},
   Words.{LocalType, None, Option, RuleOrElse, SFits, Some, Transition, TransitionRule, TypeAt, Zone, [], arith, by_leap_time, by_lt_z, by_rule, cases_lt},
-  Words.{correction_at, corrections, count_by-le-length, error_number, get_or, index_at, inl, inr, int_le, last_else, le_false, le_true, length, length-filter},
-  Words.{linear, map, passed, pos, refl, slice_get, suc, sym, type_error, w64, zero, zone_of_rule, ℕ, ℤ, ⊎_elim, ◌+ℤ◌, ◌<◌, ◌∙◌, ◌∷◌, ◌≡◌, ◌≤◌, ◌⊎◌},
+  Words.{corrections, count_by-le-length, error_number, get_or, inl, inr, last_else, le_false, le_true, length, length-filter, linear, map, passed, pos, refl},
+  Words.{slice_get, suc, sym, type_error, w64, zero, zone_of_rule, ℕ, ℤ, ◌+ℤ◌, ◌<◌, ◌∙◌, ◌∷◌, ◌≡◌, ◌≤◌, ◌⊎◌},
 }
 
 passed_at_most : (z : Zone) (x : ℤ) → length (passed z.transitions x) ≤ length z.transitions
-passed_at_most z x =
-    omega (
-      arith,
-      length-filter (λ t. int_le t.unix_leap_time x) z.transitions,
-      count_by-le-length (λ t. int_le t.unix_leap_time x) z.transitions,
-    )
+passed_at_most z x = grind (arith, length-filter, count_by-le-length)
 
 pub before_or_from_last : (z : Zone) (x : ℤ) → IsBeforeLast z x ⊎ IsFromLast z x
 before_or_from_last z x = grind (linear, passed_at_most)
@@ -28,33 +23,19 @@ same_passed z u x y a b = passed_here z u x a ∙ sym (passed_here z u y b)
 pub some_once : (o : Option LocalType) (s t : LocalType) → o ≡ Some s → o ≡ Some t → s ≡ t
 some_once o s t h k = cc
 
-or_else_once : (rule : Option TransitionRule) (o : Option LocalType) (u : ℤ) (s t : LocalType) → RuleOrElse rule u (o ≡ Some s) s
-    → RuleOrElse rule u (o ≡ Some t) t → s ≡ t
-or_else_once (Some rule) o u s t h k = rule_once _ u s t h k
-or_else_once None o u s t h k = some_once o s t h k
-
 pub type_once : (z : Zone) (u : ℤ) (s t : LocalType) → TypeAt z u s → TypeAt z u t → s ≡ t
-type_once z u s t a b = grind (linear, same_passed, or_else_once, before_or_from_last)
+type_once z u s t a b = grind (linear, same_passed, rule_once, before_or_from_last)
 
 pub type_not_refused : (z : Zone) (u : ℤ) (t : LocalType) → TypeAt z u t → IsTypeRefused z u → ⊥
-type_not_refused z u t a (by_leap_time some r) = grind (linear, some)
-type_not_refused z u t a (by_rule x of_second last refused) = grind (arith, same_passed)
+type_not_refused z u t a r = grind (linear, same_passed)
 
 -- an item of a list
 pub inside_listed : {X : Type 0} (xs : List X) (i : ℕ) → i < length xs → (x : X) × (slice_get xs i ≡ Some x)
-inside_listed xs i h = ⊎_elim (λ found. (found.0, found.2)) (λ past. absurd (omega arith)) (slice_get_cases xs i).1
-
-or_else_listed : (rule : Option TransitionRule) (z : Zone) (u : ℤ) (i : ℕ) (t : LocalType) → RuleOrElse rule u (HasType z i t) t
-    → ((k : ℕ) × (k < length z.types) × HasType z k t) ⊎ IsTypeOf rule u t
-or_else_listed (Some rule) z u i t h = inr h
-or_else_listed None z u i t h = inl (i, slice_get_within _ i t h, h)
+inside_listed xs i h = let c = slice_get_cases xs i in grind arith
 
 -- a type in force is in the list or is the rule's
 pub type_listed : (z : Zone) (u : ℤ) (t : LocalType) → TypeAt z u t → ((k : ℕ) × (k < length z.types) × HasType z k t) ⊎ IsTypeOf z.rule u t
-type_listed z u t a = ⊎_elim
-    (λ h. let k = a.in_force.before_last h in inl (index_at z a.leap_time, slice_get_within _ (index_at z a.leap_time) t k, k))
-    (λ h. or_else_listed _ z u _ t (a.in_force.from_last h))
-    (before_or_from_last z _)
+type_listed z u t a = grind (linear, before_or_from_last, slice_get_within)
 
 pub fits_or_not : (a : ℤ) → SFits w64 a ⊎ (SFits w64 a → ⊥)
 fits_or_not a = grind arith
@@ -63,16 +44,13 @@ fits_or_not a = grind arith
 all_fit_or_not : (f : ℕ → ℤ) (n : ℕ) → ((k : ℕ) → k < n → SFits w64 (f k)) ⊎ ((k : ℕ) × (k < n) × (SFits w64 (f k) → ⊥))
 all_fit_or_not f zero = inl (λ k h. omega arith)
 all_fit_or_not f (suc n) = elim (all_fit_or_not f n) [
-  | inl all ↦ elim (fits_or_not _) [
-    | inl here ↦ inl (λ k h. elim (cases_lt k n) [ inl l ↦ all k l | inr g ↦ let e : k ≡ n = omega arith in rw e here ])
-    | inr out ↦ inr (n, omega arith, out)
-  ]
+  | inl all ↦ elim (fits_or_not (f n)) [ inl here ↦ inl (λ k h. grind (arith, all)) | inr out ↦ inr (n, omega arith, out) ]
   | inr some ↦ inr (some.0, omega arith, some.2)
 ]
 
 pub leap_time_decided : (leaps : List LeapSecond) (u : ℤ) → ((x : ℤ) × IsLeapTime leaps u x) ⊎ IsLeapTimeRefused leaps u
 leap_time_decided leaps u = elim (all_fit_or_not (λ k. u +ℤ get_or (corrections leaps) k (pos 0)) _) [
-  | inl all ↦ inl (u +ℤ correction_at leaps u, record { sum = refl; fits = all })
+  | inl all ↦ inl (_, record { sum = refl; fits = all })
   | inr some ↦ inr (record { place = some.0; passed = some.1; leaves = some.2 })
 ]
 
@@ -80,33 +58,30 @@ leap_time_decided leaps u = elim (all_fit_or_not (λ k. u +ℤ get_or (correctio
 pub last_index_below : (ts : List Transition) (x : ℤ) (d n : ℕ) → d < n → ((k : ℕ) (e : Transition) → k < length ts → (get_or ts k e).type_index < n)
     → last_else d (map (λ t. t.type_index) (passed ts x)) < n
 last_index_below [] x d n h all = h
-last_index_below (t ∷ ts) x d n h all = by_lt_z x t.unix_leap_time
-    (λ later. rw (le_false _ x later) (last_index_below ts x d n h (λ k e l. all (suc k) e (omega arith))))
-    (λ come. rw (le_true _ x come) (last_index_below ts x _ n (all 0 t (omega arith)) (λ k e l. all (suc k) e (omega arith))))
+last_index_below (t ∷ ts) x d n h all =
+    let more = λ (d : ℕ) (h : d < n). last_index_below ts x d n h (λ k e l. all (suc k) e (omega arith)) in
+    by_lt_z x t.unix_leap_time (λ later. rw (le_false _ x later) (more d h)) (λ come. rw (le_true _ x come) (more _ (all 0 t (omega arith))))
 
 or_else_decided : (rule : Option TransitionRule) (z : Zone) (u : ℤ) (i : ℕ) → i < length z.types → IsRuleOrNone rule
     → ((t : LocalType) × RuleOrElse rule u (HasType z i t) t) ⊎ IsRefusedBy rule u
-or_else_decided (Some rule) z u i h limits = rule_decided _ u limits
-or_else_decided None z u i h limits = inl (inside_listed _ i h)
+or_else_decided (Some rule) _ u _ _ limits = rule_decided _ u limits
+or_else_decided None _ _ i h _ = inl (inside_listed _ i h)
 
 decided_at : (z : Zone) (u x : ℤ) → IsValid z → IsRuleOrNone z.rule → (0 < length z.transitions → IsLeapTime z.leaps u x)
     → ((t : LocalType) × TypeAt z u t) ⊎ IsTypeRefused z u
 decided_at z u x valid limits of_second =
     let below = last_index_below _ x 0 _ valid.some valid.transitions.indexes in
+    let (t, listed) = inside_listed _ _ below in
     elim (before_or_from_last z x) [
-      | inl before ↦
-          let t = inside_listed _ _ below in
-          inl (t.0, record { leap_time = x; of_second = of_second; in_force = record { before_last = λ _. t.1; from_last = λ l. absurd (omega arith) } })
+      | inl before ↦ inl (t, record { leap_time = x; of_second = of_second; in_force = grind (arith, listed) })
       | inr last ↦ elim (or_else_decided _ z u _ below limits) [
-        | inl t ↦ inl
-            (t.0, record { leap_time = x; of_second = of_second; in_force = record { before_last = λ l. absurd (omega arith); from_last = λ _. t.1 } })
+        | inl t ↦ inl (t.0, record { leap_time = x; of_second = of_second; in_force = grind (arith, t.1) })
         | inr refused ↦ inr (by_rule x of_second last refused)
       ]
     ]
 
 pub type_error_number : (z : Zone) (u : ℤ) (refused : IsTypeRefused z u) → error_number (type_error refused) ≡ 2
-type_error_number z u (by_leap_time some refused) = refl
-type_error_number z u (by_rule x _ _ _) = refl
+type_error_number z u refused = grind linear
 
 pub type_decided : (z : Zone) (u : ℤ) → IsValid z → IsRuleOrNone z.rule → ((t : LocalType) × TypeAt z u t) ⊎ IsTypeRefused z u
 type_decided z u valid limits = elim (cases_lt 0 (length z.transitions)) [
@@ -119,5 +94,4 @@ type_decided z u valid limits = elim (cases_lt 0 (length z.transitions)) [
 
 -- a rule and types without transitions make a zone
 pub zone_of_rule_valid : (types : List LocalType) (rule : Option TransitionRule) → 0 < length types → IsValid (zone_of_rule types rule)
-zone_of_rule_valid types (Some rule) some = grind (linear, some)
-zone_of_rule_valid types None some = grind (linear, some)
+zone_of_rule_valid types rule some = grind linear

@@ -38,6 +38,7 @@ fn rule_of_text(extended: bool, text: &[u8]) -> Result<Option<TransitionRule>, E
     Ok(Some(read_all(text, extended)?))
 }
 
+#[tactic(auto, using(crate::proofs::FooterLaws::utf8_tests))]
 fn is_utf8(bytes: &[u8]) -> bool
     ensures { result ≡ is_utf8 bytes.now }
 {

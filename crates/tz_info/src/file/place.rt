@@ -45,7 +45,7 @@ fn place_in_pieces(bytes: &[u8]) -> usize
 }
 
 // The parts follow one another, and the footer ends the file.
-#[tactic(auto, using(crate::proofs::FilePlaceLaws::fit))]
+#[tactic(auto, using(crate::proofs::FilePlaceOnce::fit))]
 fn places_of_parts(bytes: &[u8], pieces: &Pieces<'_>) -> PartPlaces
     requires { HasPieces bytes.now (pieces_of pieces.now) }
     ensures places { ArePartPlaces (pieces_of pieces.now) result }

@@ -49,6 +49,7 @@ impl Lists {
 }
 
 /// The lists that the bytes of a file spell.
+#[tactic(auto, using(crate::proofs::TzFileLaws::no_pieces, crate::proofs::TzFileLaws::reads))]
 pub fn read_lists(alloc: Global, bytes: &[u8]) -> Result<Lists, Error>
     ensures lists { Reads result bytes.now }
     ensures magic { HasOtherMagic bytes.now

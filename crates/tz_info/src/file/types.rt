@@ -88,6 +88,7 @@ fn first_zero(bytes: &[u8]) -> Option<usize>
 
 // The type of an offset, a DST flag and a text: a function of its own, so that its clause says what
 // parsing one gives.
+#[tactic(auto, using(crate::proofs::TypeLaws::type_answers, crate::proofs::Ranges::in_range))]
 fn local_type(ut_offset: i32, is_dst: bool, text: &[u8]) -> Result<LocalTimeType, Error>
     ensures { Gives (λ t. t) result (type_of ut_offset is_dst text.now) }
 {

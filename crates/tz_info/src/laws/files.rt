@@ -20,6 +20,12 @@ pub fn rule_is_in_limits()
 
 /// A file has a fault if and only if it spells no valid zone. It has one first fault, and that is
 /// not running out of memory.
+#[tactic(auto, using(
+    crate::proofs::TzFileLaws::fault_low,
+    crate::proofs::TzFileLaws::fault_once,
+    crate::proofs::TzFileLaws::fault_or_zone,
+    crate::proofs::TzFileLaws::has_fault,
+))]
 pub fn fault_or_zone()
     ensures apart { (bytes : List ℕ) (e : Error) (zone : Zone) → IsFileFault bytes e
         → IsTzFile bytes zone → ¬ (IsValid zone) }
@@ -31,6 +37,10 @@ pub fn fault_or_zone()
 {}
 
 /// The fault of a file has one position, in the file or at its end.
+#[tactic(auto, using(
+    crate::proofs::FilePlaceOnce::file_place_once,
+    crate::proofs::FilePlaceOnce::file_place_within,
+))]
 pub fn fault_place()
     ensures once { (bytes : List ℕ) (a b : ℕ) → IsFilePlace bytes a → IsFilePlace bytes b
         → a ≡ b }
@@ -39,7 +49,7 @@ pub fn fault_place()
 {}
 
 /// The bytes from the position of the first part on are the parts, in order, and the footer.
-#[tactic(auto, using(crate::proofs::FilePlaceLaws::parts_stand))]
+#[tactic(auto, using(crate::proofs::FilePlaceOnce::parts_stand))]
 pub fn part_places()
     ensures { (bytes : List ℕ) (p : FilePieces) (q : PartPlaces) → HasPieces bytes p
         → ArePartPlaces p q → q.end ≡ length bytes

@@ -15,6 +15,12 @@ use crate::file::types::read_type;
 use tz_base::{Error, Expected};
 
 /// Returns the position of the first fault: in a type, an indicator, the footer or the lists.
+#[tactic(auto, using(
+    crate::proofs::FilePlaceOnce::footer_within,
+    crate::specs::FilePlaces::In_footer,
+    crate::specs::FilePlaces::In_indicators,
+    crate::specs::FilePlaces::In_type,
+))]
 pub fn place_in_contents(pieces: &Pieces<'_>, places: PartPlaces) -> usize
     requires lengths { HasLengths (pieces_of pieces.now) }
     requires places { ArePartPlaces (pieces_of pieces.now) places }
@@ -32,6 +38,7 @@ pub fn place_in_contents(pieces: &Pieces<'_>, places: PartPlaces) -> usize
     place_in_lists(pieces, places)
 }
 
+#[tactic(auto, using(crate::proofs::FilePlaceOnce::type_place))]
 fn fault_in_types(pieces: &Pieces<'_>) -> Option<usize>
     requires { HasLengths (pieces_of pieces.now) }
     ensures { MatchOption result (AreTypes (pieces_of pieces.now))

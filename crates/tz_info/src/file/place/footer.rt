@@ -20,6 +20,7 @@ pub fn fault_in_footer(pieces: &Pieces<'_>) -> Option<usize>
     }
 }
 
+#[tactic(auto, using(crate::specs::FilePlaces::Not_utf8))]
 fn fault_in_bytes(extended: bool, bytes: &[u8]) -> Option<usize>
     ensures { FaultInFooter extended (Some bytes.now) result }
 {
@@ -29,6 +30,14 @@ fn fault_in_bytes(extended: bool, bytes: &[u8]) -> Option<usize>
     }
 }
 
+#[tactic(auto, using(
+    crate::proofs::FilePlaceOnce::text_place,
+    crate::proofs::FilePlaceOnce::text_fits,
+    crate::proofs::FilePlaceOnce::text_says,
+    crate::proofs::FooterLaws::between,
+    crate::specs::FilePlaces::No_first,
+    crate::specs::FilePlaces::No_last,
+))]
 fn fault_in_utf8(extended: bool, bytes: &[u8]) -> Option<usize>
     requires { IsUtf8 bytes.now }
     ensures { FaultInFooter extended (Some bytes.now) result }
@@ -46,6 +55,15 @@ fn fault_in_utf8(extended: bool, bytes: &[u8]) -> Option<usize>
     }
 }
 
+#[tactic(auto, using(
+    crate::proofs::FilePlaceOnce::no_zero,
+    crate::proofs::PosixLaws::not_empty,
+    crate::proofs::TextLaws::fault_by,
+    crate::proofs::TextLaws::found_by,
+    crate::specs::FilePlaces::Colon,
+    crate::specs::FilePlaces::In_string,
+    crate::specs::FilePlaces::Zero,
+))]
 fn fault_in_text(extended: bool, text: &[u8]) -> Option<usize>
     ensures { FaultInText extended text.now result }
 {

@@ -14,6 +14,7 @@ use crate::zone::lists::valid::{is_first, is_next};
 
 /// Returns the position of the first fault of the lists that the pieces say: a type index, a time, a
 /// leap second, or else the footer's text.
+#[tactic(auto, using(crate::specs::FilePlaces::At_index))]
 pub fn place_in_lists(pieces: &Pieces<'_>, places: PartPlaces) -> usize
     requires lengths { HasLengths (pieces_of pieces.now) }
     requires places { ArePartPlaces (pieces_of pieces.now) places }

@@ -12,6 +12,7 @@ use crate::file::header::{
 use tz_base::Cursor;
 
 /// Returns how many bytes are left from the fault of the pieces on.
+#[tactic(auto, unfolding(crate::specs::FilePieces::file))]
 pub fn left_of_file(bytes: &[u8]) -> usize
     ensures { result ≡ length (from_fault file bytes.now) }
 {
@@ -22,6 +23,7 @@ pub fn left_of_file(bytes: &[u8]) -> usize
     }
 }
 
+#[tactic(auto, using(crate::proofs::FilePlaceOnce::block_left))]
 fn left_of_block(bytes: &[u8], header: &Header) -> usize
     ensures { result ≡ length (from_fault (after_header header.now) bytes.now) }
 {
@@ -33,6 +35,11 @@ fn left_of_block(bytes: &[u8], header: &Header) -> usize
 }
 
 // After the first block: nothing in version 1, or else a second header with its block.
+#[tactic(
+    auto,
+    using(crate::proofs::FilePlaceOnce::first_left),
+    unfolding(crate::specs::FilePieces::after_first_block),
+)]
 fn left_after_block(bytes: &[u8], version: Version) -> usize
     ensures { (c : Counts) (p : Parts)
         → result ≡ length (from_fault (after_first_block version c p) bytes.now) }
@@ -43,6 +50,11 @@ fn left_after_block(bytes: &[u8], version: Version) -> usize
     }
 }
 
+#[tactic(
+    auto,
+    using(crate::proofs::FilePlaceOnce::block_left),
+    unfolding(crate::specs::FilePieces::later_version),
+)]
 fn left_of_later(bytes: &[u8]) -> usize
     ensures { result ≡ length (from_fault later_version bytes.now) }
 {
@@ -64,12 +76,14 @@ fn left_of_header(bytes: &[u8], place: Place) -> usize
     }
 }
 
+#[tactic(auto, unfolding(crate::specs::FileHeaders::tzif, tz_base::specs::Fronts::exact_at))]
 fn left_of_magic(bytes: &[u8]) -> usize
     ensures { result ≡ length (from_fault tzif bytes.now) }
 {
     if bytes.len() < 4 { 0 } else { bytes.len() }
 }
 
+#[tactic(auto, using(crate::proofs::FilePlaceOnce::version_fault))]
 fn left_from_version(bytes: &[u8], place: Place) -> usize
     ensures { result ≡ length (from_fault (from_version place) bytes.now) }
 {
@@ -90,6 +104,7 @@ fn left_after_version(bytes: &[u8], version: Version) -> usize
     }
 }
 
+#[tactic(auto, using(crate::proofs::FilePlaceOnce::counts_left))]
 fn left_of_counts(bytes: &[u8], version: Version) -> usize
     ensures { result ≡ length (from_fault (counts_of version) bytes.now) }
 {

@@ -1,4 +1,4 @@
-use Rattle.tz_info.proofs.{FilePlaceLaws.{next_type, type_place}, Words.{arith, pieces_of}}
+use Rattle.tz_info.proofs.{FilePlaceOnce.next_type, Words.{arith, pieces_of}}
 use Rattle.tz_info.proofs.file.place.contents.fault_in_types.Goals as goal
 
 pub loop-k-preserved : goal.loop-k-preserved
@@ -7,6 +7,3 @@ loop-k-preserved c = next_type (pieces_of c.args.pieces.now) _ _ c.loop-k.invari
 
 pub returns : goal.returns
 returns c = λ k l. c.loop-k.invariant k (omega arith)
-
-pub returns-in-Err : goal.returns-in-Err
-returns-in-Err c = grind (arith, type_place)

@@ -1,4 +1,4 @@
-use Rattle.tz_info.proofs.{FilePlaceLaws.next_false, Words.arith}
+use Rattle.tz_info.proofs.{FilePlaceOnce.next_false, Words.arith}
 use Rattle.tz_info.proofs.file.place.lists.first_other_leap.Goals as goal
 
 pub loop-k-preserved : goal.loop-k-preserved

@@ -1,8 +1,5 @@
-use Rattle.tz_info.{proofs.FilePlaceLaws.space_is, specs.FilePlaces.{At_index, At_leap, At_rule, At_time}}
+use Rattle.tz_info.{proofs.FilePlaceOnce.space_is, specs.FilePlaces.{At_leap, At_rule, At_time}}
 use Rattle.tz_info.proofs.file.place.lists.place_in_lists.Goals as goal
-
-pub returns-in-Some : goal.returns-in-Some
-returns-in-Some c = At_index c.in-Some.k c.in-Some.ensures
 
 pub returns-in-Some-first_not_later : goal.returns-in-Some-first_not_later
 returns-in-Some-first_not_later c = At_time c.in-Some-first_not_later.k c.in_default.ensures c.in-Some-first_not_later.ensures
