@@ -1,9 +1,9 @@
 -- The segment whose types the rule gives: from the last transition on.
 use Rattle.tz_info.proofs.{
-  SegmentEndLaws.{begun_by, come_by, near_wide, shows_less},
+  SegmentEndLaws.{begun_by, come_by, shows_less},
   SegmentLaws.{segment_at, segment_most, type_from, type_in_from},
   TableLaws.{same_table, table_of, time_then, top_least},
-  WallSegments.{leap_time_of},
+  WallSegments.{leap_time_of, near_wide},
   Words.{IsFirstAtOrAfter, IsLeapTime, IsNear, IsValid, IsWide, LocalType, RuleAt, RuleOrType, SFits, Some, TransitionRule, TypeAt, Zone, arith, begin_of},
   Words.{cases_lt, inl, inr, length, linear, place_at, segment_of, table_count, top_of, w64, ℕ, ℤ, ◌<◌, ◌≡◌, ◌≤ℤ◌, ◌≤◌},
 }
@@ -23,7 +23,7 @@ module _ (z : Zone) (e : Entries) (rule : TransitionRule) (k : ℕ) (valid : IsV
   all_come u from fits time =
       let come = come_by e.items k u made.rising within from in
       let most = segment_most z u valid.transitions.rising in
-      let same = same_table z e u valid made fits time in
+      let same = same_table z e valid made u fits time in
       let all = all_of_table z rule is in
       elim (cases_lt (segment_of z u) (table_count z)) [
         | inl inside ↦ let c = same.0 inside in absurd (omega (arith, come, beyond))

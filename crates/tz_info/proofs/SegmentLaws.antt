@@ -12,10 +12,7 @@ use Rattle.tz_info.proofs.{
 -- no transition comes later than one after it in the list
 pub not_later : (ts : List Transition) (i k : ℕ) (d : Transition) → AreRising ts → i ≤ k → k < length ts
     → (get_or ts i d).unix_leap_time ≤ℤ (get_or ts k d).unix_leap_time
-not_later ts i k d r h l = elim (cases_lt i k) [
-  | inl m ↦ let q = r i k d m l in omega linear
-  | inr m ↦ let e : i ≡ k = omega arith in rw e (omega linear)
-]
+not_later ts i k d r h l = grind (linear, r i k d)
 
 -- a second between two neighbours of a list
 module _ (ts : List Transition) (x : ℤ) (n : ℕ) (b : Between ts x n n) where
@@ -32,21 +29,12 @@ module _ (ts : List Transition) (x : ℤ) (n : ℕ) (b : Between ts x n n) where
 
 -- transitions that rise are split by a leap time
 pub split_at : (ts : List Transition) (x : ℤ) → AreRising ts → (n : ℕ) × Between ts x n n
-split_at [] x r = (0, record { ordered = omega arith; within = omega arith; below = λ k d h. absurd (omega arith); above = λ k d h l. absurd (omega arith) })
+split_at [] x r = (0, grind arith)
 split_at (t ∷ ts) x r = by_lt_z x t.unix_leap_time
-    (λ later. (
-      0,
-      record {
-        ordered = omega arith;
-        within = omega arith;
-        below = λ k d h. absurd (omega arith);
-        above = λ k d a l.
-            let n = not_later (t ∷ ts) 0 k d r a l in omega linear;
-      },
-    ))
+    (λ later. (0, grind (linear, not_later (t ∷ ts) 0)))
     (λ come.
-    let p = split_at ts x (λ i j d h l. r (suc i) (suc j) d (omega arith) (omega arith)) in
-    let b = p.1 in (suc p.0, record { ordered = omega arith; within = omega arith; below = first_come ts x p.0 b t come; above = others_later ts x p.0 b t }))
+    let p = split_at ts x (λ i j d h l. r (suc i) (suc j) d (omega arith) (omega arith)) in let b = p.1 in
+    (suc p.0, grind (linear, first_come ts x p.0 b t, others_later ts x p.0 b t)))
 
 pub between_passed : (ts : List Transition) (x : ℤ) (n : ℕ) → AreRising ts → n ≤ length ts → passed ts x ≡ take n ts → Between ts x n n
 between_passed ts x n r h e =
@@ -71,15 +59,12 @@ segment_here z u r = segment_at z u _ r refl
 pub segment_most : (z : Zone) (u : ℤ) → AreRising z.transitions → segment_of z u ≤ length z.transitions
 segment_most z u r = (segment_here z u r).within
 
+any : Transition
+any = record { unix_leap_time = least_time; type_index = 0 }
+
 -- a greater number splits them later
 splits_rise : (ts : List Transition) (x y : ℤ) (m n : ℕ) → x ≤ℤ y → Between ts x m m → Between ts y n n → m ≤ n
-splits_rise ts x y m n h a b = elim (cases_lt n m) [
-  | inl l ↦
-      let d : Transition = record { unix_leap_time = x; type_index = 0 } in
-      let p = a.below n d l in let q = b.above n d (omega arith) (omega arith) in
-      omega linear
-  | inr l ↦ l
-]
+splits_rise ts x y m n h a b = grind (linear, a.below n any, b.above n any)
 
 -- segments rise with seconds
 pub segments_rise : (z : Zone) (u v : ℤ) → AreRising z.transitions → AreLeapSeconds z.leaps → u ≤ℤ v → segment_of z u ≤ segment_of z v
@@ -92,9 +77,11 @@ pub later_segment : (z : Zone) (u v : ℤ) → IsValid z → segment_of z u < se
 later_segment z u v valid h = grind (linear, segments_rise)
 
 -- ---- the begin of a segment
+begin_suc : (ts : List Transition) (i : ℕ) (d : Transition) → i < length ts → begin_of ts (suc i) ≡ (get_or ts i d).unix_leap_time
+begin_suc ts i d h = last_taken (λ (t : Transition). t.unix_leap_time) _ ts i d h
+
 pub begin_first : (ts : List Transition) → begin_of ts 0 ≡ least_time
-begin_first [] = refl
-begin_first (t ∷ ts) = refl
+begin_first ts = grind arith
 
 pub begin_next : (ts : List Transition) (i : ℕ) (d : Transition) → i < length ts → begin_of ts (i + 1) ≡ (get_or ts i d).unix_leap_time
 begin_next ts i d h = grind (linear, last_taken)
@@ -104,9 +91,7 @@ index_next ts i d h = grind (linear, last_taken)
 
 begun_before : (ts : List Transition) (x : ℤ) (i : ℕ) → least_time ≤ℤ x → Between ts x i i → begin_of ts i ≤ℤ x
 begun_before ts x zero h b = rw (begin_first ts) h
-begun_before ts x (suc i) h b =
-    let d : Transition = record { unix_leap_time = x; type_index = 0 } in
-    rw (last_taken (λ (t : Transition). t.unix_leap_time) _ ts i d (omega arith)) (b.below i d (omega arith))
+begun_before ts x (suc i) h b = grind (linear, begin_suc ts i any)
 
 -- a leap time is in segment i if it comes from the segment's begin on, and before the next transition
 pub record IsWithin (ts : List Transition) (i : ℕ) (x : ℤ) : Type 0 where
@@ -119,19 +104,10 @@ within_of ts i x h b = record { since = begun_before ts x i h b; until = λ d l.
 come_by : (ts : List Transition) (x : ℤ) (i : ℕ) → AreRising ts → i ≤ length ts → begin_of ts i ≤ℤ x → (k : ℕ) (d : Transition) → k < i
     → (get_or ts k d).unix_leap_time ≤ℤ x
 come_by ts x zero r w h k d l = absurd (omega arith)
-come_by ts x (suc i) r w h k d l =
-    let e = last_taken (λ (t : Transition). t.unix_leap_time) least_time ts i d (omega arith) in
-    let n = not_later ts k i d r (omega arith) (omega arith) in
-    omega linear
+come_by ts x (suc i) r w h k d l = grind (linear, begin_suc ts i d, not_later ts k i d)
 
 pub between_of : (ts : List Transition) (i : ℕ) (x : ℤ) → AreRising ts → i ≤ length ts → IsWithin ts i x → Between ts x i i
-between_of ts i x r w h = record {
-  ordered = omega arith;
-  within = w;
-  below = come_by ts x i r w h.since;
-  above = λ k d a l. let n = not_later ts i k d r a l in
-      let u = h.until d (omega arith) in omega linear;
-}
+between_of ts i x r w h = grind (linear, come_by ts x i, not_later ts i)
 
 -- ---- the type in a segment
 -- a leap time of the second, which matters only if there are transitions
@@ -154,7 +130,7 @@ come_by_time ts x k d rising h =
     let p = split_at ts x rising in
     let e = split_count ts x p.0 p.1 in (
       (λ c. p.1.below k d (omega arith)),
-      (λ c. elim (cases_lt k p.0) [ inl l ↦ omega arith | inr m ↦ let q = p.1.above k d m h in omega linear ]),
+      (λ c. grind (linear, p.1.above k d)),
     )
 
 -- a type at a second of a zone whose transitions rise
@@ -183,7 +159,7 @@ type_in_before z i u x t l b h k =
     let e = search_found _ x i i (omega arith) b in
     let c = split_count _ x i b in
     record {
-      type = record { leap_time = x; of_second = λ _. l; in_force = record { before_last = λ _. rw e k; from_last = λ q. absurd (omega arith) } };
+      type = record { leap_time = x; of_second = λ _. l; in_force = grind arith };
       segment = segment_is z u i (rw l.sum at b);
     }
 
@@ -193,7 +169,7 @@ type_in_from z u x t l b k =
     let e = search_found _ x _ _ (omega arith) b in
     let c = split_count _ x _ b in
     record {
-      type = record { leap_time = x; of_second = λ _. l; in_force = record { before_last = λ q. absurd (omega arith); from_last = λ _. rw e k } };
+      type = record { leap_time = x; of_second = λ _. l; in_force = grind arith };
       segment = segment_is z u _ (rw l.sum at b);
     }
 
@@ -204,19 +180,11 @@ place_most ts u rising = let p = split_at ts u rising in let e = split_count ts 
 -- the first k have come from the begin of segment k on
 pub come_from : (ts : List Transition) (k : ℕ) (u : ℤ) → AreRising ts → 0 < k → k ≤ length ts → (k ≤ length (passed ts u)) ↔ (begin_of ts k ≤ℤ u)
 come_from ts zero u rising some within = absurd (omega arith)
-come_from ts (suc k) u rising some within =
-    let d : Transition = record { unix_leap_time = u; type_index = 0 } in
-    rw (last_taken (λ (t : Transition). t.unix_leap_time) _ ts k d (omega arith)) (come_by_time ts u k d rising (omega arith))
+come_from ts (suc k) u rising some within = rw (begin_suc ts k any (omega arith)) (come_by_time ts u k any rising (omega arith))
 
 pub begins_rise : (ts : List Transition) (k : ℕ) → AreRising ts → 0 < k → k < length ts → begin_of ts k <ℤ begin_of ts (suc k)
 begins_rise ts zero rising some within = absurd (omega arith)
-begins_rise ts (suc k) rising some within =
-    let d : Transition = record { unix_leap_time = least_time; type_index = 0 } in
-    rw (
-      last_taken (λ (t : Transition). t.unix_leap_time) _ ts k d (omega arith),
-      last_taken (λ (t : Transition). t.unix_leap_time) least_time ts (suc k) d (omega arith),
-    )
-    (rising k (suc k) d (omega arith) (omega arith))
+begins_rise ts (suc k) rising some within = grind (linear, begin_suc ts k any, begin_suc ts (suc k) any, rising k (suc k) any)
 
 pub places_rise : (ts : List Transition) (u v : ℤ) → AreRising ts → u ≤ℤ v → length (passed ts u) ≤ length (passed ts v)
 places_rise ts u v rising h =
@@ -227,23 +195,7 @@ places_rise ts u v rising h =
 -- at the begin of segment k, and a second before the next
 pub place_begin : (ts : List Transition) (k : ℕ) → AreRising ts → 0 < k → k ≤ length ts → length (passed ts (begin_of ts k)) ≡ k
 place_begin ts k rising some within =
-    let u = begin_of ts k in
-    let most = place_most ts u rising in
-    let from = (come_from ts k u rising some within).1 (omega linear) in
-    elim (cases_lt k (length (passed ts u))) [
-      | inl b ↦ let late = (come_from ts _ u rising (omega arith) (omega arith)).0 b in
-          let r = begins_rise ts k rising some (omega arith) in omega linear
-      | inr m ↦ omega arith
-    ]
+    let most = place_most ts (begin_of ts k) rising in grind (linear, come_from ts k, come_from ts (suc k), begins_rise ts k)
 
 pub place_before : (ts : List Transition) (k : ℕ) → AreRising ts → k < length ts → length (passed ts (begin_of ts (suc k) -ℤ pos 1)) ≡ k
-place_before ts k rising within =
-    let u = begin_of ts (suc k) -ℤ pos 1 in
-    let c = come_from ts (suc k) u rising (omega arith) (omega arith) in
-    elim (cases_lt k (length (passed ts u))) [
-      | inl b ↦ omega linear
-      | inr m ↦ elim (cases_lt 0 k) [
-        | inl some ↦ let r = begins_rise ts k rising some within in let f = (come_from ts k u rising some (omega arith)).1 (omega linear) in omega arith
-        | inr none ↦ omega arith
-      ]
-    ]
+place_before ts k rising within = grind (linear, come_from ts k, come_from ts (suc k), begins_rise ts k)

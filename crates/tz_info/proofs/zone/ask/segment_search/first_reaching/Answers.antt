@@ -51,7 +51,7 @@ returns c =
     let sum : l.first + l.count ≡ l.first = omega arith in
     let here = simp fits at inv.here in
     record {
-      first = first_found _ _ _ l.first (omega arith) (simp fits at inv.before) (λ h. rw sum at (here (omega arith)));
+      first = first_found _ _ l.first _ (omega arith) (simp fits at inv.before) (λ h. rw sum at (here (omega arith)));
       room = let le = digits-le (length c.args.changes.now.items) in
           omega arith;
       cost = record { reads_kept = kept; reads_most = omega arith; questions_kept = omega arith; questions_most = omega arith; pieces_same = same_pieces };
