@@ -10,7 +10,7 @@ use Rattle.std.proofs.lemmas.Nat.{le-div}
 
 -- the seconds of a stretch
 pub before_next : (n m : ℕ) → 0 < m → n < suc (n / m) * m
-before_next n m h = (div-lt_iff_lt-mul h).0 (lt-suc_self (n / m))
+before_next n m h = grind (arith, div-lt_iff_lt-mul)
 
 -- the latest item is one of those of the hint
 pub near_hinted : (times : List ℤ) (v : ℤ) (hints : Hints) (ends : Ends) (seconds : ℕ) (near : Near) → AreOrdered times → length times < 2 ^ 64
@@ -80,7 +80,7 @@ last_before times first shift marked raised b positive from room some m r h =
 -- one item more is noted
 pub marked_more : (times : List ℤ) (first : ℤ) (shift n stretch : ℕ) (places : List ℕ) → AreMarked times first shift n places
     → stretch ≡ stretch_of first (item_time times n) shift → stretch + 1 < length places → AreMarked times first shift (n + 1) (set places (stretch + 1) n)
-marked_more times first shift n stretch places m e h = grind (arith, ints, length-set, cases_eq, get_or-set_at, get_or-set_other)
+marked_more times first shift n stretch places m e h = grind (arith, length-set, cases_eq, get_or-set_at, get_or-set_other)
 
 -- the first n numbers are raised, the greatest of them is known, and the others are as they were
 pub record Raising (before after : List ℕ) (greatest n : ℕ) : Type 0 where

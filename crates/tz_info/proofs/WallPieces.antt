@@ -27,7 +27,7 @@ StartBy ps l = (k : ℕ) (d : Piece) → k < length ps → (get_or ps k d).start
 -- if all have started the last one answers
 pub at_all : (b : Shown) (ps : List Piece) (l : ℤ) → StartBy ps l → answer_at b ps l ≡ answer_before b ps
 at_all b [] l h = refl
-at_all b (q ∷ ps) l h = rw (le_true _ l (h 0 q (omega arith))) (at_all _ ps l (λ k d m. h (suc k) d (omega arith)))
+at_all b (q ∷ ps) l h = grind (arith, le_true, h 0 q, at_all q.answer ps l (λ k d m. h (suc k) d (omega arith)))
 
 start_by_pushed : (ps : List Piece) (p : Piece) (l : ℤ) → StartBy (ps ++ (p ∷ [])) l → StartBy ps l × (p.start ≤ℤ l)
 start_by_pushed ps p l h = grind (linear, get_or_push, get_or_append_left, length_push)
@@ -65,26 +65,23 @@ merging_x join bx xs by ys out i j p order m next starts is =
     let inside = next.inside in
     let here = starts p in
     let more = take_more xs i p inside in
-    let answer =
-    is ∙ ap (λ a. join a (answer_before by (take j ys))) (ap (answer_before bx) more ∙ before_pushed bx (take i xs) x) in
+    let ahead = m.ahead_x p inside in
     record {
       in_x = omega arith;
       in_y = m.in_y;
-      ordered = all_pairs_push (λ (a b : Piece). a.start ≤ℤ b.start) out p m.ordered (λ k d l. let h = m.ahead_x p inside k d l in omega linear);
+      ordered = all_pairs_push (λ (a b : Piece). a.start ≤ℤ b.start) out p m.ordered (grind linear);
       count = length_push out p ∙ omega arith;
-      ahead_x = λ d l. start_by_push out p _ (λ k e n. let h = m.ahead_x d inside k e n in
-          let o = order i (i + 1) d (omega arith) l in omega linear) (let s = starts d in
-          let o = order i (i + 1) d (omega arith) l in omega linear);
+      ahead_x = λ d l. let a = m.ahead_x d inside in let o = order i (i + 1) d (omega arith) l in let s = starts d in start_by_push out p _ (grind linear) (omega linear);
       ahead_y = λ d l. start_by_push out p _ (m.ahead_y d l) (let s = starts d in let o = next.least d l in omega linear);
       started = λ l h. let s = start_by_pushed out p l h in let t = m.started l s.0 in
           (rw more (start_by_push _ x l t.0 (omega linear)), t.1);
       answers = λ l. by_lt_z l p.start
-          (λ before. at_earlier _ out p l before ∙ m.answers l
-          ∙ ap (λ a. join a (answer_at by (take j ys) l)) (sym (rw more (at_earlier bx _ x l (omega linear)))))
+          (λ before. let a = m.answers l in rw more (grind (linear, at_earlier)))
           (λ from.
-          let by_now : StartBy out l = λ k d n. let h = m.ahead_x p inside k d n in omega linear in
-          at_later _ out p l from ∙ answer
-          ∙ rw (more, at_later bx _ x l (omega linear), at_all by _ l ((m.started l by_now).1)) refl);
+          let by_now : StartBy out l = grind linear in
+          let all = at_all by _ l ((m.started l by_now).1) in
+          let b = before_pushed bx (take i xs) x in
+          rw more (grind (linear, at_later, rw more at is)));
     }
 
 -- the piece that comes next is added
@@ -93,20 +90,17 @@ pub merging_more : (bx : Shown) (xs : List Piece) (by : Shown) (ys out after : L
     → a ≡ together (answer_before bx (take i_after xs)) (answer_before by (take j_after ys)) → after ≡ out ++ (record { start = start; answer = a } ∷ [])
     → Merging together bx xs by ys after i_after j_after
 merging_more bx xs by ys out _ i j _ _ _ a in_x in_y m (inl s) is e =
-    rw (e, s.passed, s.stays)
-    (merging_x _ bx xs by ys out i j _ in_x m s.next s.starts (rw (s.passed, s.stays) at is))
-merging_more bx xs by ys out after i j i_after j_after start a in_x in_y m (inr s) is e =
+    rw (e, s.passed, s.stays) (merging_x _ bx xs by ys out i j _ in_x m s.next s.starts (rw (s.passed, s.stays) at is))
+merging_more bx xs by ys out _ i j _ _ _ a in_x in_y m (inr s) is e =
     rw (e, s.passed, s.stays) (merging_turned _ by ys bx xs _ _ i
-    (merging_x _ by ys bx xs out j i _ in_y (merging_turned _ bx xs by ys out i j m) s.next s.starts
-    (rw (s.stays, s.passed) at is)))
+    (merging_x _ by ys bx xs out j i _ in_y (merging_turned _ bx xs by ys out i j m) s.next s.starts (rw (s.stays, s.passed) at is)))
 
 pub step_count : (xs ys : List Piece) (i j i_after j_after : ℕ) (start : ℤ) → IsStep xs i ys j start i_after j_after → i_after + j_after ≡ i + j + 1
-step_count xs ys i j _ _ _ (inl s) = omega arith
-step_count xs ys i j i_after j_after start (inr s) = omega arith
+step_count xs ys i j i_after j_after start s = grind arith
 
 -- pieces in order, by the list of their starts
 pub starts_in_order : (ps : List Piece) → AreInOrder ps → AreOrdered (map (λ (p : Piece). p.start) ps)
-starts_in_order ps order = times_ordered (λ (p : Piece). p.start) ps (record { start = pos 0; answer = Once 0 }) (λ i j h l. order i j _ h l)
+starts_in_order ps order = times_ordered (λ (p : Piece). p.start) ps (record { start = pos 0; answer = Once 0 }) (λ i j. order i j _)
 
 -- pieces of which n have begun at a local time
 module _ (b : Shown) (ps : List Piece) (l : ℤ) (n : ℕ) (passed : ArePassed (map (λ (p : Piece). p.start) ps) l n) where
@@ -120,12 +114,12 @@ module _ (b : Shown) (ps : List Piece) (l : ℤ) (n : ℕ) (passed : ArePassed (
   pub latest_answers : (p : Piece) → IsLastOf ps n (some p) → p.answer ≡ answer_at b ps l
   latest_answers p latest = elim (cases_lt 0 n) [
     | inl h ↦
-        let s = latest.some h in
+        let (x, is, at) = latest.some h in
         let same = length-map ps (λ (p : Piece). p.start) in
         let within = passed.within in
-        let is : p ≡ s.0 = cc in
         let e : n ≡ suc (n - 1) = omega arith in
-        sym (started ∙ ap (λ k. answer_before b (take k ps)) e ∙ last_taken (λ (q : Piece). q.answer) b ps _ s.0 (omega arith)
-        ∙ ap (λ (q : Piece). q.answer) (sym s.2 ∙ sym is))
-    | inr g ↦ let e : n ≡ 0 = omega arith in absurd (none-some p (sym (latest.none e)))
+        let taken = last_taken (λ (q : Piece). q.answer) b ps (n - 1) x (omega arith) in
+        let is_same : p ≡ x = cc in
+        let begun = rw e at started in grind arith
+    | inr g ↦ grind (arith, latest.none)
   ]
