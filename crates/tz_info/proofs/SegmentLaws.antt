@@ -30,9 +30,7 @@ pub split_at : (ts : List Transition) (x : ℤ) → AreRising ts → (n : ℕ) �
 split_at [] x r = (0, grind arith)
 split_at (t ∷ ts) x r = by_lt_z x t.unix_leap_time
     (λ later. (0, grind (linear, not_later (t ∷ ts) 0)))
-    (λ come.
-    let p = split_at ts x (λ i j d h l. r (suc i) (suc j) d (omega arith) (omega arith)) in let b = p.1 in
-    (suc p.0, grind (linear, first_come ts x p.0 b t, others_later ts x p.0 b t)))
+    (λ come. let (n, b) = split_at ts x (λ i j d h l. r (suc i) (suc j) d (omega arith) (omega arith)) in (suc n, grind linear))
 
 pub between_passed : (ts : List Transition) (x : ℤ) (n : ℕ) → AreRising ts → n ≤ length ts → passed ts x ≡ take n ts → Between ts x n n
 between_passed ts x n r h e =
