@@ -13,8 +13,7 @@ abbrev pub FailFrom : {X : Type 0} → (X → Bool) → List X → ℕ → Type 
 FailFrom {X} p xs n = (k : ℕ) (d : X) → n ≤ k → k < length xs → p (get_or xs k d) ≡ false
 
 pub filter_first : {X : Type 0} (p : X → Bool) (xs : List X) (n : ℕ) → n ≤ length xs → PassFirst p xs n → FailFrom p xs n → filter p xs ≡ take n xs
-filter_first p [] zero h passes fails = refl
-filter_first p [] (suc n) h passes fails = absurd (omega arith)
+filter_first p [] n h passes fails = grind arith
 filter_first p (x ∷ xs) zero h passes fails =
     rw (fails 0 x (omega arith) (omega arith))
     (filter_first p xs zero (omega arith) (λ k d l. absurd (omega arith)) (λ k d l u. fails (suc k) d (omega arith) (omega arith)))
@@ -27,17 +26,16 @@ pub count_first : {X : Type 0} (p : X → Bool) (xs : List X) (n : ℕ) → n �
 count_first p [] n h passes fails = omega arith
 count_first p (x ∷ xs) zero h passes fails =
     let rest = count_first p xs zero (omega arith) (λ k d l. absurd (omega arith)) (λ k d l u. fails (suc k) d (omega arith) (omega arith)) in
-    sum_by-cons (λ x. cond (p x) 1 0) x xs ∙ rw (fails 0 x (omega arith) (omega arith)) (omega arith)
+    grind (arith, sum_by-cons (λ x. cond (p x) 1 0) x xs, fails 0 x)
 count_first p (x ∷ xs) (suc n) h passes fails =
     let rest = count_first p xs n (omega arith) (λ k d l. passes (suc k) d (omega arith)) (λ k d l u. fails (suc k) d (omega arith) (omega arith)) in
-    sum_by-cons (λ x. cond (p x) 1 0) x xs ∙ rw (passes 0 x (omega arith)) (omega arith)
+    grind (arith, sum_by-cons (λ x. cond (p x) 1 0) x xs, passes 0 x)
 
 pub count_least : {X : Type 0} (p : X → Bool) (xs : List X) (n : ℕ) → n ≤ length xs → PassFirst p xs n → n ≤ count_by p xs
 count_least p xs zero h passes = omega arith
 count_least p [] (suc n) h passes = omega arith
 count_least p (x ∷ xs) (suc n) h passes =
-    let rest = count_least p xs n (omega arith) (λ k d l. passes (suc k) d (omega arith)) in
-    rw (sum_by-cons (λ x. cond (p x) 1 0) x xs, passes 0 x (omega arith)) (omega arith)
+    let rest = count_least p xs n (omega arith) (λ k d l. passes (suc k) d (omega arith)) in grind (arith, sum_by-cons (λ x. cond (p x) 1 0) x xs, passes 0 x)
 
 rises_by : (f : ℕ → ℤ) (n : ℕ) → ((i : ℕ) → suc i < n → f i ≤ℤ f (suc i)) → (i k : ℕ) → i + k < n → f i ≤ℤ f (i + k)
 rises_by f n step i zero h = grind linear
@@ -57,7 +55,7 @@ pub le_is : (a b : ℤ) → int_le a b ≡ true → a ≤ℤ b
 le_is a b h = grind arith
 
 pub le_is_not : (a b : ℤ) → int_le a b ≡ false → ¬ (a ≤ℤ b)
-le_is_not a b h l = let t = le_true a b l in cc
+le_is_not a b h l = grind (arith, le_true)
 
 pub lt_true : (a b : ℤ) → a <ℤ b → int_lt a b ≡ true
 lt_true a b h = grind arith

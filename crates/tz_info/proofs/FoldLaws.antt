@@ -12,14 +12,7 @@ use Rattle.tz_info.specs.Steps.Folds.{AreEndsOfFold, IsBackTo}
 pub ends_of_fold : (z : Zone) (local first last : ℤ) (a b : LocalType) → IsShownBetween (Shows (TypeAt z) local) a b → first ≡ local -ℤ a.offset
     → last ≡ local -ℤ b.offset
     → AreEndsOfFold z local first last
-ends_of_fold z _ _ _ a b several is_first is_last =
-    record {
-      first_type = a;
-      last_type = b;
-      several = several;
-      is_first = omega linear;
-      is_last = omega linear;
-    }
+ends_of_fold z _ _ _ a b several is_first is_last = record { first_type = a; last_type = b; several = several; is_first = omega linear; is_last = omega linear }
 
 same_offset : (z : Zone) (u : ℤ) (s t : LocalType) → TypeAt z u s → TypeAt z u t → s.offset ≡ t.offset
 same_offset z u s t a b = ap (λ (x : LocalType). x.offset) (type_once z u s t a b)
@@ -34,13 +27,13 @@ first_outside : (z : Zone) (local first last end : ℤ) (s : Span) → AreEndsOf
     → IsSpanAt (TypeAt z) end s
     → IsSince s.from first → ⊥
 first_outside z _ first _ end s ends back at since =
-    let first_shows = ends.several.at_first in let is_first = ends.is_first in let inside : IsInSpan s first = record {
-      fits = subst (λ (u : ℤ). SFits w64 u) is_first first_shows.fits;
+    let is_first = ends.is_first in
+    let inside : IsInSpan s first = record {
+      fits = rw is_first at ends.several.at_first.fits;
       since = since;
       until = until_less _ _ end at.inside.until (omega linear);
     } in
-    let there = subst (λ (u : ℤ). TypeAt z u ends.first_type) is_first first_shows.type in
-    let offset = same_offset z _ _ _ there (at.span.each first inside) in
+    let offset = same_offset z _ _ _ (rw is_first at ends.several.at_first.type) (at.span.each first inside) in
     let less = not_more z _ _ _ end _ ends back at.in_force_then in
     omega linear
 
@@ -52,8 +45,7 @@ module _ (z : Zone) (local first last end : ℤ) (s : Span) (ends : AreEndsOfFol
   begins none = first_outside z _ _ _ end s ends back at (rw none tt)
 
   pub begins_at : (from : ℤ) → s.from ≡ Some from → (first <ℤ from) × (from ≤ℤ end)
-  begins_at from is =
-      (by_lt_z first from (λ l. l) (λ m. absurd (first_outside z _ _ _ end s ends back at (rw is m))), rw is at at.inside.since)
+  begins_at from is = (by_lt_z first from (λ l. l) (λ m. absurd (first_outside z _ _ _ end s ends back at (rw is m))), grind linear)
 
 -- and from its begin on clocks show less
 less_from : (z : Zone) (local first last end from : ℤ) (s : Span) → AreEndsOfFold z local first last → IsBackTo z local first last end
@@ -62,11 +54,7 @@ less_from : (z : Zone) (local first last end from : ℤ) (s : Span) → AreEndsO
 less_from z _ _ _ end _ s ends back at near_first near_last is = λ u t since before here. by_lt_z u end
     (λ l.
     let begun = begins_at z _ _ _ end s ends back at _ is in
-    let inside : IsInSpan s u = record {
-      fits = omega linear;
-      since = rw is since;
-      until = until_less _ u end at.inside.until (omega linear);
-    } in
+    let inside : IsInSpan s u = record { fits = omega linear; since = rw is since; until = until_less _ u end at.inside.until (omega linear) } in
     let offset = same_offset z u t _ here (at.span.each u inside) in
     let less = not_more z _ _ _ end _ ends back at.in_force_then in
     omega linear)
@@ -80,15 +68,15 @@ module _ (z : Zone) (local first last end from : ℤ) (s : Span) (before : Local
   pub fold_at : local ≤ℤ ((from -ℤ pos 1) +ℤ before.offset) → HasFold (TypeAt z) local before s.local_time_type from
   fold_at reached =
       let begun = begins_at z _ _ _ end s ends back at _ is in let not_later = back.not_later in let inside : IsInSpan s from = record {
-        fits = omega (linear, begun.0, begun.1);
+        fits = omega linear;
         since = rw is (omega linear);
         until = by_lt_z from end (λ l. until_less _ _ end at.inside.until (omega linear))
-            (λ m. let same : end ≡ from = omega (linear, begun.1) in rw (← same) at.inside.until);
+            (λ m. let same : end ≡ from = omega linear in rw (← same) at.inside.until);
       } in record {
         first_type = ends.first_type;
         last_type = ends.last_type;
         several = ends.several;
-        not_later = omega (linear, begun.1);
+        not_later = omega linear;
         here = at.span.each from inside;
         earlier = earlier;
         reached = reached;
@@ -101,13 +89,12 @@ module _ (z : Zone) (local first last end from : ℤ) (s : Span) (before : Local
       let begun = begins_at z local _ _ end s ends back at _ is in let not_later = back.not_later in record {
         after_first = by_lt_z first (from -ℤ pos 1) (λ l. l) (λ m.
             let same : ends.several.first ≡ from -ℤ pos 1 = omega linear in
-            let offset = same_offset z _ _ _ (subst (λ (u : ℤ). TypeAt z u ends.first_type) same ends.several.at_first.type)
-            earlier in
+            let offset = same_offset z _ _ _ (rw same at ends.several.at_first.type) earlier in
             omega linear);
         not_later = omega linear;
         less = λ u t since until here. by_lt_z u from
             (λ l.
-            let same : from -ℤ pos 1 ≡ u = omega linear in
-            let offset = same_offset z u t _ here (subst (λ (u : ℤ). TypeAt z u before) same earlier) in omega linear)
+            let same : u ≡ from -ℤ pos 1 = omega linear in
+            let offset = same_offset z _ t _ (rw same at here) earlier in omega linear)
             (λ m. less_from z _ _ _ end _ s ends back at near_first near_last is u t m until here);
       }

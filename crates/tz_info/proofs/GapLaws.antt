@@ -41,9 +41,7 @@ IsSteady (Some (Alternate a)) = ⊥
 
 steady_once : (rule : Option TransitionRule) (o : Option LocalType) (u v : ℤ) (s t : LocalType) → IsSteady rule → RuleOrElse rule u (o ≡ Some s) s
     → RuleOrElse rule v (o ≡ Some t) t → s ≡ t
-steady_once None o u v s t steady h k = some_once o s t h k
-steady_once (Some (Fixed f)) o u v s t steady h k = h ∙ sym k
-steady_once (Some (Alternate a)) o u v s t steady h k = absurd steady
+steady_once rule o u v s t steady h k = grind linear
 
 -- the segment lies before the last transition, or the rule has no second type
 abbrev pub HasOneType : Zone → ℕ → Type 0
@@ -62,10 +60,7 @@ one_type z i u v s t valid (inr (steady, e)) a b k m = steady_once _ _ u v s t s
 -- at `high` clocks show the local time or a later one
 pub not_less : (z : Zone) (l low high s : ℤ) → IsValid z → IsRuleOrNone z.rule → IsWindowOf z l l low high → AreLess z l s → high ≤ℤ s → ⊥
 not_less z l low high s valid limits reach all h =
-    let t = near_type z _ valid limits reach.near_high in
-    let a = all high reach.near_high h t.0 t.1 in
-    let b = at_least_least z _ _ t.0 reach.least t.1 in
-    omega linear
+    let (t, type) = near_type z _ valid limits reach.near_high in grind (linear, all high reach.near_high h t type, at_least_least z _ _ t reach.least type)
 
 -- ---- the first second that shows more
 -- if all near seconds before c show less, it is the first that shows more
@@ -75,11 +70,7 @@ gap_found z l low _ c s t never reach far all here more before = record {
   never = never;
   here = here;
   more = more;
-  least = λ u m. by_lt_z u c
-      (λ h.
-      let g = at_most_greatest z u _ _ reach.greatest m.here in
-      let near_u : IsNear u = (omega linear, omega linear) in grind linear)
-      (λ h. h);
+  least = λ u m. by_lt_z u c (λ h. let g = at_most_greatest z u _ _ reach.greatest m.here in let near_u : IsNear u = (omega linear, omega linear) in grind linear) (λ h. h);
   earlier = before;
 }
 
@@ -98,11 +89,5 @@ first_near z l low high u t valid limits reach first =
 pub gap_at_first : (z : Zone) (l low high u : ℤ) (t before : LocalType) → IsNever z l → IsWindowOf z l l low high → low ≤ℤ u → u ≤ℤ high
     → IsFirstAtOrAfter (TypeAt z) l u t → TypeAt z (u -ℤ pos 1) before → HasGap (TypeAt z) l before t u
 gap_at_first z l low _ u t _ never reach since most first earlier =
-    let near : IsNear u = (omega linear, omega linear) in
-    let reached = first.shown.reached in
-    gap_found z l low _ u t _ never reach near
-    (λ v near_v h s k. by_lt_z (v +ℤ s.offset) l (λ m. m)
-    (λ m. let f = first.first v s (record { fits = omega linear; type = k; reached = m }) in omega linear))
-    first.shown.type
-    (by_lt_z l (u +ℤ t.offset) (λ m. m) (λ m. absurd (never u t (record { fits = first.shown.fits; type = first.shown.type; shown = omega linear }))))
-    earlier
+    gap_found z l low _ u t _ never reach (omega linear, omega linear) (λ v near_v h s k. grind (linear, first.first v s)) first.shown.type
+    (grind (linear, never u t)) earlier

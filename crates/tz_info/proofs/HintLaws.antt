@@ -10,7 +10,7 @@ use Rattle.std.proofs.lemmas.Nat.{le-div}
 
 -- the seconds of a stretch
 pub before_next : (n m : ℕ) → 0 < m → n < suc (n / m) * m
-before_next n m h = (div-lt_iff_lt-mul h).0 (lt-suc_self (n / m))
+before_next n m h = grind (arith, div-lt_iff_lt-mul)
 
 -- the latest item is one of those of the hint
 pub near_hinted : (times : List ℤ) (v : ℤ) (hints : Hints) (ends : Ends) (seconds : ℕ) (near : Near) → AreOrdered times → length times < 2 ^ 64
@@ -25,16 +25,15 @@ size_of (pos n) h = refl
 size_of (negsuc n) h = absurd (omega (arith, ints))
 
 size_of_rise : (first time : ℤ) → first ≤ℤ time → pos (nat_abs (time -ℤ first)) ≡ time -ℤ first
-size_of_rise first time h = size_of (time -ℤ first) (omega (arith, ints))
+size_of_rise first time h = grind (arith, ints, size_of)
 
 -- no item comes before the first, and none lies in a stretch after that of the last
 pub first_least : (times : List ℤ) (first : ℤ) (k : ℕ) → AreOrdered times → first ≡ item_time times 0 → k < length times → first ≤ℤ item_time times k
-first_least times first k ordered from l = let low = not_before times 0 k ordered (omega arith) l in omega (arith, ints)
+first_least times first k ordered from l = grind (arith, ints, not_before times 0 k)
 
 pub slots : (times : List ℤ) (first : ℤ) (span shift k : ℕ) → AreOrdered times → first ≡ item_time times 0
     → pos span ≡ item_time times (length times - 1) -ℤ first → k < length times → stretch_of first (item_time times k) shift ≤ span / 2 ^ shift
-slots times first span shift k ordered from is l =
-    let high = not_before times k (length times - 1) ordered (omega arith) (omega arith) in grind (arith, size_of_rise)
+slots times first span shift k ordered from is l = grind (arith, ints, size_of_rise, not_before times k (length times - 1))
 
 -- the last item noted up to a stretch is the last one before it
 pub last_before : (times : List ℤ) (first : ℤ) (shift : ℕ) (marked raised : List ℕ) (b : ℕ) → 0 < 2 ^ shift
@@ -81,7 +80,7 @@ last_before times first shift marked raised b positive from room some m r h =
 -- one item more is noted
 pub marked_more : (times : List ℤ) (first : ℤ) (shift n stretch : ℕ) (places : List ℕ) → AreMarked times first shift n places
     → stretch ≡ stretch_of first (item_time times n) shift → stretch + 1 < length places → AreMarked times first shift (n + 1) (set places (stretch + 1) n)
-marked_more times first shift n stretch places m e h = grind (arith, ints, length-set, cases_eq, get_or-set_at, get_or-set_other)
+marked_more times first shift n stretch places m e h = grind (arith, length-set, cases_eq, get_or-set_at, get_or-set_other)
 
 -- the first n numbers are raised, the greatest of them is known, and the others are as they were
 pub record Raising (before after : List ℕ) (greatest n : ℕ) : Type 0 where
@@ -93,12 +92,7 @@ pub record Raising (before after : List ℕ) (greatest n : ℕ) : Type 0 where
 -- the greatest of one number more is that number, unless it is 0
 greatest_with : (before after : List ℕ) (greatest n : ℕ) → Raising before after greatest n → n < length before → RiseFromZero before
     → 0 < slice_index before n → greatest ≤ slice_index before n
-greatest_with before after greatest n r h rise some = elim r.is [
-  | inl none ↦ let z = none.1 in omega arith
-  | inr g ↦
-      let s = r.raised.some (n - 1) (let p = g.0 in omega arith) in
-      let least = rise n s.0 h (let l = s.1 in omega arith) some in let same = s.2 in let is = g.1 in omega arith
-]
+greatest_with before after greatest n r h rise some = grind (arith, r.raised.some (n - 1))
 
 pub raising_more : (before after : List ℕ) (greatest n here : ℕ) → Raising before after greatest n → n < length before → RiseFromZero before
     → (slice_index after n ≡ 0 → here ≡ greatest) × (slice_index after n ≢ 0 → here ≡ slice_index after n)
@@ -106,10 +100,8 @@ pub raising_more : (before after : List ℕ) (greatest n here : ℕ) → Raising
 raising_more before after greatest n here r h rise is_here =
     let same_here = r.rest n (omega arith) in
     let e : here ≡ max greatest (slice_index before n) = elim (cases_eq (slice_index before n) 0) [
-      | inl none ↦ let is = is_here.0 (same_here ∙ none) in omega arith
-      | inr some ↦
-          let is = is_here.1 (λ z. some (sym same_here ∙ z)) in
-          let least = greatest_with before after greatest n r h rise (omega arith) in omega arith
+      | inl none ↦ grind arith
+      | inr some ↦ grind (arith, greatest_with before after greatest n)
     ] in
     let long = length-set after n here in
     let at : (b : ℕ) → b ≡ n → slice_index (set after n here) b ≡ here = λ b same. get_or-set_at after n b here 0 same (omega arith) in
@@ -121,18 +113,17 @@ raising_more before after greatest n here r h rise is_here =
         some = λ b l. elim (cases_eq b n) [
           | inl same ↦ let a = at b same in elim (cases_lt (slice_index before n) greatest) [
             | inl k ↦ elim r.is [
-              | inl z ↦ let zero_is = z.1 in absurd (omega arith)
-              | inr g ↦ let s = r.raised.some (n - 1) (let p = g.0 in omega arith) in let q = s.1 in let w = s.2 in let v = g.1 in
-                  (s.0, omega arith, omega arith)
+              | inl z ↦ absurd (grind arith)
+              | inr g ↦ let s = r.raised.some (n - 1) (grind arith) in (s.0, grind arith, grind arith)
             ]
             | inr k ↦ (n, omega arith, omega arith)
           ]
-          | inr differs ↦ let a = other b differs in let s = r.raised.some b (omega arith) in (s.0, s.1, a ∙ s.2)
+          | inr differs ↦ let s = r.raised.some b (omega arith) in (s.0, s.1, other b differs ∙ s.2)
         ];
       };
-      rest = λ b l. other b (λ i. absurd (omega arith)) ∙ r.rest b (omega arith);
+      rest = grind (arith, other, r.rest);
       up_to = grind arith;
-      is = inr (omega arith, let i : n + 1 - 1 ≡ n = omega arith in rw i (sym (at n refl)));
+      is = grind arith;
     }
 
 -- a later time has no earlier stretch
@@ -140,7 +131,7 @@ stretch_rise : (first x y : ℤ) (shift : ℕ) → first ≤ℤ x → x ≤ℤ y
 stretch_rise first x y shift h le =
     let a = size_of_rise first x h in
     let b = size_of_rise first y (omega (arith, ints)) in
-    le-div _ (nat_abs (y -ℤ first)) (2 ^ shift) (pow_pos shift) (let d = div-mul-le_self (nat_abs (x -ℤ first)) (2 ^ shift) in omega (arith, ints))
+    le-div _ (nat_abs (y -ℤ first)) (2 ^ shift) (pow_pos shift) (grind (arith, ints, div-mul-le_self (nat_abs (x -ℤ first)) (2 ^ shift)))
 
 -- later stretches have later items
 pub marks_rise : (times : List ℤ) (first : ℤ) (shift : ℕ) (marked : List ℕ) → AreOrdered times → first ≡ item_time times 0
@@ -149,21 +140,13 @@ marks_rise times first shift marked ordered from m b j h le some = elim (m.of_it
   | inl z ↦ absurd (omega arith)
   | inr here ↦ elim (m.of_item j (omega arith)) [
     | inl z ↦ omega arith
-    | inr earlier ↦ elim (cases_lt (slice_index marked b) (slice_index marked j)) [
-      | inl less ↦
-          let later = not_before times (slice_index marked b) (slice_index marked j) ordered (omega arith) earlier.0 in
-          let least = first_least times first (slice_index marked b) ordered from here.0 in
-          let stretch = stretch_rise first (item_time times (slice_index marked b)) (item_time times (slice_index marked j)) shift least later in
-          let same : b ≡ j = let q = here.1 in let p = earlier.1 in omega arith in
-          let e = ap (λ k. slice_index marked k) same in absurd (omega arith)
-      | inr not_less ↦ omega arith
-    ]
+    | inr earlier ↦ grind (arith, ints, not_before times (slice_index marked b) (slice_index marked j), first_least times first (slice_index marked b), stretch_rise first (item_time times (slice_index marked b)) (item_time times (slice_index marked j)) shift)
   ]
 ]
 
 -- so none is less than the one before it
 pub raised_rising : (before after : List ℕ) → AreRaised before after → AreNonDecreasing after
-raised_rising before after r b h = let s = r.some b (omega arith) in grind (arith, ints)
+raised_rising before after r b h = grind (arith, ints, r.some b)
 
 -- one step more
 pub steps_more : (numbers : List ℕ) (most n most_after : ℕ) → AreStepsUntil numbers most n → 0 < n
@@ -182,8 +165,8 @@ hints_made times hints first span most marked ordered many shift from is long m 
       rising = raised_rising marked hints.places.items r;
       places = λ b h. rw (← from) (last_before times first hints.shift marked hints.places.items b (pow_pos hints.shift)
           (λ k l. first_least times first k ordered from l)
-          (λ k l. let s = slots times first span hints.shift k ordered from is l in omega arith)
+          (λ k l. grind (arith, slots times first span hints.shift k ordered from is l))
           (omega arith) m r (omega arith));
       some = λ h. many;
-      narrow = λ b h. let s = steps b h in omega arith;
+      narrow = λ b h. grind (arith, steps b h);
     }

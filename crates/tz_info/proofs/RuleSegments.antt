@@ -1,9 +1,9 @@
 -- The segment whose types the rule gives: from the last transition on.
 use Rattle.tz_info.proofs.{
-  SegmentEndLaws.{begun_by, come_by, near_wide, shows_less},
+  SegmentEndLaws.{begun_by, come_by, shows_less},
   SegmentLaws.{segment_at, segment_most, type_from, type_in_from},
   TableLaws.{same_table, table_of, time_then, top_least},
-  WallSegments.{leap_time_of},
+  WallSegments.{leap_time_of, near_wide},
   Words.{IsFirstAtOrAfter, IsLeapTime, IsNear, IsValid, IsWide, LocalType, RuleAt, RuleOrType, SFits, Some, TransitionRule, TypeAt, Zone, arith, begin_of},
   Words.{cases_lt, inl, inr, length, linear, place_at, segment_of, table_count, top_of, w64, ℕ, ℤ, ◌<◌, ◌≡◌, ◌≤ℤ◌, ◌≤◌},
 }
@@ -23,12 +23,8 @@ module _ (z : Zone) (e : Entries) (rule : TransitionRule) (k : ℕ) (valid : IsV
   all_come u from fits time =
       let come = come_by e.items k u made.rising within from in
       let most = segment_most z u valid.transitions.rising in
-      let same = same_table z e u valid made fits time in
-      let all = all_of_table z rule is in
-      elim (cases_lt (segment_of z u) (table_count z)) [
-        | inl inside ↦ let c = same.0 inside in absurd (omega (arith, come, beyond))
-        | inr not ↦ omega (arith, all)
-      ]
+      let same = same_table z e valid made u fits time in
+      grind (arith, all_of_table z rule is)
 
   to_rule : (u : ℤ) (t : LocalType) → begin_of e.items k ≤ℤ u → SFits w64 u → TypeAt z u t → RuleAt rule u t
   to_rule u t from fits here =
@@ -37,9 +33,8 @@ module _ (z : Zone) (e : Entries) (rule : TransitionRule) (k : ℕ) (valid : IsV
   from_rule : (u : ℤ) (t : LocalType) → begin_of e.items k ≤ℤ u → IsNear u → RuleAt rule u t → TypeAt z u t
   from_rule u t from near here =
       let (x, l) = leap_time_of z u valid near in
-      let fits : SFits w64 u = omega (linear, near) in
-      let b = segment_at z u (length z.transitions) valid.transitions.rising (all_come u from fits (λ _. (x, l))) in
-      (type_in_from z u x t l (rw (← l.sum) at b) (of_rule_or z rule u _ t is here)).type
+      let b = segment_at z u (length z.transitions) valid.transitions.rising (all_come u from (omega linear) (λ _. (x, l))) in
+      (type_in_from z u x t l (rw (← l.sum) at b) (rw is here)).type
 
   -- what the rule's clocks show there the zone's clocks do
   pub reached_by_rule : (t l : ℤ) → IsReachedSince (RuleAt rule) (begin_of e.items k) t l → IsReachedSince (TypeAt z) (begin_of e.items k) t l
@@ -49,9 +44,8 @@ module _ (z : Zone) (e : Entries) (rule : TransitionRule) (k : ℕ) (valid : IsV
     near = h.near;
     from = h.from;
     not_after = h.not_after;
-    shown = record { fits = h.shown.fits; type = from_rule h.at h.local_type h.from h.near h.shown.type; shown = h.shown.shown };
-    last = λ m u s from come shows.
-        h.last m u s from come (record { fits = shows.fits; type = to_rule u s from shows.fits shows.type; shown = shows.shown });
+    shown = grind (linear, from_rule);
+    last = λ m u s from come shows. h.last m u s from come (grind (linear, to_rule));
     least = h.least;
   }
 
@@ -60,14 +54,10 @@ module _ (z : Zone) (e : Entries) (rule : TransitionRule) (k : ℕ) (valid : IsV
   first_by_rule l u t wide first h =
       let top = top_least z.rule e made.more in
       record {
-        shown = record { fits = h.shown.fits; type = from_rule u t h.from h.near h.shown.type; reached = h.shown.reached };
+        shown = grind (linear, from_rule);
         first = λ v s shows. elim (cases_lt (place_at e.items v) k) [
-          | inl before ↦
-              let less = shows_less z e.items (top_of z.rule e) k l v s (table_of z e valid made) within (near_wide l wide) first.before shows.fits before
-              (omega (arith, before, within, top)) shows.type in
-              let reached = shows.reached in absurd (omega (linear, less, reached))
-          | inr not ↦
-              let from = begun_by e.items k v made.rising within (omega (arith, not)) shows.fits in
+          | inl before ↦ grind (linear, shows_less z e.items _ k l v s (table_of z e valid made) within (near_wide l wide) first.before shows.fits before)
+          | inr not ↦ let from = begun_by e.items k v made.rising within (omega arith) shows.fits in
               h.first v s from (record { fits = shows.fits; type = to_rule v s from shows.fits shows.type; reached = shows.reached })
         ];
       }

@@ -10,14 +10,12 @@ use Rattle.tz_info.proofs.{
 -- the time of an item that was read
 pub time_read : {A : Type 0} (time : A → ℤ) (items : List A) (place : ℕ) (x : A) → place < length items → x ≡ get_or items place x
     → time x ≡ item_time (map time items) place
-time_read time items place x h e = ap time e ∙ sym (mapped_at time items place x (pos 0) h)
+time_read time items place x h e = grind (arith, mapped_at time items place x (pos 0))
 
 -- the times of items in order come in order
 pub times_ordered : {A : Type 0} (time : A → ℤ) (items : List A) (x : A)
     → ((i j : ℕ) → i < j → j < length items → time (get_or items i x) ≤ℤ time (get_or items j x)) → AreOrdered (map time items)
-times_ordered time items x order i j d h l =
-    let same = length-map items time in
-    let o = order i j h (omega arith) in grind (arith, mapped_at)
+times_ordered time items x order i j d h l = grind (arith, length-map items time, order i j, mapped_at)
 
 -- the items that have come are the first n
 pub first_come : {A : Type 0} (time : A → ℤ) (items : List A) (v : ℤ) (n : ℕ) → ArePassed (map time items) v n
@@ -25,8 +23,8 @@ pub first_come : {A : Type 0} (time : A → ℤ) (items : List A) (v : ℤ) (n :
 first_come {A = A} time items v n come =
     let same = length-map items time in
     filter_first (λ x. int_le (time x) v) _ n (omega arith)
-    (λ k d l. let e = mapped_at time items k d (pos 0) (omega arith) in le_true _ v (rw e at (come.before k l)))
-    (λ k d l m. let e = mapped_at time items k d (pos 0) m in le_false _ v (rw e at (come.behind k l (omega arith))))
+    (λ k d l. grind (arith, mapped_at time items k d (pos 0), le_true, come.before k))
+    (λ k d l m. grind (arith, mapped_at time items k d (pos 0), le_false, come.behind k))
 
 -- no time comes before an earlier one
 pub not_before : (times : List ℤ) (i k : ℕ) → AreOrdered times → i ≤ k → k < length times → item_time times i ≤ℤ item_time times k
@@ -35,21 +33,15 @@ not_before _ i k ordered h l = grind arith
 -- all have come once the last has
 pub all_passed : (times : List ℤ) (v : ℤ) (n : ℕ) (ends : Ends) → AreOrdered times → n ≡ length times → 0 < n → AreEnds times ends
     → ends.last ≤ℤ v → ArePassed times v n
-all_passed times v n _ ordered e some are le =
-    record {
-      within = omega arith;
-      before = λ k h. let m = not_before _ k (length times - 1) ordered (omega arith) (omega arith) in omega linear;
-      behind = λ k h l. absurd (omega arith);
-    }
+all_passed times v n _ ordered e some are le = record {
+  within = omega arith;
+  before = λ k h. grind (linear, not_before times k (length times - 1));
+  behind = grind arith;
+}
 
 -- and none if the first has not
 pub none_passed : (times : List ℤ) (v : ℤ) (ends : Ends) → AreOrdered times → 0 < length times → AreEnds times ends → v <ℤ ends.first → ArePassed times v 0
-none_passed times v _ ordered some are lt =
-    record {
-      within = omega arith;
-      before = λ k h. absurd (omega arith);
-      behind = λ k h l. let m = not_before _ 0 k ordered (omega arith) l in omega linear;
-    }
+none_passed times v _ ordered some are lt = grind (linear, not_before times 0)
 
 -- a look at one that has come
 pub left_later : (times : List ℤ) (v : ℤ) (first middle high : ℕ) → IsLeft times v first high → middle < high → item_time times middle ≤ℤ v
@@ -89,7 +81,7 @@ near_earlier times v _ _ middle n e some m l h lt = record {
   within = omega arith;
   fits = omega arith;
   come = rw e n.come;
-  behind = λ k a b. let o = not_before _ middle k n.ordered (omega arith) b in omega linear;
+  behind = grind (linear, not_before times middle);
 }
 
 pub near_one : (times : List ℤ) (v : ℤ) (near : Near) → near.count ≤ 1 → IsNarrowedTo times v near → ArePassed times v (near.first + 1)
@@ -102,7 +94,7 @@ near_one times v near h n = record {
 -- a halving costs a look
 pub digits-halved : (n : ℕ) → 0 < n → digits n ≡ digits (n / 2) + 1
 digits-halved zero h = omega arith
-digits-halved (suc n) h = let e = digits-half n in omega arith
+digits-halved (suc n) h = grind (arith, digits-half)
 
 digits-four : digits 4 ≡ 3
 unfolding digits

@@ -12,58 +12,37 @@ use Rattle.tz_info.proofs.{
 -- no transition comes later than one after it in the list
 pub not_later : (ts : List Transition) (i k : ℕ) (d : Transition) → AreRising ts → i ≤ k → k < length ts
     → (get_or ts i d).unix_leap_time ≤ℤ (get_or ts k d).unix_leap_time
-not_later ts i k d r h l = elim (cases_lt i k) [
-  | inl m ↦ let q = r i k d m l in omega linear
-  | inr m ↦ let e : i ≡ k = omega arith in rw e (omega linear)
-]
+not_later ts i k d r h l = grind (linear, r i k d)
 
 -- a second between two neighbours of a list
 module _ (ts : List Transition) (x : ℤ) (n : ℕ) (b : Between ts x n n) where
   first_come : (t : Transition) → t.unix_leap_time ≤ℤ x → (k : ℕ) (d : Transition) → k < suc n → (get_or (t ∷ ts) k d).unix_leap_time ≤ℤ x
-  first_come t h zero d l = h
-  first_come t h (suc k) d l = b.below k d (omega arith)
+  first_come t h k d l = grind linear
 
   others_later : (t : Transition) (k : ℕ) (d : Transition) → suc n ≤ k → k < length (t ∷ ts) → x <ℤ (get_or (t ∷ ts) k d).unix_leap_time
-  others_later t zero d a l = absurd (omega arith)
-  others_later t (suc k) d a l = grind linear
+  others_later t k d a l = grind linear
 
   pub split_count : length (passed ts x) ≡ n
-  split_count = rw (search_found ts x n n (omega arith) b) (simp length-take (omega arith))
+  split_count = grind (arith, search_found ts x n n, length-take)
 
 -- transitions that rise are split by a leap time
 pub split_at : (ts : List Transition) (x : ℤ) → AreRising ts → (n : ℕ) × Between ts x n n
-split_at [] x r = (0, record { ordered = omega arith; within = omega arith; below = λ k d h. absurd (omega arith); above = λ k d h l. absurd (omega arith) })
+split_at [] x r = (0, grind arith)
 split_at (t ∷ ts) x r = by_lt_z x t.unix_leap_time
-    (λ later. (
-      0,
-      record {
-        ordered = omega arith;
-        within = omega arith;
-        below = λ k d h. absurd (omega arith);
-        above = λ k d a l.
-            let n = not_later (t ∷ ts) 0 k d r a l in omega linear;
-      },
-    ))
-    (λ come.
-    let p = split_at ts x (λ i j d h l. r (suc i) (suc j) d (omega arith) (omega arith)) in
-    let b = p.1 in (suc p.0, record { ordered = omega arith; within = omega arith; below = first_come ts x p.0 b t come; above = others_later ts x p.0 b t }))
+    (λ later. (0, grind (linear, not_later (t ∷ ts) 0)))
+    (λ come. let (n, b) = split_at ts x (λ i j d h l. r (suc i) (suc j) d (omega arith) (omega arith)) in (suc n, grind linear))
 
 pub between_passed : (ts : List Transition) (x : ℤ) (n : ℕ) → AreRising ts → n ≤ length ts → passed ts x ≡ take n ts → Between ts x n n
 between_passed ts x n r h e =
-    let p = split_at ts x r in
-    let m : length (take n ts) ≡ n = simp length-take (omega arith) in
-    let s = sym (split_count ts x p.0 p.1) ∙ ap length e ∙ m in
-    rw s at p.1
+    let (k, b) = split_at ts x r in
+    let s : k ≡ n = grind (arith, split_count ts x k b, length-take) in rw s at b
 
 pub segment_is : (z : Zone) (u : ℤ) (n : ℕ) → Between z.transitions (u +ℤ correction_at z.leaps u) n n → segment_of z u ≡ n
 unfolding segment_of
 segment_is z u n b = split_count _ _ n b
 
 pub segment_at : (z : Zone) (u : ℤ) (n : ℕ) → AreRising z.transitions → segment_of z u ≡ n → Between z.transitions (u +ℤ correction_at z.leaps u) n n
-segment_at z u n r e =
-    let p = split_at _ _ r in
-    let s = sym (segment_is z u p.0 p.1) ∙ e in
-    rw s at p.1
+segment_at z u n r e = let (k, b) = split_at _ _ r in rw (sym (segment_is z u k b) ∙ e) at b
 
 pub segment_here : (z : Zone) (u : ℤ) → AreRising z.transitions → Between z.transitions (u +ℤ correction_at z.leaps u) (segment_of z u) (segment_of z u)
 segment_here z u r = segment_at z u _ r refl
@@ -71,30 +50,27 @@ segment_here z u r = segment_at z u _ r refl
 pub segment_most : (z : Zone) (u : ℤ) → AreRising z.transitions → segment_of z u ≤ length z.transitions
 segment_most z u r = (segment_here z u r).within
 
+any : Transition
+any = record { unix_leap_time = least_time; type_index = 0 }
+
 -- a greater number splits them later
 splits_rise : (ts : List Transition) (x y : ℤ) (m n : ℕ) → x ≤ℤ y → Between ts x m m → Between ts y n n → m ≤ n
-splits_rise ts x y m n h a b = elim (cases_lt n m) [
-  | inl l ↦
-      let d : Transition = record { unix_leap_time = x; type_index = 0 } in
-      let p = a.below n d l in let q = b.above n d (omega arith) (omega arith) in
-      omega linear
-  | inr l ↦ l
-]
+splits_rise ts x y m n h a b = grind (linear, a.below n any, b.above n any)
 
 -- segments rise with seconds
 pub segments_rise : (z : Zone) (u v : ℤ) → AreRising z.transitions → AreLeapSeconds z.leaps → u ≤ℤ v → segment_of z u ≤ segment_of z v
-segments_rise z u v r leaps h =
-    splits_rise _ _ _ _ _
-    (leap_sums_rise _ u v leaps h) (segment_here z u r) (segment_here z v r)
+segments_rise z u v r leaps h = splits_rise _ _ _ _ _ (leap_sums_rise _ u v leaps h) (segment_here z u r) (segment_here z v r)
 
 -- a second of a later segment is later
 pub later_segment : (z : Zone) (u v : ℤ) → IsValid z → segment_of z u < segment_of z v → u <ℤ v
 later_segment z u v valid h = grind (linear, segments_rise)
 
 -- ---- the begin of a segment
+begin_suc : (ts : List Transition) (i : ℕ) (d : Transition) → i < length ts → begin_of ts (suc i) ≡ (get_or ts i d).unix_leap_time
+begin_suc ts i d h = last_taken (λ (t : Transition). t.unix_leap_time) _ ts i d h
+
 pub begin_first : (ts : List Transition) → begin_of ts 0 ≡ least_time
-begin_first [] = refl
-begin_first (t ∷ ts) = refl
+begin_first ts = grind arith
 
 pub begin_next : (ts : List Transition) (i : ℕ) (d : Transition) → i < length ts → begin_of ts (i + 1) ≡ (get_or ts i d).unix_leap_time
 begin_next ts i d h = grind (linear, last_taken)
@@ -104,9 +80,7 @@ index_next ts i d h = grind (linear, last_taken)
 
 begun_before : (ts : List Transition) (x : ℤ) (i : ℕ) → least_time ≤ℤ x → Between ts x i i → begin_of ts i ≤ℤ x
 begun_before ts x zero h b = rw (begin_first ts) h
-begun_before ts x (suc i) h b =
-    let d : Transition = record { unix_leap_time = x; type_index = 0 } in
-    rw (last_taken (λ (t : Transition). t.unix_leap_time) _ ts i d (omega arith)) (b.below i d (omega arith))
+begun_before ts x (suc i) h b = grind (linear, begin_suc ts i any)
 
 -- a leap time is in segment i if it comes from the segment's begin on, and before the next transition
 pub record IsWithin (ts : List Transition) (i : ℕ) (x : ℤ) : Type 0 where
@@ -114,24 +88,15 @@ pub record IsWithin (ts : List Transition) (i : ℕ) (x : ℤ) : Type 0 where
   pub until : (d : Transition) → i < length ts → x <ℤ (get_or ts i d).unix_leap_time
 
 pub within_of : (ts : List Transition) (i : ℕ) (x : ℤ) → least_time ≤ℤ x → Between ts x i i → IsWithin ts i x
-within_of ts i x h b = record { since = begun_before ts x i h b; until = λ d l. b.above i d (omega arith) l }
+within_of ts i x h b = grind (linear, begun_before)
 
 come_by : (ts : List Transition) (x : ℤ) (i : ℕ) → AreRising ts → i ≤ length ts → begin_of ts i ≤ℤ x → (k : ℕ) (d : Transition) → k < i
     → (get_or ts k d).unix_leap_time ≤ℤ x
 come_by ts x zero r w h k d l = absurd (omega arith)
-come_by ts x (suc i) r w h k d l =
-    let e = last_taken (λ (t : Transition). t.unix_leap_time) least_time ts i d (omega arith) in
-    let n = not_later ts k i d r (omega arith) (omega arith) in
-    omega linear
+come_by ts x (suc i) r w h k d l = grind (linear, begin_suc ts i d, not_later ts k i d)
 
 pub between_of : (ts : List Transition) (i : ℕ) (x : ℤ) → AreRising ts → i ≤ length ts → IsWithin ts i x → Between ts x i i
-between_of ts i x r w h = record {
-  ordered = omega arith;
-  within = w;
-  below = come_by ts x i r w h.since;
-  above = λ k d a l. let n = not_later ts i k d r a l in
-      let u = h.until d (omega arith) in omega linear;
-}
+between_of ts i x r w h = grind (linear, come_by ts x i, not_later ts i)
 
 -- ---- the type in a segment
 -- a leap time of the second, which matters only if there are transitions
@@ -151,11 +116,7 @@ come_at_time z u x time = come_by_then z u x (λ _. time)
 pub come_by_time : (ts : List Transition) (x : ℤ) (k : ℕ) (d : Transition) → AreRising ts → k < length ts
     → (suc k ≤ length (passed ts x)) ↔ ((get_or ts k d).unix_leap_time ≤ℤ x)
 come_by_time ts x k d rising h =
-    let p = split_at ts x rising in
-    let e = split_count ts x p.0 p.1 in (
-      (λ c. p.1.below k d (omega arith)),
-      (λ c. elim (cases_lt k p.0) [ inl l ↦ omega arith | inr m ↦ let q = p.1.above k d m h in omega linear ]),
-    )
+    let (n, b) = split_at ts x rising in grind (linear, split_count ts x n b, b.below k d, b.above k d)
 
 -- a type at a second of a zone whose transitions rise
 module _ (z : Zone) (u : ℤ) (t : LocalType) (r : AreRising z.transitions) where
@@ -165,27 +126,18 @@ module _ (z : Zone) (u : ℤ) (t : LocalType) (r : AreRising z.transitions) wher
 
   -- before the last transition the segment's type is in force
   pub type_before : (i : ℕ) → TypeIn z i u t → i < length z.transitions → HasType z (index_of z.transitions i) t
-  type_before i k h =
-      let e = taken_in i k in
-      let n : IsBeforeLast z k.type.leap_time = rw e (simp length-take (omega arith)) in
-      rw e at (k.type.in_force.before_last n)
+  type_before i k h = let e = taken_in i k in grind (arith, length-take, k.type.in_force.before_last)
 
   -- from the last transition on the rule's, or without a rule the segment's
   pub type_from : TypeIn z (length z.transitions) u t → RuleOrType z u (index_of z.transitions (length z.transitions)) t
-  type_from k =
-      let e = taken_in _ k in
-      let n : IsFromLast z k.type.leap_time = rw e (simp length-take (omega arith)) in
-      rw e at (k.type.in_force.from_last n)
+  type_from k = let e = taken_in _ k in grind (arith, length-take, k.type.in_force.from_last)
 
 pub type_in_before : (z : Zone) (i : ℕ) (u x : ℤ) (t : LocalType) → IsLeapTime z.leaps u x → Between z.transitions x i i → i < length z.transitions
     → HasType z (index_of z.transitions i) t → TypeIn z i u t
 type_in_before z i u x t l b h k =
     let e = search_found _ x i i (omega arith) b in
     let c = split_count _ x i b in
-    record {
-      type = record { leap_time = x; of_second = λ _. l; in_force = record { before_last = λ _. rw e k; from_last = λ q. absurd (omega arith) } };
-      segment = segment_is z u i (rw l.sum at b);
-    }
+    record { type = record { leap_time = x; of_second = grind arith; in_force = grind arith }; segment = segment_is z u i (rw l.sum at b) }
 
 pub type_in_from : (z : Zone) (u x : ℤ) (t : LocalType) → IsLeapTime z.leaps u x → Between z.transitions x (length z.transitions) (length z.transitions)
     → RuleOrType z u (index_of z.transitions (length z.transitions)) t → TypeIn z (length z.transitions) u t
@@ -193,57 +145,32 @@ type_in_from z u x t l b k =
     let e = search_found _ x _ _ (omega arith) b in
     let c = split_count _ x _ b in
     record {
-      type = record { leap_time = x; of_second = λ _. l; in_force = record { before_last = λ q. absurd (omega arith); from_last = λ _. rw e k } };
+      type = record { leap_time = x; of_second = λ _. l; in_force = grind arith };
       segment = segment_is z u _ (rw l.sum at b);
     }
 
 -- ---- how many have come by a second
 pub place_most : (ts : List Transition) (u : ℤ) → AreRising ts → length (passed ts u) ≤ length ts
-place_most ts u rising = let p = split_at ts u rising in let e = split_count ts u p.0 p.1 in omega arith
+place_most ts u rising = let (n, b) = split_at ts u rising in grind (arith, split_count ts u n b)
 
 -- the first k have come from the begin of segment k on
 pub come_from : (ts : List Transition) (k : ℕ) (u : ℤ) → AreRising ts → 0 < k → k ≤ length ts → (k ≤ length (passed ts u)) ↔ (begin_of ts k ≤ℤ u)
 come_from ts zero u rising some within = absurd (omega arith)
-come_from ts (suc k) u rising some within =
-    let d : Transition = record { unix_leap_time = u; type_index = 0 } in
-    rw (last_taken (λ (t : Transition). t.unix_leap_time) _ ts k d (omega arith)) (come_by_time ts u k d rising (omega arith))
+come_from ts (suc k) u rising some within = grind (linear, come_by_time ts u k any, begin_suc ts k any)
 
 pub begins_rise : (ts : List Transition) (k : ℕ) → AreRising ts → 0 < k → k < length ts → begin_of ts k <ℤ begin_of ts (suc k)
 begins_rise ts zero rising some within = absurd (omega arith)
-begins_rise ts (suc k) rising some within =
-    let d : Transition = record { unix_leap_time = least_time; type_index = 0 } in
-    rw (
-      last_taken (λ (t : Transition). t.unix_leap_time) _ ts k d (omega arith),
-      last_taken (λ (t : Transition). t.unix_leap_time) least_time ts (suc k) d (omega arith),
-    )
-    (rising k (suc k) d (omega arith) (omega arith))
+begins_rise ts (suc k) rising some within = grind (linear, begin_suc ts k any, begin_suc ts (suc k) any, rising k (suc k) any)
 
 pub places_rise : (ts : List Transition) (u v : ℤ) → AreRising ts → u ≤ℤ v → length (passed ts u) ≤ length (passed ts v)
 places_rise ts u v rising h =
-    let p = split_at ts u rising in let q = split_at ts v rising in
-    let e = split_count ts u p.0 p.1 in let f = split_count ts v q.0 q.1 in
-    let r = splits_rise ts u v p.0 q.0 h p.1 q.1 in omega arith
+    let (m, a) = split_at ts u rising in let (n, b) = split_at ts v rising in
+    rw (split_count ts u m a, split_count ts v n b) (splits_rise ts u v m n h a b)
 
 -- at the begin of segment k, and a second before the next
 pub place_begin : (ts : List Transition) (k : ℕ) → AreRising ts → 0 < k → k ≤ length ts → length (passed ts (begin_of ts k)) ≡ k
 place_begin ts k rising some within =
-    let u = begin_of ts k in
-    let most = place_most ts u rising in
-    let from = (come_from ts k u rising some within).1 (omega linear) in
-    elim (cases_lt k (length (passed ts u))) [
-      | inl b ↦ let late = (come_from ts _ u rising (omega arith) (omega arith)).0 b in
-          let r = begins_rise ts k rising some (omega arith) in omega linear
-      | inr m ↦ omega arith
-    ]
+    let most = place_most ts (begin_of ts k) rising in grind (linear, come_from ts k, come_from ts (suc k), begins_rise ts k)
 
 pub place_before : (ts : List Transition) (k : ℕ) → AreRising ts → k < length ts → length (passed ts (begin_of ts (suc k) -ℤ pos 1)) ≡ k
-place_before ts k rising within =
-    let u = begin_of ts (suc k) -ℤ pos 1 in
-    let c = come_from ts (suc k) u rising (omega arith) (omega arith) in
-    elim (cases_lt k (length (passed ts u))) [
-      | inl b ↦ omega linear
-      | inr m ↦ elim (cases_lt 0 k) [
-        | inl some ↦ let r = begins_rise ts k rising some within in let f = (come_from ts k u rising some (omega arith)).1 (omega linear) in omega arith
-        | inr none ↦ omega arith
-      ]
-    ]
+place_before ts k rising within = grind (linear, come_from ts k, come_from ts (suc k), begins_rise ts k)

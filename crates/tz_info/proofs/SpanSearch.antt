@@ -19,8 +19,6 @@ pub span_of_rule : (z : Zone) (a : Alternate) (u begin from until : ℤ) (t : Lo
     → z.rule ≡ Some (AlternateRule a) → IsBegin z begin → AlternateAt a u t → IsSecondOfNearest false (AlternateAt a) (IsAhead false u) previous
     → (begin <ℤ from) × (previous ≡ Some from) → IsSecondOfNearest true (AlternateAt a) (IsAhead true u) (Some until)
     → IsSpanAt (TypeAt z) u (record { local_time_type = t; from = Some from; until = Some until })
-span_of_rule z a u _ _ _ t _ valid limits fits rule h at (None, is, e) after next = let same = after.1 in cc
-span_of_rule z a u begin from until t previous valid limits fits rule h at (Some c, is, e) after (None, nearest, ends) = cc
 span_of_rule z a u begin from until t previous valid limits fits rule h at (Some c, is, e) after (Some d, nearest, ends) =
     let same = sym e ∙ after.1 in
     let at_from : from ≡ c.at = cc in
@@ -33,3 +31,4 @@ span_of_rule z a u begin from until t previous valid limits fits rule h at (Some
     (begin <ℤ v) × IsAhead true u v) (Some d) (λ d is_d l. (is_d, l.1)) (λ d is_d l. (is_d, (omega linear, l))) nearest) in
     span_between z u t (Some c) (Some d) (Some from) (Some until) valid limits fits (from_rule z a u t rule valid all at)
     (rule_is_last z (λ v. v ≤ℤ u) c valid last) (rule_first z (λ v. u <ℤ v) (Some d) valid (table_over z u valid all) first) (sym same) ends
+span_of_rule z a u begin from until t previous valid limits fits rule h at one after two = cc

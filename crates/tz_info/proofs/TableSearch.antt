@@ -28,15 +28,6 @@ stand_less types xs n some s = grind arith
 
 pub stand_more : (types : ℕ) (xs : List Transition) (n : ℕ) → StandUntil types xs n → Stands types xs n → StandUntil types xs (n + 1)
 stand_more types xs n s here = record {
-  indexes = λ k d h. elim (cases_lt k n) [ inl l ↦ s.indexes k d l | inr g ↦ let e : k ≡ n = omega arith in rw e (here.index d) ];
-  rising = λ i j d h l. elim (cases_lt j n) [
-    | inl m ↦ s.rising i j d h m
-    | inr g ↦
-        let e : j ≡ n = omega arith in
-        let last = here.later d (omega arith) in
-        elim (cases_lt i (n - 1)) [
-          | inl m ↦ let r = s.rising i (n - 1) d m (omega arith) in rw e (omega (arith, ints))
-          | inr m ↦ let f : i ≡ n - 1 = omega arith in rw (e, f) last
-        ]
-  ];
+  indexes = grind (arith, here.index, s.indexes);
+  rising = λ i j d h l. grind (arith, ints, here.later d, s.rising i j d, s.rising i (n - 1) d);
 }

@@ -20,15 +20,8 @@ there : (z : Zone) (local u : ℤ) (t : LocalType) → Shows (TypeAt z) local u 
 there z local u t s = grind (linear, second_is)
 
 pub are_shown : (z : Zone) (local : ℤ) (answer : LocalResult LocalType) → IsWallAnswer (Shows (TypeAt z) local) answer → AreShown (TypeAt z) local answer
-are_shown z _ None h = tt
-are_shown z local (Single t) h = there z _ _ t h.shown
-are_shown z local (Ambiguous a b) h = grind (linear, there)
+are_shown z local answer h = grind (linear, there)
 
 pub is_among_shown : (z : Zone) (local u : ℤ) (t : LocalType) (answer : LocalResult LocalType) → Shows (TypeAt z) local u t
     → IsWallAnswer (Shows (TypeAt z) local) answer → IsAmongShown local u answer
-is_among_shown z _ u t None s h = h u t s
-is_among_shown z local u t (Single a) s h = grind (linear, second_is)
-is_among_shown z local u t (Ambiguous a b) s h =
-    let low = h.not_before u t s in
-    let high = h.not_after u t s in
-    (omega linear, omega linear)
+is_among_shown z local u t answer s h = grind (linear, second_is)

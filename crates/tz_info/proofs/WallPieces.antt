@@ -1,25 +1,22 @@
 -- Pieces of the wall-clock axis: one piece more, and two runs of pieces together.
 use Rattle.tz_info.proofs.{
   Prefixes.{last_taken},
-  Words.{All-push, AreInOrder, AreOrdered, ArePassed, IsLastOf, IsNext, IsStep, List, None as none, Option, Piece, Shown, Some as some, [], all_pairs_push},
+  Words.{All-push, AreInOrder, AreOrdered, ArePassed, IsLastOf, IsNext, IsStep, List, None as none, Option, Piece, Shown, Some as some, [], all_pairs_push, get_or_append_left, get_or_push},
   Words.{answer_at, answer_before, ap, arith, by_lt_z, cases_lt, first_come, get_or, inl, inr, le_false, le_true, length, length-map, length_push, linear, map},
   Words.{none-some, pos, refl, suc, sym, take, take_more, times_ordered, together, unwrap_or, zero, ℕ, ℤ, ◌++◌, ◌+◌, ◌-◌, ◌<ℤ◌, ◌<◌, ◌∙◌, ◌∷◌, ◌≡◌, ◌≤ℤ◌, ◌≤◌},
 }
 use Rattle.tz_info.specs.declared.zone.made.shown.Shown.TheVariants.{Once}
 
-abbrev pub Answer : Type 0
-Answer = Shown
-
 -- one piece more
-pub before_pushed : (b : Answer) (ps : List Piece) (p : Piece) → answer_before b (ps ++ (p ∷ [])) ≡ p.answer
+pub before_pushed : (b : Shown) (ps : List Piece) (p : Piece) → answer_before b (ps ++ (p ∷ [])) ≡ p.answer
 before_pushed b [] p = refl
 before_pushed b (q ∷ ps) p = before_pushed _ ps p
 
-pub at_later : (b : Answer) (ps : List Piece) (p : Piece) (l : ℤ) → p.start ≤ℤ l → answer_at b (ps ++ (p ∷ [])) l ≡ p.answer
+pub at_later : (b : Shown) (ps : List Piece) (p : Piece) (l : ℤ) → p.start ≤ℤ l → answer_at b (ps ++ (p ∷ [])) l ≡ p.answer
 at_later b [] p l h = rw (le_true _ l h)
 at_later b (q ∷ ps) p l h = grind (arith, at_later b ps p l h, at_later q.answer ps p l h)
 
-pub at_earlier : (b : Answer) (ps : List Piece) (p : Piece) (l : ℤ) → l <ℤ p.start → answer_at b (ps ++ (p ∷ [])) l ≡ answer_at b ps l
+pub at_earlier : (b : Shown) (ps : List Piece) (p : Piece) (l : ℤ) → l <ℤ p.start → answer_at b (ps ++ (p ∷ [])) l ≡ answer_at b ps l
 at_earlier b [] p l h = rw (le_false _ l h)
 at_earlier b (q ∷ ps) p l h = grind (arith, at_earlier b ps p l h, at_earlier q.answer ps p l h)
 
@@ -28,31 +25,22 @@ abbrev pub StartBy : List Piece → ℤ → Type 0
 StartBy ps l = (k : ℕ) (d : Piece) → k < length ps → (get_or ps k d).start ≤ℤ l
 
 -- if all have started the last one answers
-pub at_all : (b : Answer) (ps : List Piece) (l : ℤ) → StartBy ps l → answer_at b ps l ≡ answer_before b ps
+pub at_all : (b : Shown) (ps : List Piece) (l : ℤ) → StartBy ps l → answer_at b ps l ≡ answer_before b ps
 at_all b [] l h = refl
-at_all b (q ∷ ps) l h = rw (le_true _ l (h 0 q (omega arith))) (at_all _ ps l (λ k d m. h (suc k) d (omega arith)))
+at_all b (q ∷ ps) l h = grind (arith, le_true, h 0 q, at_all q.answer ps l (λ k d m. h (suc k) d (omega arith)))
 
 start_by_pushed : (ps : List Piece) (p : Piece) (l : ℤ) → StartBy (ps ++ (p ∷ [])) l → StartBy ps l × (p.start ≤ℤ l)
-start_by_pushed [] p l h = ((λ k d m. absurd (omega arith)), h 0 p (omega arith))
-start_by_pushed (q ∷ ps) p l h =
-    let r = start_by_pushed ps p l (λ k d m. h (suc k) d (omega arith)) in
-    ((λ k d m. by_place q ps l (h 0 q (omega arith)) r.0 k d m), r.1) where
-      by_place : (q : Piece) (ps : List Piece) (l : ℤ) → q.start ≤ℤ l → StartBy ps l → StartBy (q ∷ ps) l
-      by_place q ps l a b zero d m = a
-      by_place q ps l a b (suc k) d m = b k d (omega arith)
+start_by_pushed ps p l h = grind (linear, get_or_push, get_or_append_left, length_push)
 
 pub start_by_push : (ps : List Piece) (p : Piece) (l : ℤ) → StartBy ps l → p.start ≤ℤ l → StartBy (ps ++ (p ∷ [])) l
 start_by_push ps p l h s = All-push (λ (q : Piece). q.start ≤ℤ l) ps p h s
 
--- how the answers of both are joined, and the same if the second comes first
+-- how the answers of both are joined
 abbrev Join : Type 0
-Join = Answer → Answer → Answer
-
-abbrev turned : Join → Join
-turned join a b = join b a
+Join = Shown → Shown → Shown
 
 -- the first i pieces of xs and the first j of ys are merged
-pub record Merging (join : Answer → Answer → Answer) (bx : Answer) (xs : List Piece) (by : Answer) (ys : List Piece) (out : List Piece) (i j : ℕ) : Type 0 where
+pub record Merging (join : Join) (bx : Shown) (xs : List Piece) (by : Shown) (ys : List Piece) (out : List Piece) (i j : ℕ) : Type 0 where
   pub in_x : i ≤ length xs
   pub in_y : j ≤ length ys
   pub ordered : AreInOrder out
@@ -63,12 +51,12 @@ pub record Merging (join : Answer → Answer → Answer) (bx : Answer) (xs : Lis
   pub answers : (l : ℤ) → answer_at (join bx by) out l ≡ join (answer_at bx (take i xs) l) (answer_at by (take j ys) l)
 
 -- so are those of ys and those of xs
-merging_turned : (join : Join) (bx : Answer) (xs : List Piece) (by : Answer) (ys out : List Piece) (i j : ℕ) → Merging join bx xs by ys out i j
-    → Merging (turned join) by ys bx xs out j i
+merging_turned : (join : Join) (bx : Shown) (xs : List Piece) (by : Shown) (ys out : List Piece) (i j : ℕ) → Merging join bx xs by ys out i j
+    → Merging (λ a b. join b a) by ys bx xs out j i
 merging_turned _ bx xs by ys out i j m = grind linear
 
 -- the next piece is that of xs
-merging_x : (join : Join) (bx : Answer) (xs : List Piece) (by : Answer) (ys out : List Piece) (i j : ℕ) (p : Piece) → AreInOrder xs
+merging_x : (join : Join) (bx : Shown) (xs : List Piece) (by : Shown) (ys out : List Piece) (i j : ℕ) (p : Piece) → AreInOrder xs
     → Merging join bx xs by ys out i j → IsNext xs i ys j
     → ((d : Piece) → p.start ≡ (get_or xs i d).start) → p.answer ≡ join (answer_before bx (take (i + 1) xs)) (answer_before by (take j ys))
     → Merging join bx xs by ys (out ++ (p ∷ [])) (i + 1) j
@@ -77,70 +65,61 @@ merging_x join bx xs by ys out i j p order m next starts is =
     let inside = next.inside in
     let here = starts p in
     let more = take_more xs i p inside in
-    let answer =
-    is ∙ ap (λ a. join a (answer_before by (take j ys))) (ap (answer_before bx) more ∙ before_pushed bx (take i xs) x) in
+    let ahead = m.ahead_x p inside in
     record {
       in_x = omega arith;
       in_y = m.in_y;
-      ordered = all_pairs_push (λ (a b : Piece). a.start ≤ℤ b.start) out p m.ordered (λ k d l. let h = m.ahead_x p inside k d l in omega linear);
+      ordered = all_pairs_push (λ (a b : Piece). a.start ≤ℤ b.start) out p m.ordered (grind linear);
       count = length_push out p ∙ omega arith;
-      ahead_x = λ d l. start_by_push out p _ (λ k e n. let h = m.ahead_x d inside k e n in
-          let o = order i (i + 1) d (omega arith) l in omega linear) (let s = starts d in
-          let o = order i (i + 1) d (omega arith) l in omega linear);
+      ahead_x = λ d l. let a = m.ahead_x d inside in let o = order i (i + 1) d (omega arith) l in let s = starts d in start_by_push out p _ (grind linear) (omega linear);
       ahead_y = λ d l. start_by_push out p _ (m.ahead_y d l) (let s = starts d in let o = next.least d l in omega linear);
       started = λ l h. let s = start_by_pushed out p l h in let t = m.started l s.0 in
           (rw more (start_by_push _ x l t.0 (omega linear)), t.1);
       answers = λ l. by_lt_z l p.start
-          (λ before. at_earlier _ out p l before ∙ m.answers l
-          ∙ ap (λ a. join a (answer_at by (take j ys) l)) (sym (rw more (at_earlier bx _ x l (omega linear)))))
+          (λ before. let a = m.answers l in rw more (grind (linear, at_earlier)))
           (λ from.
-          let by_now : StartBy out l = λ k d n. let h = m.ahead_x p inside k d n in omega linear in
-          at_later _ out p l from ∙ answer
-          ∙ rw (more, at_later bx _ x l (omega linear), at_all by _ l ((m.started l by_now).1)) refl);
+          let by_now : StartBy out l = grind linear in
+          let all = at_all by _ l ((m.started l by_now).1) in
+          let b = before_pushed bx (take i xs) x in
+          rw more (grind (linear, at_later, rw more at is)));
     }
 
 -- the piece that comes next is added
-pub merging_more : (bx : Answer) (xs : List Piece) (by : Answer) (ys out after : List Piece) (i j i_after j_after : ℕ) (start : ℤ) (a : Answer) → AreInOrder xs
+pub merging_more : (bx : Shown) (xs : List Piece) (by : Shown) (ys out after : List Piece) (i j i_after j_after : ℕ) (start : ℤ) (a : Shown) → AreInOrder xs
     → AreInOrder ys → Merging together bx xs by ys out i j → IsStep xs i ys j start i_after j_after
     → a ≡ together (answer_before bx (take i_after xs)) (answer_before by (take j_after ys)) → after ≡ out ++ (record { start = start; answer = a } ∷ [])
     → Merging together bx xs by ys after i_after j_after
 merging_more bx xs by ys out _ i j _ _ _ a in_x in_y m (inl s) is e =
-    rw (e, s.passed, s.stays)
-    (merging_x _ bx xs by ys out i j _ in_x m s.next s.starts (rw (s.passed, s.stays) at is))
-merging_more bx xs by ys out after i j i_after j_after start a in_x in_y m (inr s) is e =
+    rw (e, s.passed, s.stays) (merging_x _ bx xs by ys out i j _ in_x m s.next s.starts (rw (s.passed, s.stays) at is))
+merging_more bx xs by ys out _ i j _ _ _ a in_x in_y m (inr s) is e =
     rw (e, s.passed, s.stays) (merging_turned _ by ys bx xs _ _ i
-    (merging_x _ by ys bx xs out j i _ in_y (merging_turned _ bx xs by ys out i j m) s.next s.starts
-    (rw (s.stays, s.passed) at is)))
+    (merging_x _ by ys bx xs out j i _ in_y (merging_turned _ bx xs by ys out i j m) s.next s.starts (rw (s.stays, s.passed) at is)))
 
 pub step_count : (xs ys : List Piece) (i j i_after j_after : ℕ) (start : ℤ) → IsStep xs i ys j start i_after j_after → i_after + j_after ≡ i + j + 1
-step_count xs ys i j _ _ _ (inl s) = omega arith
-step_count xs ys i j i_after j_after start (inr s) = omega arith
+step_count xs ys i j i_after j_after start s = grind arith
 
 -- pieces in order, by the list of their starts
 pub starts_in_order : (ps : List Piece) → AreInOrder ps → AreOrdered (map (λ (p : Piece). p.start) ps)
-starts_in_order ps order = times_ordered (λ (p : Piece). p.start) ps (record { start = pos 0; answer = Once 0 }) (λ i j h l. order i j _ h l)
+starts_in_order ps order = times_ordered (λ (p : Piece). p.start) ps (record { start = pos 0; answer = Once 0 }) (λ i j. order i j _)
 
 -- pieces of which n have begun at a local time
-module _ (b : Answer) (ps : List Piece) (l : ℤ) (n : ℕ) (passed : ArePassed (map (λ (p : Piece). p.start) ps) l n) where
+module _ (b : Shown) (ps : List Piece) (l : ℤ) (n : ℕ) (passed : ArePassed (map (λ (p : Piece). p.start) ps) l n) where
   -- the last of the pieces that have started answers, and `b` does if none has
   started : answer_at b ps l ≡ answer_before b (take n ps)
   started = ap (answer_before b) (first_come (λ (p : Piece). p.start) ps l n passed)
 
   pub none_answers : IsLastOf ps n none → b ≡ answer_at b ps l
-  none_answers latest = elim (cases_lt 0 n) [
-    | inl h ↦ let s = latest.some h in absurd (none-some s.0 s.1)
-    | inr g ↦ let e : n ≡ 0 = omega arith in sym (started ∙ rw e)
-  ]
+  none_answers latest = let s = started in grind (arith, latest)
 
-pub latest_answers : (b : Answer) (ps : List Piece) (l : ℤ) (n : ℕ) (p : Piece) → ArePassed (map (λ (p : Piece). p.start) ps) l n
-    → IsLastOf ps n (some p) → p.answer ≡ answer_at b ps l
-latest_answers b ps l n p passed latest = elim (cases_lt 0 n) [
-  | inl h ↦
-      let s = latest.some h in
-      let same = length-map ps (λ (p : Piece). p.start) in
-      let is = ap (λ (o : Option Piece). unwrap_or o p) s.1 in
-      let e : n ≡ suc (n - 1) = omega arith in
-      sym (started b ps l n passed ∙ ap (λ k. answer_before b (take k ps)) e ∙ last_taken (λ (q : Piece). q.answer) b ps _ s.0 (omega arith)
-      ∙ ap (λ (q : Piece). q.answer) (sym s.2 ∙ sym is))
-  | inr g ↦ let e : n ≡ 0 = omega arith in absurd (none-some p (sym (latest.none e)))
-]
+  pub latest_answers : (p : Piece) → IsLastOf ps n (some p) → p.answer ≡ answer_at b ps l
+  latest_answers p latest = elim (cases_lt 0 n) [
+    | inl h ↦
+        let (x, is, at) = latest.some h in
+        let same = length-map ps (λ (p : Piece). p.start) in
+        let within = passed.within in
+        let e : n ≡ suc (n - 1) = omega arith in
+        let taken = last_taken (λ (q : Piece). q.answer) b ps (n - 1) x (omega arith) in
+        let is_same : p ≡ x = cc in
+        let begun = rw e at started in grind arith
+    | inr g ↦ grind (arith, latest.none)
+  ]

@@ -23,37 +23,26 @@ answer_before p decided start none (suc n) =
     let earlier = answer_before p decided start none n in
     let last = start +ℤ pos n in
     let end = start +ℤ pos (suc n) in
-    let old : (u : ℤ) (t : LocalType) → Before p last u t → Before p end u t = λ u t h. let r = h.1 in (h.0, omega (linear, r)) in
-    let only : (u : ℤ) (t : LocalType) → Before p end u t → Before p last u t ⊎ (u ≡ last) = λ u t h. let r = h.1 in
-    by_lt_z u last (λ less. inl (h.0, less)) (λ more. inr (omega (linear, r, more))) in
+    let old : (u : ℤ) (t : LocalType) → Before p last u t → Before p end u t = λ u t h. (h.0, omega (linear, h.1)) in
+    let only : (u : ℤ) (t : LocalType) → Before p end u t → Before p last u t ⊎ (u ≡ last) = λ u t h. by_lt_z u last
+    (λ less. inl (h.0, less)) (λ more. inr (omega (linear, h.1, more))) in
     elim (decided last) [
-      | inl found ↦ (
-        joined earlier.0 _,
-        behind_answer _ _ _ _ _ old only (found.1, omega linear) (λ u f h. h.1) earlier.1,
-      )
-      | inr missing ↦ (
-        earlier.0,
-        same_answer _ _ _ old (λ u t h. elim (only u t h) [
-          | inl i ↦ i
-          | inr e ↦ absurd (missing t (subst (λ w. p w t) e h.0))
-        ]) earlier.1,
-      )
+      | inl found ↦ (joined earlier.0 _, behind_answer _ _ _ _ _ old only (found.1, omega linear) (λ u f h. h.1) earlier.1)
+      | inr missing ↦ (earlier.0, same_answer _ _ _ old (λ u t h. elim (only u t h) [ inl i ↦ i | inr e ↦ absurd (missing t (rw e at h.0)) ]) earlier.1)
     ]
 
 -- whether a second shows the local time
 shown_or_not : (z : Zone) (local : ℤ) → IsValid z → IsRuleOrNone z.rule → IsDecided (Shows (TypeAt z) local)
 shown_or_not z local valid rule u = elim (type_decided z u valid rule) [
   | inl found ↦ elim (both_known (fits_or_not u) (equal_known (u +ℤ found.0.offset) local)) [
-    | inl shown ↦ inl (found.0, record { fits = shown.0; type = found.1; shown = shown.1 })
-    | inr other ↦ inr (λ t h. let same = type_once z u t _ h.type found.1 in
-        other (h.fits, subst (λ f. u +ℤ f.offset ≡ local) same h.shown))
+    | inl shown ↦ inl (found.0, grind linear)
+    | inr other ↦ inr (λ t h. other (h.fits, rw (type_once z u t _ h.type found.1) at h.shown))
   ]
   | inr refused ↦ inr (λ t h. type_not_refused z u t h.type refused)
 ]
 
 pub wall_decided : (z : Zone) (local : ℤ) → IsValid z → IsRuleOrNone z.rule → (types : LocalResult LocalType) × IsWallAnswer (Shows (TypeAt z) local) types
 wall_decided z local valid rule =
-    let shows = Shows (TypeAt z) local in
-    let start = neg_ℤ (pos 9_223_372_036_854_775_808) in
-    let before = answer_before shows (shown_or_not z _ valid rule) start (λ u t h. omega linear) 18_446_744_073_709_551_616 in
+    let before = answer_before (Shows (TypeAt z) local) (shown_or_not z _ valid rule) (neg_ℤ (pos 9_223_372_036_854_775_808)) (λ u t h. omega linear)
+    18_446_744_073_709_551_616 in
     (before.0, same_answer _ _ _ (λ u t h. h.0) (λ u t h. (h, omega linear)) before.1)

@@ -13,12 +13,10 @@ pub read-requires-clause-room : goal.read-requires-clause-room
 read-requires-clause-room g c = grind (arith, digits-halved)
 
 pub returns-then-self-second-clause-passed : goal.returns-then-self-second-clause-passed
-returns-then-self-second-clause-passed g c =
-    let (fv, long, ends, hints) = kept g (goal.at.returns-then-self-second-clause-passed g c).After-self in
-    all_passed _ _ _ _ c.len-count.ensures.ordered (omega arith) (omega arith) ends (omega (arith, ints))
+returns-then-self-second-clause-passed g c = grind (arith, ints, all_passed, kept)
 
 pub returns-then-self-second-clause-cost : goal.returns-then-self-second-clause-cost
-returns-then-self-second-clause-cost g c = λ h. let some = digits-halved _ h in grind (arith, ints)
+returns-then-self-second-clause-cost g c = grind (arith, ints, digits-halved)
 
 pub count_look-requires : goal.count_look-requires
 count_look-requires g c = grind (arith, digits-halved)
@@ -27,7 +25,7 @@ pub returns-then-second-self-clause-passed : goal.returns-then-second-self-claus
 returns-then-second-self-clause-passed g c = grind (arith, ints, to_z-of_z, none_passed)
 
 pub returns-then-second-self-clause-cost : goal.returns-then-second-self-clause-cost
-returns-then-second-self-clause-cost g c = λ h. let some = digits-halved _ h in grind (arith, ints)
+returns-then-second-self-clause-cost g c = grind (arith, ints, digits-halved)
 
 pub passed_near-requires-clause-near : goal.passed_near-requires-clause-near
 passed_near-requires-clause-near g c =

@@ -3,14 +3,13 @@ use Rattle.tz_info.proofs.timeline.Timeline.passed_near.Goals as goal
 use Rattle.tz_info.proofs.timeline.Timeline.passed_near.Goals.{else-left-gt1, then-left-gt1+else-left-gt1-2, then-left-gt1+then-left-gt1-2}
 
 pub narrowed-once-requires-clause-room : goal.narrowed-once-requires-clause-room
-narrowed-once-requires-clause-room g c = let three = digits-three _ c.requires.many in grind arith
+narrowed-once-requires-clause-room g c = grind (arith, digits-three)
 
 pub narrowed-left-requires-clause-room : goal.narrowed-left-requires-clause-room
-narrowed-left-requires-clause-room g c = let three = digits-three _ c.requires.many in grind arith
+narrowed-left-requires-clause-room g c = grind (arith, digits-three)
 
 pub narrowed-left-requires-then-left-gt1-clause-room : goal.narrowed-left-requires-then-left-gt1-clause-room
-narrowed-left-requires-then-left-gt1-clause-room g c = let three = digits-three _ c.requires.many in
-    grind arith
+narrowed-left-requires-then-left-gt1-clause-room g c = grind (arith, digits-three)
 
 pub narrowed-left-requires-then-left-gt1-2-clause-room : goal.narrowed-left-requires-then-left-gt1-2-clause-room
 narrowed-left-requires-then-left-gt1-2-clause-room g c =
@@ -18,22 +17,12 @@ narrowed-left-requires-then-left-gt1-2-clause-room g c =
 
 pub loop-left-init : goal.loop-left-init
 loop-left-init g c =
-    let most = two_steps _ c.narrowed-left.result.count _ c.requires.near.some c.requires.narrow c.requires.many
-    (omega arith) in
-    let two = c.narrowed-left.ensures.cost ∙ ap (λ p. g.T.Timed.counted p 1) c.narrowed-once.ensures.cost
-    ∙ g.met.T.Timed.counts_up _ 1 1 in
+    let most = two_steps _ c.narrowed-left.result.count _ c.requires.near.some c.requires.narrow c.requires.many (omega arith) in
+    let up = g.met.T.Timed.counts_up in
     elim c.if-left-gt1.branch [
-      | then-left-gt1+then-left-gt1-2 w ↦
-          let three = w.narrowed-left-then-left-gt1.ensures.cost ∙ ap (λ p. g.T.Timed.counted p 1) two
-          ∙ g.met.T.Timed.counts_up _ 2 1 in
-          let four = w.narrowed-left-then-left-gt1-2.ensures.cost ∙ ap (λ p. g.T.Timed.counted p 1) three
-          ∙ g.met.T.Timed.counts_up _ 3 1 in
-          record { near = grind arith; looks = 4; most = grind (arith, one_step); counts = w.probes-is ∙ four }
-      | then-left-gt1+else-left-gt1-2 w ↦
-          let three = w.narrowed-left-then-left-gt1.ensures.cost ∙ ap (λ p. g.T.Timed.counted p 1) two
-          ∙ g.met.T.Timed.counts_up _ 2 1 in
-          record { near = grind arith; looks = 3; most = grind (arith, one_step); counts = w.probes-is ∙ three }
-      | else-left-gt1 w ↦ record { near = grind arith; looks = 2; most = grind arith; counts = w.probes-is ∙ two }
+      | then-left-gt1+then-left-gt1-2 w ↦ record { near = grind arith; looks = 4; most = grind (arith, one_step); counts = grind (arith, up) }
+      | then-left-gt1+else-left-gt1-2 w ↦ record { near = grind arith; looks = 3; most = grind (arith, one_step); counts = grind (arith, up) }
+      | else-left-gt1 w ↦ record { near = grind arith; looks = 2; most = grind arith; counts = grind (arith, up) }
     ]
 
 pub loop-left-preserved : goal.loop-left-preserved

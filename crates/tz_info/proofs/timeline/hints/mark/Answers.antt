@@ -6,10 +6,8 @@ pub seconds_between-requires : goal.seconds_between-requires
 seconds_between-requires g c =
     let ff = c.ranges.first in
     let fs : SFits w64 c.second.result = search rules in
-    let from = c.requires.first c.loop-place.place c.loop-place-test.true in
-    let time = c.second.ensures ∙ time_read g.T.Timed.time c.args.items.now c.loop-place.place c.index-items-place.result
-    c.loop-place-test.true c.index-items-place.is in
-    omega (arith, ints)
+    let time = time_read g.T.Timed.time c.args.items.now c.loop-place.place c.index-items-place.result c.loop-place-test.true c.index-items-place.is in
+    grind (arith, ints, c.requires.first c.loop-place.place)
 
 -- the stretch of the item, which has a slot after it
 slot : (g : Over) (c : goal.After-seconds_between g)
@@ -17,32 +15,16 @@ slot : (g : Over) (c : goal.After-seconds_between g)
 slot g c =
     let ff = c.ranges.first in
     let fs : SFits w64 c.second.result = search rules in
-    let time = c.second.ensures ∙ time_read g.T.Timed.time c.args.items.now c.loop-place.place c.index-items-place.result
-    c.loop-place-test.true c.index-items-place.is in
-    let between = simp to_z-of_z at c.seconds_between.ensures in grind (arith, ints)
+    grind (arith, ints, to_z-of_z, time_read)
 
 pub overflow_add-places : goal.overflow_add-places
-overflow_add-places g c = let room = c.requires.room c.loop-place.place c.loop-place-test.true in let is = slot g c in
-    let count = c.loop-place.invariant.count in omega arith
+overflow_add-places g c = omega (arith, slot g c, c.requires.room c.loop-place.place c.loop-place-test.true)
 
 pub offset_bounds-places-stretch : goal.offset_bounds-places-stretch
-offset_bounds-places-stretch g c = let room = c.requires.room c.loop-place.place c.loop-place-test.true in let is = slot g c in
-    let count = c.loop-place.invariant.count in omega arith
+offset_bounds-places-stretch g c = omega (arith, slot g c, c.requires.room c.loop-place.place c.loop-place-test.true)
 
 pub bounds-places-stretch : goal.bounds-places-stretch
-bounds-places-stretch g c = let room = c.requires.room c.loop-place.place c.loop-place-test.true in let is = slot g c in
-    let count = c.loop-place.invariant.count in omega arith
+bounds-places-stretch g c = omega (arith, slot g c, c.requires.room c.loop-place.place c.loop-place-test.true)
 
 pub loop-place-preserved : goal.loop-place-preserved
-loop-place-preserved g c =
-    let ff = c.ranges.first in
-    let room = c.requires.room c.loop-place.place c.loop-place-test.true in
-    let is = slot g c in
-    let count = c.loop-place.invariant.count in
-    let marked = simp to_z-of_z at c.loop-place.invariant.marked in
-    record {
-      marked =
-          simp to_z-of_z (marked_more _ c.args.first c.args.shift c.loop-place.place (c.seconds_between.result / 2 ^ c.args.shift)
-          c.loop-place.places marked is (omega arith));
-      count = length-set c.loop-place.places (c.seconds_between.result / 2 ^ c.args.shift + 1) c.loop-place.place ∙ count;
-    }
+loop-place-preserved g c = grind (arith, to_z-of_z, marked_more, slot, length-set)

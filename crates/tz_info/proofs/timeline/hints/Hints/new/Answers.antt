@@ -6,7 +6,7 @@ use Rattle.tz_info.proofs.timeline.hints.Hints.new.Goals as goal
 
 -- the first item's time, and the span
 first_is : (g : Over) (c : After-deref_mut g) → c.second-first.result ≡ item_time (map g.T.Timed.time c.args.items.now) 0
-first_is g c = c.second-first.ensures ∙ time_read g.T.Timed.time c.args.items.now 0 c.index-items-0.result (omega arith) c.index-items-0.is
+first_is g c = grind (arith, time_read)
 
 span_is : (g : Over) (c : After-deref_mut g)
     → pos c.seconds_between-span.result ≡ item_time (map g.T.Timed.time c.args.items.now) (length (map g.T.Timed.time c.args.items.now) - 1)
@@ -14,31 +14,20 @@ span_is : (g : Over) (c : After-deref_mut g)
 span_is g c =
     let fs : SFits w64 c.second.result = search rules in
     let ff : SFits w64 c.second-first.result = search rules in
-    let long = length-map c.args.items.now g.T.Timed.time in
-    let last = c.second.ensures ∙ time_read g.T.Timed.time c.args.items.now (length c.args.items.now - 1) c.index-items-count.result
-    (omega arith) c.index-items-count.is in
-    let between = simp to_z-of_z at c.seconds_between-span.ensures in grind arith
+    let long = length-map c.args.items.now g.T.Timed.time in grind (arith, to_z-of_z, time_read)
 
 zeros_count : (g : Over) (c : After-deref_mut g) → length c.deref_mut.result.now ≡ c.seconds_between-span.result / 2 ^ c.shift_for-shift.result + 2
 zeros_count g c = grind (arith, length-replicate)
 
 pub mark-requires-clause-first : goal.mark-requires-clause-first
-mark-requires-clause-first g c = λ k h.
-    let ff : SFits w64 c.second-first.result = search rules in
-    let long = length-map c.args.items.now g.T.Timed.time in
-    simp to_z-of_z (first_least _ c.second-first.result k c.requires (first_is g c) (omega arith))
+mark-requires-clause-first g c = λ k h. grind (arith, to_z-of_z, first_least, first_is, length-map)
 
 pub mark-requires-clause-room : goal.mark-requires-clause-room
-mark-requires-clause-room g c = λ k h.
-    let ff : SFits w64 c.second-first.result = search rules in
-    let long = length-map c.args.items.now g.T.Timed.time in
-    let slot = slots (map g.T.Timed.time c.args.items.now) c.second-first.result c.seconds_between-span.result c.shift_for-shift.result k c.requires
-    (first_is g c) (span_is g c) (omega arith) in
-    let count = zeros_count g c in grind (arith, to_z-of_z)
+mark-requires-clause-room g c = λ k h. grind (arith, to_z-of_z, slots, first_is, span_is, zeros_count, length-map)
 
 -- what a slice of all numbers was written to
 written : (len : ℕ) (new old : List ℕ) → length new ≡ len → take len (new ++ drop (length new) old) ≡ new
-written len new old e = take-append-le len new (drop (length new) old) (omega arith) ∙ take_all len new (omega arith)
+written len new old e = grind (arith, take-append-le, take_all)
 
 pub raise-requires : goal.raise-requires
 raise-requires g c =
@@ -48,12 +37,11 @@ raise-requires g c =
     let count = zeros_count g at in
     let same = c.mark.ensures.length in
     let size = c.in_ok-places.ensures.len in
-    rw (c.deref_mut-2.ensures.value ∙ written c.in_ok-places.places.len c.mark.new.places _ (omega arith))
-    (marks_rise (map g.T.Timed.time c.args.items.now) c.second-first.result c.shift_for-shift.result c.mark.new.places c.requires (first_is g at)
-    (rw long (simp to_z-of_z at c.mark.ensures.marked)))
+    rw (c.deref_mut-2.ensures.value ∙ written _ c.mark.new.places _ (omega arith))
+    (marks_rise _ _ c.shift_for-shift.result _ c.requires (first_is g at) (rw long (simp to_z-of_z at c.mark.ensures.marked)))
 
 pub returns-then-most-count : goal.returns-then-most-count
-returns-then-most-count g c = c.none-then-most-count.ensures (map g.T.Timed.time c.args.items.now)
+returns-then-most-count g c = c.none-then-most-count.ensures _
 
 -- the numbers that were raised are those that were marked
 raised : (g : Over) (c : After-deref g) → length c.deref_mut.result.now ≡ c.seconds_between-span.result / 2 ^ c.shift_for-shift.result + 2

@@ -9,5 +9,5 @@ returns-clause-end c =
     let fc = c.cut_at.type_inv in
     let e = c.entry-entry.ensures in
     let same : (c.args.place - 1) + 1 ≡ c.args.place = omega arith in
-    simp fits ((rw (rw same at e.entry.at, c.offset.ensures.value) at (simp fits at c.cut_at.ensures)) ∙ sym (end_before _ _ _ _ c.requires.first
+    simp fits ((rw (rw same at e.entry.at, c.offset.ensures.value) at (simp fits at c.cut_at.ensures)) ∙ sym (end_before _ _ c.args.place _
     (rw e.entry.before at (slice_get_read _ _ _ _ refl e.before c.index-types-entry.is))))

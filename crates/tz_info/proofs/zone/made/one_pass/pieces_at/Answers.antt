@@ -4,17 +4,10 @@ use Rattle.tz_info.proofs.zone.made.one_pass.pieces_at.Goals.{else-end-start, th
 use Rattle.tz_info.proofs.zone.made.one_pass.pieces_at.Goals as goal
 
 pub small-earlier-requires : goal.small-earlier-requires
-small-earlier-requires c =
-    let least = slice_get_within c.args.lists.types.now c.args.before.index c.requires.before.type c.requires.before.listed in
-    let next = slice_get_within c.args.lists.types.now c.args.behind.index c.requires.behind.type c.requires.behind.listed in
-    elim c.if-end-start.branch [
-      | then-end-start w ↦ rw w.first-is (λ great. absurd (omega arith))
-      | else-end-start w ↦ rw w.first-is (λ great. elim great [ inl i ↦ absurd (omega arith) | inr k ↦ absurd (omega arith) ])
-    ]
+small-earlier-requires c = grind (arith, slice_get_within)
 
 pub small-later-requires : goal.small-later-requires
-small-later-requires c = λ great.
-    let next = slice_get_within c.args.lists.types.now c.args.behind.index c.requires.behind.type c.requires.behind.listed in absurd (omega arith)
+small-later-requires c = grind (arith, slice_get_within)
 
 pub returns : goal.returns
 returns c =

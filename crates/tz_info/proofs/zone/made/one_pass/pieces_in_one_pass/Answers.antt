@@ -1,6 +1,6 @@
-use Rattle.tz_info.proofs.Words.{List, Piece, SFits, add-one, ap, arith, cut_of, inl, ints, length, rules, suc, to_z-of_z, w64, zone_in}
+use Rattle.tz_info.proofs.Words.{List, Piece, SFits, add-one, ap, arith, cut_of, inl, linear, length, rules, suc, to_z-of_z, w64, zone_in}
 use Rattle.tz_info.proofs.Words.{[], ◌++◌, ◌-◌, ◌∙◌, ◌∷◌, ◌≡◌, ◌<◌}
-use Rattle.tz_info.proofs.OnePass.{crossed_by, cuts_of, end_before, ends_closed, ends_open, open_first, open_more}
+use Rattle.tz_info.proofs.OnePass.{crossed_by, cuts_of, end_before, ends_rise, open_first, open_more}
 use Rattle.tz_info.proofs.zone.made.one_pass.pieces_in_one_pass.Goals.{else-count-entries, then-count-entries+else-is_crossed-2}
 use Rattle.tz_info.proofs.zone.made.one_pass.pieces_in_one_pass.Goals as goal
 
@@ -22,9 +22,8 @@ loop-place-preserved c =
     let out = c.push_reserved-in-loop-place.ensures.items ∙ ap (λ (ps : List Piece). ps ++ (c.pieces_at-first.result.1 ∷ [])) c.push_reserved.ensures.items in
     rw add-one (record {
       pieces =
-          simp to_z-of_z (open_more (zone_in c.args.lists) c.args.entries.now c.args.count c.loop-place.place _ c.loop-place.pieces.items _ _
-          c.pieces_at-first.result.0 c.pieces_at-first.result.1
-          c.requires.table (omega arith) (omega arith) c.loop-place.invariant.pieces c.pieces_at-first.ensures strict out);
+          simp to_z-of_z (open_more (zone_in c.args.lists) c.args.entries.now c.loop-place.place _ _ c.pieces_at-first.ensures _ c.loop-place.pieces.items
+          _ c.loop-place.invariant.pieces strict c.args.count _ c.requires.table (omega arith) (omega arith) out);
       before = let one : suc c.loop-place.place - 1 ≡ c.loop-place.place = omega arith in rw one c.segment_at-behind.ensures;
       count = omega (arith, c.push_reserved.ensures.len, c.push_reserved-in-loop-place.ensures.len);
       room = omega (arith, c.push_reserved.ensures.capacity, c.push_reserved-in-loop-place.ensures.capacity);
@@ -37,8 +36,7 @@ returns-then-is_crossed c =
     let crossed = simp to_z-of_z at (c.is_crossed.ensures.crossed c.if-is_crossed.true) in
     crossed_by (zone_in c.args.lists) c.args.entries.now c.loop-place.place _ _ _ c.pieces_at-first.result.0.start (omega arith)
     crossed.0 c.loop-place.invariant.pieces
-    (cuts_of c.args.lists.types.now c.args.entries.now c.loop-place.place
-    c.pieces_at-first.result.0 c.pieces_at-first.result.1 c.pieces_at-first.ensures).0 crossed.1
+    (cuts_of (zone_in c.args.lists) _ _ _ _ c.pieces_at-first.ensures).0 crossed.1
 
 pub returns-then-is_crossed-2 : goal.returns-then-is_crossed-2
 returns-then-is_crossed-2 c =
@@ -70,15 +68,15 @@ returns c =
           let strict = rw (here, cut) at (simp to_z-of_z at (w.is_crossed-then-count-entries.ensures.behind w.if-is_crossed-2.false)) in (
             rw (w.pieces-is, w.push_reserved-then-count-entries.ensures.items, simp to_z-of_z at w.small-piece.ensures, cut, here, c.segment_at.ensures.index)
                 (c.loop-place.invariant.pieces.closed (omega arith) seg.type (rw seg.index at seg.listed) seg.is_offset strict),
-            ends_closed (zone_in c.args.lists) c.args.entries.now c.loop-place.place _ _ _ c.loop-place.invariant.pieces (omega arith)
-                (rw (← end_before _ _ c.loop-place.place seg.type (omega arith) (rw seg.index at seg.listed)) at strict),
+            λ k first below. ends_rise (zone_in c.args.lists) c.args.entries.now c.loop-place.place _ _ _ c.loop-place.invariant.pieces
+                (rw (← end_before _ _ c.loop-place.place seg.type (rw seg.index at seg.listed)) at strict) k first (omega arith),
           )
       | else-count-entries w ↦
           let all : length c.args.entries.now < c.loop-place.place = let more = w.if-count-entries.false in omega arith in (
             rw (w.pieces-is, here, c.segment_at.ensures.index) (c.loop-place.invariant.pieces.whole all),
-            ends_open (zone_in c.args.lists) c.args.entries.now c.loop-place.place _ _ _ c.loop-place.invariant.pieces all,
+            λ k first below. c.loop-place.invariant.pieces.rising k first (omega arith),
           )
     ]
 
 pub push_reserved-requires-then-count-entries : goal.push_reserved-requires-then-count-entries
-push_reserved-requires-then-count-entries c = grind (arith, ints, c.loop-place.auto.place-end, c.requires.some)
+push_reserved-requires-then-count-entries c = grind (linear, c.loop-place.auto.place-end, c.requires.some)

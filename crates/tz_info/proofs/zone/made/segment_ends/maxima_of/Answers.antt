@@ -6,13 +6,9 @@ loop-place-preserved c =
     let fl = c.later-latest.type_inv in
     let fe = c.end_of.type_inv in
     let one : c.loop-place.place + 1 ≡ suc c.loop-place.place = omega arith in
-    let count = c.loop-place.invariant.count in let room = c.loop-place.invariant.room in
     record {
-      maxima =
-          rw one
-          (simp fits (maxima_more _ _ _ _ _ _
-          _ c.loop-place.invariant.maxima
+      maxima = rw one (simp fits (maxima_more _ _ _ _ _ _ _ c.loop-place.invariant.maxima
           (rw one at (rw c.end_of.ensures at (simp fits at c.later-latest.ensures))) (simp fits at c.push_reserved.ensures.items)));
-      count = omega arith;
-      room = omega arith;
+      count = grind arith;
+      room = grind arith;
     }

@@ -1,4 +1,4 @@
-use Rattle.tz_info.proofs.{Fits.fits, WallSegments.{first_pieces, inner_pieces, last_pieces}, Words.{SFits, add-one, ap, arith, cut_of, rules, w64, ◌+◌, ◌∙◌}}
+use Rattle.tz_info.proofs.{Fits.fits, WallSegments.{first_pieces, inner_pieces, last_pieces}, Words.{SFits, add-one, ap, arith, cut_of, refl, rules, w64, ◌+◌, ◌∙◌}}
 use Rattle.tz_info.proofs.zone.made.segments.pieces_of_one.Goals as goal
 
 pub returns-then-place-eq0 : goal.returns-then-place-eq0
@@ -7,8 +7,8 @@ returns-then-place-eq0 c =
     let fo : SFits w64 c.segment_at-segment.result.offset = search rules in
     let s = c.segment_at-segment.ensures in
     let zero = c.if-place-eq0.true in
-    rw (c.in_ok-pieces.ensures.items, simp fits at c.in_ok-end.ensures, simp fits at c.cut_of.ensures ∙ ap (λ o. cut_of c.args.entries.now 1 o) s.offset, zero)
-    (first_pieces _ _ 1 _ s.type (rw zero at c.requires.table) (omega arith) c.requires.some (rw zero at s.index) s.listed s.is_offset)
+    rw (c.in_ok-pieces.ensures.items, simp fits at c.in_ok-end.ensures, simp fits at c.cut_of.ensures ∙ ap (λ o. cut_of c.args.entries.now 1 o) s.offset, s.index, zero)
+    (first_pieces _ _ 1 0 s.type (rw zero at c.requires.table) (omega arith) (rw (s.index, zero) at s.listed) s.is_offset refl c.requires.some)
 
 pub returns-then-place-entries : goal.returns-then-place-entries
 returns-then-place-entries c =
@@ -20,9 +20,10 @@ returns-then-place-entries c =
       simp fits at c.in_ok-start.ensures,
       simp fits at c.cut_of-2.ensures ∙ ap
           (λ o. cut_of c.args.entries.now c.args.place o) s.offset,
+      s.index,
       add-one,
     )
-    (last_pieces _ _ _ _ _ s.type (rw add-one at c.requires.table) (omega arith) (omega arith) c.if-place-entries.true s.index s.listed s.is_offset)
+    (last_pieces _ _ _ _ s.type (rw add-one at c.requires.table) (omega arith) (rw s.index at s.listed) s.is_offset (omega arith) c.if-place-entries.true)
 
 pub returns : goal.returns
 returns c =
@@ -38,6 +39,7 @@ returns c =
           (λ o. cut_of c.args.entries.now c.args.place o) s.offset,
       simp fits at c.cut_of-3.ensures ∙ ap (λ o. cut_of c.args.entries.now
           (c.args.place + 1) o) s.offset,
+      s.index,
       add-one,
     )
-    (inner_pieces _ _ _ _ _ s.type (rw add-one at c.requires.table) (omega arith) (omega arith) (omega arith) s.index s.listed s.is_offset)
+    (inner_pieces _ _ _ _ s.type (rw add-one at c.requires.table) (omega arith) (rw s.index at s.listed) s.is_offset (omega arith) (omega arith))

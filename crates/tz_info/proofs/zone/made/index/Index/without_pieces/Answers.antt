@@ -9,10 +9,9 @@ returns c =
     let from = c.rule_from.ensures in
     elim c.if-segment_count-eq0.branch [
       | then-segment_count-eq0 w ↦ rw (w.before-is, c.none.ensures, c.new.ensures.items) (simp fits
-          (no_segments _ _ _ c.requires.none (sym c.segment_count.ensures ∙ w.if-segment_count-eq0.true) from.begun (λ h. from.never
-          (c.requires.list.some.0 h) c.requires.none)))
-      | else-segment_count-eq0 w ↦ rw (w.before-is, c.none.ensures, c.new.ensures.items) (simp fits
-          (one_segment _ _ _ _ s.type c.requires.valid c.requires.list c.requires.none (omega arith) from.begun
-          (λ h. from.never (c.requires.list.some.0 h) c.requires.none)
-          s.index s.listed s.is_offset))
+          (no_segments _ _ _ c.requires.none from.begun (λ h. from.never (c.requires.list.some.0 h) c.requires.none)
+          (sym c.segment_count.ensures ∙ w.if-segment_count-eq0.true)))
+      | else-segment_count-eq0 w ↦ rw (w.before-is, c.none.ensures, c.new.ensures.items, s.index) (simp fits
+          (one_segment _ _ _ c.requires.none from.begun (λ h. from.never (c.requires.list.some.0 h) c.requires.none) s.type c.requires.valid
+          c.requires.list (omega arith) (rw s.index at s.listed) s.is_offset))
     ]
