@@ -7,7 +7,7 @@ returns-in-Some-clause-nearest c =
     let fa : SFits w64 c.stretch_ahead-stretch.result.after = search rules in
     let fl : SFits w64 c.stretch_ahead-stretch.result.last = search rules in
     let a = c.args.self.now in
-    found_here _ a _ _ _ c.requires.near
+    found_here _ a _ _ c.requires.near _
     (of_stretch _ a _ _ _ _
     (Some _)
     (simp fits at c.stretch_ahead-stretch.ensures) c.in-Some.ensures)

@@ -1,5 +1,5 @@
 use Rattle.tz_info.proofs.{
-  CalmYears.{turn_change},
+  ChangingYears.{turn_change},
   Words.{Alternate, Bool, SFits, cond, end_in, false, refl, rules, start_in, sym, to_z-of_z, true, turn_of, w64, ℤ, ◌∙◌, ◌≡◌, ◌≢◌},
   rule.alternate.AlternateTime.turn_within.Goals.{After-moment-at},
 }
@@ -21,7 +21,7 @@ returns-then-has c =
     let asked = c.requires.asked in let a = c.args.self.now in
     let inside = (simp to_z-of_z at c.has.ensures).0 c.if-has.true in
     let apart : start_in a c.args.asked.year ≢ end_in a c.args.asked.year = λ e. c.requires.apart (asked.start ∙ e ∙ sym asked.end) in
-    simp to_z-of_z (rw is (turn_change a _ _ asked.rule c.requires.calm asked.inside c.requires.types apart, refl, rw is at inside))
+    simp to_z-of_z (rw is (turn_change a asked.rule c.requires.calm _ _ asked.inside c.requires.types apart, refl, rw is at inside))
 
 pub returns-else-has : goal.returns-else-has
 returns-else-has c =
