@@ -32,8 +32,7 @@ asked_both at l o p one two less both (inr (s, k, e)) (inr (t, m, f)) = grind li
 module _ (a : AlternateRule) (t : LocalType) where
   -- ---- a rule's
   one_of : (dst : Bool) → t ≡ type_when a dst → (t ≡ a.std) ⊎ (t ≡ a.dst)
-  one_of true e = inr e
-  one_of false e = inl e
+  one_of dst e = grind arith
 
   -- an alternate rule has its standard type or its daylight saving type
   pub one_of_two : (u : ℤ) → AlternateAt a u t → (t ≡ a.std) ⊎ (t ≡ a.dst)
@@ -74,6 +73,4 @@ asked_other rule from l o t before k other = grind (linear, rule_once, other)
 -- from the first second of 64 bits on all that show the local time are asked
 pub from_least : (rule : TransitionRule) (from l : ℤ) (answer : LocalResult LocalType) → ((u : ℤ) → FitsSigned w64 u → from ≤ℤ u)
     → IsWallAnswer (Shows (TypeFrom rule from) l) answer → IsWallAnswer (Shows (RuleAt rule) l) answer
-from_least _ _ l _ all s =
-    same_answer _ _ _ (λ u t k. record { fits = k.fits; type = k.type.type; shown = k.shown })
-    (λ u t k. record { fits = k.fits; type = record { type = k.type; since = all u k.fits }; shown = k.shown }) s
+from_least _ _ l _ all s = grind (linear, same_answer)

@@ -26,10 +26,7 @@ abbrev pub Tells : Alternate → ℤ → (ℤ → Bool) → Type 0
 Tells a year dst = (u : ℤ) → IsRuleTime u → new_year year ≤ℤ u → u ≤ℤ new_year (year +ℤ pos 1) → AlternateAt a u (type_when a (dst u))
 
 pub type_differs : (a : Alternate) (b c : Bool) → a.std ≢ a.dst → b ≡ not c → type_when a b ≢ type_when a c
-type_differs a true false h e same = h (sym same)
-type_differs a false true h e same = h same
-type_differs a true true h e same = cc
-type_differs a false false h e same = cc
+type_differs a b c h e same = grind arith
 
 module _ (a : Alternate) (year : ℤ) (dst : ℤ → Bool) (tells : Tells a year dst) where
   -- a change comes only where it begins or ends
@@ -56,23 +53,14 @@ module _ (a : Alternate) (year : ℤ) (dst : ℤ → Bool) (tells : Tells a year
 -- ---- by the moments of years near it
 -- it begins or ends
 flip_off : (first next u : ℤ) (b c : Bool) → first <ℤ u → u ≤ℤ next → cond (int_le u first) false (cond (int_lt next u) false (not (beq b c))) ≡ false → b ≡ c
-flip_off _ _ u true true low high h = refl
-flip_off first next u false false low high h = refl
-flip_off first next u true false low high h = grind arith
-flip_off first next u false true low high h = grind arith
+flip_off first next u b c low high h = grind arith
 
 flip_on : (first next u : ℤ) (b c : Bool) → cond (int_le u first) false (cond (int_lt next u) false (not (beq b c))) ≡ true
     → (first <ℤ u) × (u ≤ℤ next) × (b ≡ not c)
-flip_on _ _ u true true h = grind arith
-flip_on first next u false false h = grind arith
-flip_on first next u true false h = grind arith
-flip_on first next u false true h = grind arith
+flip_on first next u b c h = grind arith
 
 none_at : (p : ℤ → Bool) (xs : List ℤ) (u : ℤ) → Contains xs u → list_any p xs ≡ false → p u ≡ false
-none_at p xs u (i, below, at) none = elim (cases_Bool (p u)) [
-  | inl on ↦ let any = list_any_at p xs i u below (rw at on) in cc
-  | inr off ↦ off
-]
+none_at p xs u (i, below, at) none = grind (arith, list_any_at)
 
 -- ---- by the seconds of kinds
 abbrev starts_of : Alternate → List ℤ
@@ -88,8 +76,7 @@ apart : (x y k v w : ℤ) → k +ℤ x ≡ v → k +ℤ y ≡ w → (are_apart x
 apart x y k v w e f = (λ h. grind linear, λ h same. grind linear)
 
 turned : (s e : ℤ) (to_dst : Bool) → s ≢ e → (is_dst_by_one s e (cond to_dst s e) ≡ to_dst) × (is_dst_by_one s e (cond to_dst s e -ℤ pos 1) ≡ not to_dst)
-turned s e true apart = (grind arith, grind arith)
-turned s e false apart = (grind arith, grind arith)
+turned s e to_dst apart = (grind arith, grind arith)
 
 never_dst : (s e u v : ℤ) → s ≡ e → is_dst_by_one s e u ≡ is_dst_by_one s e v
 never_dst s e u v one = grind arith
@@ -220,24 +207,18 @@ by_key a year =
     (keys_are _ below).0)
 
 none_of_all : (keys : List Bool) (k : ℕ) → list_any (λ b. b) keys ≡ false → get_or keys k false ≡ false
-none_of_all keys k none = elim (cases_Bool (get_or keys k false)) [
-  | inl on ↦ absurd (elim (cases_lt k (length keys)) [
-    | inl below ↦ let any = list_any_at (λ b. b) keys k false below on in cc
-    | inr out ↦ let d = get_or-eq_default keys false out in cc
-  ])
-  | inr off ↦ off
-]
+none_of_all keys k none = grind (arith, list_any_at, get_or-eq_default)
 
 std_either : (a : Alternate) (dst : Bool) → a.std ≡ a.dst → type_when a dst ≡ a.std
 std_either a true same = sym same
 std_either a false same = refl
 
 pub steady_alike : (a : Alternate) → a.std ≡ a.dst → NeverChanges a
-steady_alike a same u v s t h k = grind (linear, std_either)
+steady_alike a same u v s t h k = grind linear
 
 key_total : (a : Alternate) → length (keys_of a) ≡ 35
 unfolding changing_keys
-key_total a = length-map key_years (is_changing (starts_of a) (ends_of a) (are_calm (starts_of a) (ends_of a))) ∙ key_count
+key_total a = grind (arith, length-map, key_count)
 
 -- a rule
 module _ (a : Alternate) (rule : IsAlternateRule a) where

@@ -11,9 +11,7 @@ use Rattle.tz_info.proofs.{
 use Rattle.tz_info.specs.declared.rule.transition_rule.TransitionRule.TheVariants.{Alternate}
 
 joined_none : (a : LocalResult LocalType) → joined a None ≡ a
-joined_none None = refl
-joined_none (Single s) = refl
-joined_none (Ambiguous s t) = refl
+joined_none a = grind arith
 
 -- what is known of the second of an offset
 pub record IsKnown (from l o : ℤ) : Type 0 where
@@ -22,16 +20,13 @@ pub record IsKnown (from l o : ℤ) : Type 0 where
 
 -- ---- the type of the greater offset first, of daylight saving time or of standard time
 pub greater : (a : AlternateRule) (dst : Bool) → dst ≡ int_lt a.std.offset a.dst.offset → (type_when a (not dst)).offset ≤ℤ (type_when a dst).offset
-greater a true e = grind arith
-greater a false e = grind arith
+greater a dst e = grind arith
 
 pub alike : (a : AlternateRule) (dst : Bool) → ((type_when a dst).offset ≡ (type_when a (not dst)).offset) ↔ (a.std.offset ≡ a.dst.offset)
-alike a true = grind linear
-alike a false = ((λ e. e), (λ e. e))
+alike a dst = (grind linear, grind linear)
 
 pub std_too : (a : AlternateRule) (dst : Bool) → a.std.offset ≡ a.dst.offset → (type_when a dst).offset ≡ a.std.offset
-std_too a true e = sym e
-std_too a false e = refl
+std_too a dst e = grind arith
 
 -- the second is that of the one type or of the other one
 pub either : (a : AlternateRule) (from l : ℤ) (dst : Bool) (u : ℤ) (t : LocalType) → Shows (TypeFrom (Alternate a) from) l u t

@@ -2,8 +2,8 @@
 use Rattle.std.proofs.{Math.Dec.{eqb}, lemmas.Bool.{eqb-true}}
 use Rattle.tz_info.proofs.{
   ListLaws.{one_true},
-  Words.{Bool, List, all_below, ap, arith, cond, false, floor_div, floor_mod, floor_mod_parts, floors, get_or, int_le, int_lt, is_leap},
-  Words.{kind_place, length, linear, nat_le, nat_lt, pos, refl, sym, true, weekday_below, weekday_of, year_start, year_step, ℕ, ℤ, ◌%◌, ◌&&◌, ◌*ℤ◌, ◌+ℤ◌},
+  Words.{Bool, IsRuleYear, List, SFits, all_below, ap, arith, cond, false, floor_div, floor_mod, floor_mod_parts, floors, get_or, int_le, int_lt, is_leap},
+  Words.{kind_place, length, linear, nat_le, nat_lt, pos, refl, sym, true, w32, weekday_below, weekday_of, year_start, year_step, ℕ, ℤ, ◌%◌, ◌&&◌, ◌*ℤ◌, ◌+ℤ◌},
   Words.{◌-ℤ◌, ◌<◌, ◌∙◌, ◌≡◌, ◌≤ℤ◌, ◌↔◌},
 }
 use Rattle.tz_info.specs.{
@@ -181,3 +181,7 @@ pub key_below : (year : ℤ) → year_key year < 35
 key_below year =
     let place = place_below (is_leap (year -ℤ pos 1)) (is_leap year) (is_leap (year +ℤ pos 1)) (is_leap (year +ℤ pos 2)) in
     let weekday = weekday_below (year_start year) in omega arith
+
+-- a year that a rule answers in and the years near it fit 32 bits
+pub near_fit : (year : ℤ) → IsRuleYear year → SFits w32 year × SFits w32 (year -ℤ pos 1) × SFits w32 (year +ℤ pos 1) × SFits w32 (year +ℤ pos 2)
+near_fit year h = (omega linear, omega linear, omega linear, omega linear)

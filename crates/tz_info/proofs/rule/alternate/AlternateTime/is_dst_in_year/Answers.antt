@@ -1,3 +1,4 @@
+use Rattle.tz_info.proofs.Words.{arith, ints}
 use Rattle.tz_info.proofs.{ChangingYears.{calm_tells}, Neighbours.{second_high, second_low}, Words.{linear, to_z-of_z}}
 use Rattle.tz_info.proofs.rule.alternate.AlternateTime.is_dst_in_year.Goals as goal
 
@@ -11,4 +12,4 @@ returns-then-is_calm c =
     (calm_tells a asked.rule calm _ _ c.requires.time low (omega linear))
 
 pub returns-else-is_calm : goal.returns-else-is_calm
-returns-else-is_calm c = let fs = c.ranges.second in simp to_z-of_z at c.is_dst_at.ensures
+returns-else-is_calm c = grind (arith, ints, to_z-of_z)

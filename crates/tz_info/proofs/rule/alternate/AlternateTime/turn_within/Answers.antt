@@ -1,3 +1,4 @@
+use Rattle.tz_info.proofs.Words.{arith, ints}
 use Rattle.tz_info.proofs.{
   ChangingYears.{turn_change},
   Words.{Alternate, Bool, SFits, cond, end_in, false, refl, rules, start_in, sym, to_z-of_z, true, turn_of, w64, ℤ, ◌∙◌, ◌≡◌, ◌≢◌},
@@ -24,7 +25,4 @@ returns-then-has c =
     simp to_z-of_z (rw is (turn_change a asked.rule c.requires.calm _ _ asked.inside c.requires.types apart, refl, rw is at inside))
 
 pub returns-else-has : goal.returns-else-has
-returns-else-has c =
-    let (fm, is) = at (goal.at.returns-else-has c).After-moment-at in
-    λ d change here inside.
-    let on = (simp to_z-of_z at c.has.ensures).1 (rw is (rw here at inside)) in cc
+returns-else-has c = grind (arith, ints, to_z-of_z, at)

@@ -7,12 +7,8 @@ returns-in-Fixed-clause-first c =
     let fl = c.ranges.local in
     let fo = c.offset.type_inv in
     let fm = c.max.type_inv in
-    rw c.in-Fixed.is (simp fits (fixed_first _ _ _ _ _ c.requires.local
-    c.requires.near c.offset.ensures.bound (rw c.offset.ensures.value at (simp fits at c.second_showing.ensures.value))
-    (λ u. (
-      (λ h. (omega (arith, ints, clamps), omega (arith, ints, clamps))),
-      (λ both. omega (arith, ints, clamps)),
-    ))))
+    let value = rw c.offset.ensures.value at (simp fits at c.second_showing.ensures.value) in
+    rw c.in-Fixed.is (simp fits (fixed_first _ _ _ _ c.requires.local c.requires.near c.offset.ensures.bound (omega (arith, ints, clamps))))
 
 pub returns-in-Alternate-clause-first : goal.returns-in-Alternate-clause-first
 returns-in-Alternate-clause-first c =
