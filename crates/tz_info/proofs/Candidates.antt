@@ -17,8 +17,7 @@ shown_at u l t s h e = grind linear
 -- one
 pub asked_one : (at : ℤ → LocalType → Type 0) (l o : ℤ) (after : LocalResult LocalType) → ((u : ℤ) (t : LocalType) → Shows at l u t → u ≡ l -ℤ o)
     → IsAskedLast at l o None after → IsWallAnswer (Shows at l) after
-asked_one at l o after only (inl (e, none)) = grind (linear, none, at, only)
-asked_one at l o after only (inr (t, k, e)) = rw e (record { second = l -ℤ o; shown = k; only = only })
+asked_one at l o after only h = grind linear
 
 -- two, the greater offset first, since its second is the earlier one
 pub asked_both : (at : ℤ → LocalType → Type 0) (l o p : ℤ) (one two : LocalResult LocalType) → p <ℤ o
@@ -47,10 +46,7 @@ module _ (a : AlternateRule) (t : LocalType) where
 -- the offset of a rule's type is one of the rule's offsets
 pub offset_of_rule : (rule : TransitionRule) (u : ℤ) (t : LocalType) → RuleAt rule u t → Contains (rule_offsets (Some rule)) t.offset
 offset_of_rule (Fixed f) u t k = grind linear
-offset_of_rule (Alternate a) u t k = elim (one_of_two a t u k) [
-  | inl e ↦ (0, omega arith, sym (ap (λ (x : LocalType). x.offset) e))
-  | inr e ↦ (1, omega arith, sym (ap (λ (x : LocalType). x.offset) e))
-]
+offset_of_rule (Alternate a) u t k = elim (one_of_two a t u k) [ inl e ↦ (0, omega arith, cc) | inr e ↦ (1, omega arith, cc) ]
 
 -- if both offsets are equal
 pub one_second : (a : AlternateRule) (from l : ℤ) → a.std.offset ≡ a.dst.offset → (u : ℤ) (t : LocalType)

@@ -13,12 +13,7 @@ use Rattle.tz_info.specs.{
 
 -- of two types that differ each type of the rule is one
 two_types : (a : Alternate) (x y z : Bool) → (type_when a y ≡ type_when a z → ⊥) → (type_when a x ≡ type_when a y) ⊎ (type_when a x ≡ type_when a z)
-two_types a true true z differ = inl refl
-two_types a true false true differ = inr refl
-two_types a true false false differ = absurd (differ refl)
-two_types a false false z differ = inl refl
-two_types a false true false differ = inr refl
-two_types a false true true differ = absurd (differ refl)
+two_types a x y z differ = grind linear
 
 -- ---- the last local time
 -- a rule of two types
@@ -64,10 +59,7 @@ module _ (a : Alternate) (begin t l : ℤ) (s : LocalType) (rule : IsAlternateRu
   module _ (c : Change) (last : IsNearestChange false (AlternateAt a) (IsAhead false t) c) where
     -- a second of the rule has the type before it or the type after it
     before_or_after : (u : ℤ) (r : LocalType) → AlternateAt a u r → (r ≡ c.before) ⊎ (r ≡ c.after)
-    before_or_after u r there = elim (two_types a there.dst last.is.before.dst last.is.after.dst (λ e. last.is.differ (last.is.before.shown ∙ e ∙ sym last.is.after.shown))) [
-      | inl e ↦ inl (there.shown ∙ e ∙ sym last.is.before.shown)
-      | inr e ↦ inr (there.shown ∙ e ∙ sym last.is.after.shown)
-    ]
+    before_or_after u r there = grind (linear, two_types)
 
     -- since the change clocks show at most what they show at the second, and before it at most what they showed just before it
     at_most : (m u : ℤ) (r : LocalType) → u ≤ℤ t → Shows (AlternateAt a) m u r → (m ≤ℤ (t +ℤ s.offset)) ⊎ (m ≤ℤ ((c.at -ℤ pos 1) +ℤ c.before.offset))

@@ -36,13 +36,11 @@ either a from l false u t s = std_or_dst a t _ l u s
 
 -- the season decides at both seconds that could show the local time
 pub amid : (a : AlternateRule) (s : Season) (from l : ℤ) (dst : Bool) → IsSeasonFor a from l s → IsAmidFrom s from (l -ℤ (type_when a dst).offset)
-amid a s _ l true h = h.daylight
-amid a s from l false h = h.standard
+amid a s _ l dst h = grind linear
 
 pub season_for : (a : AlternateRule) (s : Season) (from l : ℤ) (dst : Bool) → IsSeason a s → IsAmidFrom s from (l -ℤ (type_when a dst).offset)
     → IsAmidFrom s from (l -ℤ (type_when a (not dst)).offset) → IsSeasonFor a from l s
-season_for a s from l true season first last = grind (linear, first)
-season_for a s from l false season first last = grind (linear, first)
+season_for a s from l dst season first last = grind (linear, first)
 
 -- a rule whose two types differ in their offsets, and a local time
 module _ (a : AlternateRule) (l : ℤ) (other : a.std.offset ≢ a.dst.offset) where

@@ -9,9 +9,7 @@ use Rattle.tz_info.proofs.{
 
 -- a second eight days or more from the neighbouring years lies in the year
 amid_lies : (u year : ℤ) → IsBeside (neg_ℤ (pos 691_200)) year u → IsYearOf u year
-amid_lies u year h =
-    let step = year_step year in let least = days_at_least year in
-    (omega (arith, floors), omega (arith, floors))
+amid_lies u year h = grind (arith, floors, year_step, days_at_least)
 
 -- moments come in one order in the season's year and in the second's
 one_order : (a : Alternate) (margin year own u : ℤ) → IsBeside margin year u → IsYearOf u own

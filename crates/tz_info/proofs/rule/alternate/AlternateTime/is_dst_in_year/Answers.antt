@@ -12,4 +12,4 @@ returns-then-is_calm c =
     (calm_tells a asked.rule calm _ _ c.requires.time low (omega linear))
 
 pub returns-else-is_calm : goal.returns-else-is_calm
-returns-else-is_calm c = grind (arith, ints, to_z-of_z)
+returns-else-is_calm c = grind (arith, to_z-of_z)

@@ -1,3 +1,4 @@
+use Rattle.tz_info.proofs.Words.{arith, to_z-of_z}
 use Rattle.tz_info.proofs.{AskedYears.{found_here, of_stretch}, Fits.fits, Words.{None, SFits, Some, rules, w64}}
 use Rattle.tz_info.proofs.rule.alternate.AlternateTime.moment_from.Goals as goal
 
@@ -21,4 +22,4 @@ moment_beyond-requires-clause-none c =
     (simp fits at c.stretch_ahead-stretch.ensures) c.in-None.ensures))
 
 pub returns-in-None-clause-nearest : goal.returns-in-None-clause-nearest
-returns-in-None-clause-nearest c = let fs = c.ranges.second in simp fits at c.moment_beyond.ensures.nearest
+returns-in-None-clause-nearest c = grind (arith, to_z-of_z)

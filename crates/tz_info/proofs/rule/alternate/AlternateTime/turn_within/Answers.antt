@@ -25,4 +25,4 @@ returns-then-has c =
     simp to_z-of_z (rw is (turn_change a asked.rule c.requires.calm _ _ asked.inside c.requires.types apart, refl, rw is at inside))
 
 pub returns-else-has : goal.returns-else-has
-returns-else-has c = grind (arith, ints, to_z-of_z, at)
+returns-else-has c = grind (arith, to_z-of_z, at)
