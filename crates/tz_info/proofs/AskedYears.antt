@@ -4,9 +4,9 @@ use Rattle.tz_info.proofs.{
   ChangingYears.{none_in, one_in, steady_alike},
   RuleChanges.{change_again, change_then, cycles_to, later_year, rule_second, same_or_not, seconds_follow, year_on, years_rise},
   RuleLaws.{rule_year},
-  Words.{Alternate, AlternateAt, AreFrom, Bool, Change, HasNoChange, HasNoneBeyond, IsAhead, IsAlternateRule, IsChange, IsNearest, IsNearestChange},
+  Words.{arith, Alternate, AlternateAt, AreFrom, Bool, Change, HasNoChange, HasNoneBeyond, IsAhead, IsAlternateRule, IsChange, IsNearest, IsNearestChange},
   Words.{IsNextChanging, IsOfYear, IsRuleYear, IsStretchAhead, IsYearNear, IsYearOf, NeverChanges, None, Option, Precedes, Some, by_lt_z, changes_in_year},
-  Words.{false, inl, inr, linear, neg_ℤ, pos, true, type_exact, year_at, ℕ, ℤ, ◌*ℤ◌, ◌+ℤ◌, ◌+◌, ◌-ℤ◌, ◌<◌, ◌≡◌, ◌⊎◌},
+  Words.{false, inl, inr, linear, neg_ℤ, pos, true, type_exact, year_at, ℕ, ℤ, ◌+ℤ◌, ◌+◌, ◌-ℤ◌, ◌<◌, ◌≡◌, ◌⊎◌},
 }
 
 -- ahead of the second, and the second before lies in the year
@@ -42,10 +42,7 @@ module _ (a : Alternate) (s : ℤ) (d : Change) (y : ℤ) (is : IsChange (Altern
   -- if the year has none, all come beyond it
   beyond_only : (w : Bool) (first : ℤ) → IsYearNear s first → HasNoChange (AlternateAt a) (IsAheadIn w s first) → IsAhead w s d.at
       → Precedes w (year_at w first 1) y
-  beyond_only w _ h none ahead = elim (here_or_beyond w _ h ahead) [
-    | inl e ↦ absurd (none d is (ahead, rw e at of_year))
-    | inr l ↦ l
-  ]
+  beyond_only w _ h none ahead = grind (linear, here_or_beyond)
 
   -- a change of a year beyond is ahead
   ahead_by_year : (w : Bool) (first : ℤ) → IsYearNear s first → Precedes w (year_at w first 1) y → IsAhead w s d.at

@@ -4,7 +4,7 @@ use Rattle.tz_info.proofs.{
   AnswerLaws.{same_answer},
   RuleLaws.{rule_once},
   Words.{Alternate as AlternateRule, AlternateAt, Bool, Contains, FitsSigned, IsAskedLast, IsWallAnswer, LocalResult, LocalType, RuleAt, Shows, Some},
-  Words.{TransitionRule, TypeFrom, ap, arith, false, inl, inr, joined, linear, refl, rule_offsets, sym, true, type_when, w64, ℤ, ◌+ℤ◌, ◌-ℤ◌, ◌<ℤ◌, ◌≡◌, ◌≤ℤ◌},
+  Words.{TransitionRule, TypeFrom, arith, inl, inr, joined, linear, refl, rule_offsets, type_when, w64, ℤ, ◌+ℤ◌, ◌-ℤ◌, ◌<ℤ◌, ◌≡◌, ◌≤ℤ◌},
   Words.{◌⊎◌},
 }
 use Rattle.tz_info.specs.declared.rule.transition_rule.TransitionRule.TheVariants.{Alternate, Fixed}
@@ -59,8 +59,7 @@ one_second a from l same u t s = elim (std_or_dst a t _ l u s) [
 -- the rule's type decides at a candidate
 pub asked_found : (rule : TransitionRule) (from l o : ℤ) (t : LocalType) (before : LocalResult LocalType) → FitsSigned w64 (l -ℤ o) → from ≤ℤ (l -ℤ o)
     → RuleAt rule (l -ℤ o) t → t.offset ≡ o → IsAskedLast (TypeFrom rule from) l o before (joined before (Single t))
-asked_found _ _ l o t _ fits since k e =
-    inr (t, record { fits = fits; type = record { type = k; since = since }; shown = omega linear }, refl)
+asked_found _ _ l o t _ fits since k e = grind linear
 
 pub asked_other : (rule : TransitionRule) (from l o : ℤ) (t : LocalType) (before : LocalResult LocalType) → RuleAt rule (l -ℤ o) t → (t.offset ≡ o → ⊥)
     → IsAskedLast (TypeFrom rule from) l o before before

@@ -1,5 +1,5 @@
 -- A rule of two types changes the clocks in the years in which daylight saving time begins or ends, if the types differ.
-use Rattle.std.proofs.{Math.Bool.{beq}, lemmas.{Bool.{cases_Bool}, List.Folds.{Any-from_list_any, list_any_at}}}
+use Rattle.std.proofs.{Math.Bool.{beq}, lemmas.{List.Folds.{Any-from_list_any, list_any_at}}}
 use Rattle.std.specs.List.{list_any}
 use Rattle.tz_info.proofs.{
   ChangeSearch.{IsAsked, asked, nearest_either, nearest_moved, stays},
@@ -8,10 +8,12 @@ use Rattle.tz_info.proofs.{
   RuleChanges.{change_near, rule_second, rule_until, same_or_not},
   RuleLaws.{alternate_at, alternate_once, rule_time, rule_year},
   SeasonLaws.{season_made},
-  Words.{Alternate, AlternateAt, Bool, Change, Contains, DayTime, HasNoChange, IsAlternateRule, IsCalmRule, IsChange, IsNearest, IsOfYear, IsRuleDay, IsRuleTime},
-  Words.{IsRuleYear, IsYearOf, List, LocalType, NeverChanges, Option, ap, are_calm, arith, by_lt_z, cases_lt, changing_keys, cond, days_at_least, days_at_most, end_in},
+  Words.{Alternate, AlternateAt, Bool, Change, Contains, DayTime, HasNoChange, IsAlternateRule, IsCalmRule, IsChange, IsNearest, IsOfYear, IsRuleDay},
+  Words.{IsRuleTime},
+  Words.{IsRuleYear, IsYearOf, List, LocalType, NeverChanges, Option, ap, are_calm, arith, by_lt_z, changing_keys, cond, days_at_least, days_at_most, end_in},
   Words.{false, floor_div, floors, get_or, get_or-eq_default, get_or-map, get_or_default, inl, inr, int_le, int_lt, is_dst_by_one, key_years, kind_place},
-  Words.{length, length-map, lies_in, linear, lt_false, lt_true, margin_of, moment, moments_near, nearer_one, new_year, not, pos, refl, seconds_by_kind, start_in, sym},
+  Words.{length, length-map, lies_in, linear, lt_false, lt_true, margin_of, moment, moments_near, nearer_one, new_year, not, pos, refl, seconds_by_kind},
+  Words.{start_in, sym},
   Words.{true, turn_of, type_when, year_start, year_step, ℕ, ℤ, ⊎_elim, ◌*ℤ◌, ◌+ℤ◌, ◌-ℤ◌, ◌<ℤ◌, ◌<◌, ◌∙◌, ◌≡◌, ◌≢◌, ◌≤ℤ◌, ◌⊎◌},
   YearKeys.{changing_alike, key_below, key_count, keys_are},
 }
@@ -197,14 +199,10 @@ keys_of a = changing_keys (starts_of a) (ends_of a)
 key_at : (starts ends : List ℤ) (k : ℕ) → k < 35
     → get_or (changing_keys starts ends) k false ≡ is_changing starts ends (are_calm starts ends) (get_or key_years k (pos 0))
 unfolding changing_keys
-key_at starts ends k h = get_or-map (is_changing starts ends (are_calm starts ends)) key_years k (pos 0) false (omega (arith, key_count))
+key_at starts ends k h = grind (arith, get_or-map, key_count)
 
 pub by_key : (a : Alternate) (year : ℤ) → get_or (keys_of a) (year_key year) false ≡ changes_in_year a year
-by_key a year =
-    let below = key_below year in
-    key_at _ _ _ below
-    ∙ sym (changing_alike _ _ _ (get_or key_years (year_key year) (pos 0)) year
-    (keys_are _ below).0)
+by_key a year = grind (arith, key_below, key_at, changing_alike, keys_are)
 
 none_of_all : (keys : List Bool) (k : ℕ) → list_any (λ b. b) keys ≡ false → get_or keys k false ≡ false
 none_of_all keys k none = grind (arith, list_any_at, get_or-eq_default)

@@ -13,7 +13,7 @@ use Rattle.tz_info.proofs.{
 }
 
 pub rule_second : (a : Alternate) (u : ℤ) (t : LocalType) → AlternateAt a u t → IsRuleTime u
-rule_second a u t h = rule_time u _ h.of_second h.inside
+rule_second a u t h = grind (linear, rule_time)
 
 -- the second after one of the year is the rule's too
 pub rule_until : (u year : ℤ) → IsYearOf (u -ℤ pos 1) year → IsRuleYear year → IsRuleYear (year +ℤ pos 1) → IsRuleTime u

@@ -1,7 +1,7 @@
 -- Each year has one day that is the rule's, and the closed form finds it.
 use Rattle.tz_info.proofs.{
-  Words.{Bool, DayForm, IsDayOf, IsRuleDay, IsWeekdayInWeek, LiesIn, ap, arith, cases_lt, closed_day, closed_day_is, date_lies, day_number, days_at_least},
-  Words.{days_at_most, days_in_month, days_in_year, floors, inl, inr, is_leap, julian_is, julian_place, leap_at_most, months_all, months_step, nat_le},
+  Words.{Bool, DayForm, IsDayOf, IsRuleDay, IsWeekdayInWeek, LiesIn, ap, arith, closed_day, closed_day_is, date_lies, day_number, days_at_least},
+  Words.{days_at_most, days_in_month, days_in_year, floors, is_leap, julian_is, julian_place, leap_at_most, months_all, months_step, nat_le},
   Words.{number_after, pos, rule_day, rule_day_with, starts_rise, sym, weekday_at, weekday_below, weekday_is, weekday_of, weekday_place, year_start, year_step},
   Words.{ℕ, ℤ, ◌%◌, ◌&&◌, ◌*◌, ◌+ℤ◌, ◌+◌, ◌-◌, ◌<ℤ◌, ◌<◌, ◌∙◌, ◌≡◌, ◌≤ℤ◌, ◌≤◌},
 }
@@ -27,7 +27,7 @@ one_rule_day (MonthWeekday month week weekday) year a b fits h k =
 
 pub rule_day_is : (form : DayForm) (year : ℤ) → IsRuleDay form → IsDayOf form year (rule_day form year)
 unfolding rule_day
-rule_day_is form year fits = (rule_day_with form year).1 fits
+rule_day_is form year fits = grind (arith, rule_day_with)
 
 pub rule_day_closed : (form : DayForm) (year : ℤ) → IsRuleDay form → rule_day form year ≡ closed_day form year
 rule_day_closed form year fits =

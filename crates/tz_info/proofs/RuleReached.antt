@@ -18,16 +18,7 @@ two_types a x y z differ = grind linear
 -- ---- the last local time
 -- a rule of two types
 pub alternate_reached : (a : Alternate) (begin t l : ℤ) → IsReachedSince (AlternateAt a) begin t l → IsReachedSince (RuleAt (AlternateRule a)) begin t l
-alternate_reached a _ t l h = record {
-  at = h.at;
-  local_type = h.local_type;
-  near = h.near;
-  from = h.from;
-  not_after = h.not_after;
-  shown = record { fits = h.shown.fits; type = h.shown.type; shown = h.shown.shown };
-  last = λ m u s from come shows. h.last m u s from come (record { fits = shows.fits; type = shows.type; shown = shows.shown });
-  least = h.least;
-}
+alternate_reached a _ t l h = grind linear
 
 module _ (a : Alternate) (begin t l : ℤ) (s : LocalType) (rule : IsAlternateRule a) (wide : IsWide t) (order : begin ≤ℤ t) (here : AlternateAt a t s)
     (offset : IsUtOffset s.offset) where
@@ -98,24 +89,11 @@ module _ (a : Alternate) (begin t l : ℤ) (s : LocalType) (rule : IsAlternateRu
 -- ---- the first second
 pub fixed_first : (s : LocalType) (begin local u : ℤ) → IsWide local → begin ≤ℤ pos 10_000_000_000_000 → IsUtOffset s.offset
     → u ≡ int_max begin (local -ℤ s.offset) → IsFirstSince (RuleAt (Fixed s)) begin local u s
-fixed_first s begin _ u wide near offset is =
-    let near_at : IsNear u = (omega (linear, clamps), omega (linear, clamps)) in
-    record {
-      near = near_at;
-      from = omega (linear, clamps);
-      shown = record { fits = omega (linear, near_at); type = refl; reached = omega (linear, clamps) };
-      first = λ v r from shows.
-          let e = ap (λ (x : LocalType). x.offset) shows.type in let reached = shows.reached in omega (linear, clamps, e, reached, from, is);
-    }
+fixed_first s begin _ u wide near offset is = grind (linear, clamps)
 
 pub alternate_first : (a : Alternate) (begin local u : ℤ) (t : LocalType) → IsFirstSince (AlternateAt a) begin local u t
     → IsFirstSince (RuleAt (AlternateRule a)) begin local u t
-alternate_first a _ _ u t h = record {
-  near = h.near;
-  from = h.from;
-  shown = record { fits = h.shown.fits; type = h.shown.type; reached = h.shown.reached };
-  first = λ v s from shows. h.first v s from (record { fits = shows.fits; type = shows.type; reached = shows.reached });
-}
+alternate_first a _ _ u t h = grind linear
 
 -- clocks show less before the later of the begin and the first second at the greater offset
 module _ (a : Alternate) (begin local low : ℤ) (rule : IsAlternateRule a) (low_is : low ≡ int_max begin (local -ℤ int_max a.std.offset a.dst.offset)) where
@@ -126,9 +104,7 @@ module _ (a : Alternate) (begin local low : ℤ) (rule : IsAlternateRule a) (low
   greatest = by_lt_z a.std.offset a.dst.offset (λ l. (true, omega (linear, clamps, l))) (λ m. (false, omega (linear, clamps, m)))
 
   less_before : (v : ℤ) (r : LocalType) → begin ≤ℤ v → ShowsAtOrAfter (AlternateAt a) local v r → low ≤ℤ v
-  less_before v r from shows =
-      let e = ap (λ (x : LocalType). x.offset) shows.type.shown in let m = most shows.type.dst in let reached = shows.reached in
-      omega (linear, clamps, low_is, from, e, m, reached)
+  less_before v r from shows = grind (linear, clamps, most)
 
   -- from there on, as long as clocks don't change, they show it from the second `shown` on
   module _ (s : LocalType) (here : AlternateAt a low s) (shown : ℤ) (shown_is : shown ≡ int_max low (local -ℤ s.offset)) where

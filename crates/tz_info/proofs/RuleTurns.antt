@@ -2,7 +2,7 @@
 use Rattle.tz_info.proofs.{
   RuleDays.{day_rises, one_rule_day, rule_day_is},
   Words.{Alternate, AlternateAt, DayTime, IsAlternateRule, IsBetween, IsDayOf, IsDstAt, IsInSomeYear, IsRuleDay, IsRuleYear, IsYearOf, ap, arith, by_lt_z},
-  Words.{end_in, false, floors, inl, inr, linear, moment, pos, refl, rule_day, start_in, true, ℤ, ◌*ℤ◌, ◌+ℤ◌, ◌-ℤ◌, ◌<ℤ◌, ◌≡◌, ◌≤ℤ◌, ◌⊎◌},
+  Words.{end_in, false, floors, inl, inr, linear, moment, pos, rule_day, start_in, true, ℤ, ◌*ℤ◌, ◌+ℤ◌, ◌-ℤ◌, ◌<ℤ◌, ◌≡◌, ◌≤ℤ◌, ◌⊎◌},
 }
 
 abbrev Rise : (ℤ → ℤ) → Type 0

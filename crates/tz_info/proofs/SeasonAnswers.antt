@@ -1,5 +1,5 @@
 -- The answer of two seconds at which a season's moments decide.
-use Rattle.offset_core.specs.declared.local_result.LocalResult.TheVariants.{Ambiguous, None, Single}
+use Rattle.offset_core.specs.declared.local_result.LocalResult.TheVariants.{None}
 use Rattle.std.proofs.Math.Bool.{beq}
 use Rattle.tz_info.proofs.{
   Candidates.{asked_both, asked_found, asked_other, dst_or_std, std_or_dst},

@@ -35,7 +35,4 @@ season_made a margin year _ s kept begins from until start end = record {
 
 -- the first day of a year lies in it
 pub own_start : (year : ℤ) → year_of (year_start year) ≡ year
-own_start year =
-    let step = year_step year in let least = days_at_least year in
-    let lies : LiesIn (year_start year) year = (omega (arith, floors), omega (arith, floors)) in
-    one_year (year_start year) (year_of (year_start year)) year (lies_in (year_start year)) lies
+own_start year = let step = year_step year in let least = days_at_least year in one_year (year_start year) _ year (lies_in _) (omega (arith, floors), omega (arith, floors))

@@ -3,7 +3,7 @@ use Rattle.std.proofs.{Math.Dec.{eqb}, lemmas.Bool.{eqb-true}}
 use Rattle.tz_info.proofs.{
   ListLaws.{one_true},
   Words.{Bool, IsRuleYear, List, SFits, all_below, ap, arith, cond, false, floor_div, floor_mod, floor_mod_parts, floors, get_or, int_le, int_lt, is_leap},
-  Words.{kind_place, length, linear, nat_le, nat_lt, pos, refl, sym, true, w32, weekday_below, weekday_of, year_start, year_step, ℕ, ℤ, ◌%◌, ◌&&◌, ◌*ℤ◌, ◌+ℤ◌},
+  Words.{kind_place, length, linear, nat_le, nat_lt, pos, refl, true, w32, weekday_below, weekday_of, year_start, year_step, ℕ, ℤ, ◌%◌, ◌&&◌, ◌*ℤ◌, ◌+ℤ◌},
   Words.{◌-ℤ◌, ◌<◌, ◌∙◌, ◌≡◌, ◌≤ℤ◌, ◌↔◌},
 }
 use Rattle.tz_info.specs.{

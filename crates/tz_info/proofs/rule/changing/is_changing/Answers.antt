@@ -1,7 +1,5 @@
 use Rattle.tz_info.proofs.Words.{arith}
-use Rattle.tz_info.proofs.Words.{SFits, ap, kind_place, pos, refl, rules, to_z-of_z, w64, ◌∙◌, ◌≡◌}
-use Rattle.std.specs.Prelude.{slice_index_or}
-use Rattle.tz_info.specs.Steps.ChangingYears.{has_flip}
+use Rattle.tz_info.proofs.Words.{to_z-of_z}
 use Rattle.tz_info.proofs.rule.changing.is_changing.Goals as goal
 
 pub returns-then-starts-kind : goal.returns-then-starts-kind

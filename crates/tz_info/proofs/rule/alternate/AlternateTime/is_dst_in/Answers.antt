@@ -21,10 +21,7 @@ is_dst-requires-clause-lies c = let (at_second, at_day, at_year, day, lies, insi
     in_year (goal.at.is_dst-requires-clause-lies c).After-year_of in simp fits lies
 
 pub is_dst-requires-clause-inside : goal.is_dst-requires-clause-inside
-is_dst-requires-clause-inside c = let (at_second, at_day, at_year, day, lies, inside) =
-    in_year (goal.at.is_dst-requires-clause-inside c).After-year_of in simp fits inside
+is_dst-requires-clause-inside c = grind (arith, to_z-of_z, in_year)
 
 pub returns : goal.returns
-returns c =
-    let (at_second, at_day, at_year, day, lies, inside) = in_year (goal.at.returns c).After-year_of in
-    alternate_at _ _ _ _ _ day lies inside (simp fits at c.is_dst.ensures)
+returns c = grind (arith, to_z-of_z, in_year, alternate_at)

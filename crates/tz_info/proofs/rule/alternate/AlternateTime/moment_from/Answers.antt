@@ -1,5 +1,4 @@
-use Rattle.tz_info.proofs.Words.{arith, to_z-of_z}
-use Rattle.tz_info.proofs.{AskedYears.{found_here, of_stretch}, Fits.fits, Words.{None, SFits, Some, rules, w64}}
+use Rattle.tz_info.proofs.{AskedYears.{found_here, of_stretch}, Fits.fits, Words.{arith, to_z-of_z, None, SFits, Some, rules, w64}}
 use Rattle.tz_info.proofs.rule.alternate.AlternateTime.moment_from.Goals as goal
 
 pub returns-in-Some-clause-nearest : goal.returns-in-Some-clause-nearest

@@ -1,4 +1,3 @@
-use Rattle.tz_info.proofs.Words.{arith, to_z-of_z}
 use Rattle.tz_info.proofs.{ChangeSearch.{nearest_ahead, nearest_within, none_in_empty}, Fits.fits, Words.{AlternateAt, None}}
 use Rattle.tz_info.proofs.rule.alternate.AlternateTime.nearest_change.Goals as goal
 

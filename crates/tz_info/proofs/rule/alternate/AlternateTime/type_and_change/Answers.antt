@@ -1,4 +1,4 @@
-use Rattle.tz_info.proofs.Words.{arith, ints, to_z-of_z}
+use Rattle.tz_info.proofs.Words.{arith, to_z-of_z}
 use Rattle.tz_info.proofs.rule.alternate.AlternateTime.type_and_change.Goals as goal
 
 pub returns-clause-nearest : goal.returns-clause-nearest

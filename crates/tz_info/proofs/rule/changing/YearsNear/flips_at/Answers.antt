@@ -1,5 +1,4 @@
-use Rattle.tz_info.proofs.Words.{to_z-of_z}
-use Rattle.tz_info.proofs.{Fits.fits, Words.{SFits, arith, ints, pos, refl, rules, w64, ◌-ℤ◌}}
+use Rattle.tz_info.proofs.{Fits.fits, Words.{to_z-of_z, SFits, arith, ints, pos, refl, rules, w64, ◌-ℤ◌}}
 use Rattle.tz_info.proofs.rule.changing.YearsNear.flips_at.Goals as goal
 
 pub returns-then-second-self : goal.returns-then-second-self

@@ -1,5 +1,4 @@
 use Rattle.tz_info.proofs.Words.{arith, to_z-of_z}
-use Rattle.tz_info.proofs.{Fits.fits, Words.{SFits, rules, w64}}
 use Rattle.tz_info.proofs.rule.changing.YearsNear.is_dst.Goals as goal
 
 pub returns-then-second-self : goal.returns-then-second-self
