@@ -4,7 +4,7 @@ use Rattle.tz_info.proofs.{
   AnswerLaws.{same_answer},
   RuleLaws.{rule_once},
   Words.{Alternate as AlternateRule, AlternateAt, Bool, Contains, FitsSigned, IsAskedLast, IsWallAnswer, LocalResult, LocalType, RuleAt, Shows, Some},
-  Words.{TransitionRule, TypeFrom, ap, arith, false, inl, inr, joined, linear, refl, rule_offsets, sym, true, type_when, w64, ℤ, ◌+ℤ◌, ◌-ℤ◌, ◌<ℤ◌, ◌≡◌, ◌≤ℤ◌},
+  Words.{TransitionRule, TypeFrom, arith, inl, inr, joined, linear, refl, rule_offsets, type_when, w64, ℤ, ◌+ℤ◌, ◌-ℤ◌, ◌<ℤ◌, ◌≡◌, ◌≤ℤ◌},
   Words.{◌⊎◌},
 }
 use Rattle.tz_info.specs.declared.rule.transition_rule.TransitionRule.TheVariants.{Alternate, Fixed}
@@ -17,8 +17,7 @@ shown_at u l t s h e = grind linear
 -- one
 pub asked_one : (at : ℤ → LocalType → Type 0) (l o : ℤ) (after : LocalResult LocalType) → ((u : ℤ) (t : LocalType) → Shows at l u t → u ≡ l -ℤ o)
     → IsAskedLast at l o None after → IsWallAnswer (Shows at l) after
-asked_one at l o after only (inl (e, none)) = grind (linear, none, at, only)
-asked_one at l o after only (inr (t, k, e)) = rw e (record { second = l -ℤ o; shown = k; only = only })
+asked_one at l o after only h = grind linear
 
 -- two, the greater offset first, since its second is the earlier one
 pub asked_both : (at : ℤ → LocalType → Type 0) (l o p : ℤ) (one two : LocalResult LocalType) → p <ℤ o
@@ -32,8 +31,7 @@ asked_both at l o p one two less both (inr (s, k, e)) (inr (t, m, f)) = grind li
 module _ (a : AlternateRule) (t : LocalType) where
   -- ---- a rule's
   one_of : (dst : Bool) → t ≡ type_when a dst → (t ≡ a.std) ⊎ (t ≡ a.dst)
-  one_of true e = inr e
-  one_of false e = inl e
+  one_of dst e = grind arith
 
   -- an alternate rule has its standard type or its daylight saving type
   pub one_of_two : (u : ℤ) → AlternateAt a u t → (t ≡ a.std) ⊎ (t ≡ a.dst)
@@ -48,10 +46,7 @@ module _ (a : AlternateRule) (t : LocalType) where
 -- the offset of a rule's type is one of the rule's offsets
 pub offset_of_rule : (rule : TransitionRule) (u : ℤ) (t : LocalType) → RuleAt rule u t → Contains (rule_offsets (Some rule)) t.offset
 offset_of_rule (Fixed f) u t k = grind linear
-offset_of_rule (Alternate a) u t k = elim (one_of_two a t u k) [
-  | inl e ↦ (0, omega arith, sym (ap (λ (x : LocalType). x.offset) e))
-  | inr e ↦ (1, omega arith, sym (ap (λ (x : LocalType). x.offset) e))
-]
+offset_of_rule (Alternate a) u t k = elim (one_of_two a t u k) [ inl e ↦ (0, omega arith, cc) | inr e ↦ (1, omega arith, cc) ]
 
 -- if both offsets are equal
 pub one_second : (a : AlternateRule) (from l : ℤ) → a.std.offset ≡ a.dst.offset → (u : ℤ) (t : LocalType)
@@ -64,8 +59,7 @@ one_second a from l same u t s = elim (std_or_dst a t _ l u s) [
 -- the rule's type decides at a candidate
 pub asked_found : (rule : TransitionRule) (from l o : ℤ) (t : LocalType) (before : LocalResult LocalType) → FitsSigned w64 (l -ℤ o) → from ≤ℤ (l -ℤ o)
     → RuleAt rule (l -ℤ o) t → t.offset ≡ o → IsAskedLast (TypeFrom rule from) l o before (joined before (Single t))
-asked_found _ _ l o t _ fits since k e =
-    inr (t, record { fits = fits; type = record { type = k; since = since }; shown = omega linear }, refl)
+asked_found _ _ l o t _ fits since k e = grind linear
 
 pub asked_other : (rule : TransitionRule) (from l o : ℤ) (t : LocalType) (before : LocalResult LocalType) → RuleAt rule (l -ℤ o) t → (t.offset ≡ o → ⊥)
     → IsAskedLast (TypeFrom rule from) l o before before
@@ -74,6 +68,4 @@ asked_other rule from l o t before k other = grind (linear, rule_once, other)
 -- from the first second of 64 bits on all that show the local time are asked
 pub from_least : (rule : TransitionRule) (from l : ℤ) (answer : LocalResult LocalType) → ((u : ℤ) → FitsSigned w64 u → from ≤ℤ u)
     → IsWallAnswer (Shows (TypeFrom rule from) l) answer → IsWallAnswer (Shows (RuleAt rule) l) answer
-from_least _ _ l _ all s =
-    same_answer _ _ _ (λ u t k. record { fits = k.fits; type = k.type.type; shown = k.shown })
-    (λ u t k. record { fits = k.fits; type = record { type = k.type; since = all u k.fits }; shown = k.shown }) s
+from_least _ _ l _ all s = grind (linear, same_answer)

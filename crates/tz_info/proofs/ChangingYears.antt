@@ -1,224 +1,196 @@
 -- A rule of two types changes the clocks in the years in which daylight saving time begins or ends, if the types differ.
-use Rattle.std.proofs.{Math.Bool.{beq}, lemmas.{Bool.{cases_Bool}, List.Folds.{Any-from_list_any, list_any_at}}}
+use Rattle.std.proofs.{Math.Bool.{beq}, lemmas.{List.Folds.{Any-from_list_any, list_any_at}}}
 use Rattle.std.specs.List.{list_any}
 use Rattle.tz_info.proofs.{
-  ChangeSearch.{stays},
+  ChangeSearch.{IsAsked, asked, nearest_either, nearest_moved, stays},
   KindLaws.{IsMargin, kind_found, margin_kept},
-  Neighbours.{dst_by_three, ends_near, second_high, second_low, starts_near},
-  RuleChanges.{change_near, rule_second},
+  Neighbours.{KeepsMargin, dst_by_three, ends_near, second_high, second_low, starts_near},
+  RuleChanges.{change_near, rule_second, rule_until, same_or_not},
   RuleLaws.{alternate_at, alternate_once, rule_time, rule_year},
   SeasonLaws.{season_made},
-  Words.{Alternate, AlternateAt, Bool, Change, Contains, DayTime, HasNoChange, IsAlternateRule, IsChange, IsRuleDay, IsRuleTime, IsRuleYear, IsYearOf, List},
-  Words.{LocalType, NeverChanges, ap, are_calm, arith, by_lt_z, cases_lt, changing_keys, cond, days_at_least, days_at_most, end_in, false, floor_div, floors},
-  Words.{get_or, get_or-eq_default, get_or-map, get_or_default, inl, inr, int_le, int_lt, is_dst_by_one, key_years, kind_place, length, length-map, lies_in},
-  Words.{linear, lt_false, lt_true, margin_of, moment, moments_near, new_year, not, one_year, pos, refl, seconds_by_kind, start_in, subst, sym, true},
-  Words.{type_when, year_start, year_step, ℕ, ℤ, ◌*ℤ◌, ◌+ℤ◌, ◌-ℤ◌, ◌<ℤ◌, ◌<◌, ◌∙◌, ◌≡◌, ◌≢◌, ◌≤ℤ◌, ◌⊎◌},
-  YearKeys.{changing_alike, key_below, key_count, own_key, year_bounds},
+  Words.{Alternate, AlternateAt, Bool, Change, Contains, DayTime, HasNoChange, IsAlternateRule, IsCalmRule, IsChange, IsNearest, IsOfYear, IsRuleDay},
+  Words.{IsRuleTime},
+  Words.{IsRuleYear, IsYearOf, List, LocalType, NeverChanges, Option, ap, are_calm, arith, by_lt_z, changing_keys, cond, days_at_least, days_at_most, end_in},
+  Words.{false, floor_div, floors, get_or, get_or-eq_default, get_or-map, get_or_default, inl, inr, int_le, int_lt, is_dst_by_one, key_years, kind_place},
+  Words.{length, length-map, lies_in, linear, lt_false, lt_true, margin_of, moment, moments_near, nearer_one, new_year, not, pos, refl, seconds_by_kind},
+  Words.{start_in, sym},
+  Words.{true, turn_of, type_when, year_start, year_step, ℕ, ℤ, ⊎_elim, ◌*ℤ◌, ◌+ℤ◌, ◌-ℤ◌, ◌<ℤ◌, ◌<◌, ◌∙◌, ◌≡◌, ◌≢◌, ◌≤ℤ◌, ◌⊎◌},
+  YearKeys.{changing_alike, key_below, key_count, keys_are},
 }
 use Rattle.tz_info.specs.{
   Steps.AskedYears.{changes_in_year},
   Steps.{ChangingYears.{are_apart, dst_near, flips_at, has_flip, is_changing, moment_by, seconds_near, turns_in, year_key, years_near}, Turns.{dst_by}},
 }
 
--- ---- a second's type by the moments of years near it
-own_type : (a : Alternate) (year u : ℤ) → IsAlternateRule a → IsYearOf u year → IsRuleYear year
-    → AlternateAt a u (type_when a (dst_by (turns_in (start_in a) (end_in a) (year -ℤ pos 1)) (turns_in (start_in a) (end_in a) year)
-    (turns_in (start_in a) (end_in a) (year +ℤ pos 1)) u))
-own_type a _ u rule of_second inside =
-    alternate_at a u _ _ _ refl of_second inside
-    (dst_by_three _ _ _ u _ (starts_near a rule) (ends_near a rule) of_second refl)
-
--- a second of a year, or the first one of the next
-year_or_next : (u year : ℤ) → new_year year ≤ℤ u → u ≤ℤ new_year (year +ℤ pos 1)
-    → (IsYearOf u year × (u <ℤ new_year (year +ℤ pos 1))) ⊎ (IsYearOf u (year +ℤ pos 1) × (new_year (year +ℤ pos 1) ≤ℤ u))
-year_or_next u year low high =
-    by_lt_z u (new_year (year +ℤ pos 1))
-    (λ l. inl ((omega (arith, floors), omega (arith, floors)), l))
-    (λ m. let step = year_step (year +ℤ pos 1) in let least = days_at_least (year +ℤ pos 1) in inr ((omega (arith, floors), omega (arith, floors)), m))
-
-near_type : (a : Alternate) (year u : ℤ) → IsAlternateRule a → IsRuleYear year → new_year year ≤ℤ u → u ≤ℤ new_year (year +ℤ pos 1)
-    → (IsYearOf u (year +ℤ pos 1) → IsRuleYear (year +ℤ pos 1))
-    → AlternateAt a u (type_when a (dst_near (years_near (start_in a) (end_in a) year) u))
-near_type a year u rule inside low high next = elim (year_or_next u _ low high) [
-  | inl (of_second, before) ↦ rw (lt_true u _ before) (own_type a _ u rule of_second inside)
-  | inr (of_second, from) ↦
-      let e : (year +ℤ pos 1) -ℤ pos 1 ≡ year = omega linear in
-      let f : (year +ℤ pos 1) +ℤ pos 1 ≡ year +ℤ pos 2 = omega linear in
-      rw (lt_false u _ from) (rw (e, f) at (own_type a _ u rule of_second (next of_second)))
-]
-
 -- ---- clocks change when daylight saving time begins or ends
+-- from the year's first second to the next year's it is daylight saving time as `dst` says
+abbrev pub Tells : Alternate → ℤ → (ℤ → Bool) → Type 0
+Tells a year dst = (u : ℤ) → IsRuleTime u → new_year year ≤ℤ u → u ≤ℤ new_year (year +ℤ pos 1) → AlternateAt a u (type_when a (dst u))
+
+pub type_differs : (a : Alternate) (b c : Bool) → a.std ≢ a.dst → b ≡ not c → type_when a b ≢ type_when a c
+type_differs a b c h e same = grind arith
+
+module _ (a : Alternate) (year : ℤ) (dst : ℤ → Bool) (tells : Tells a year dst) where
+  -- a change comes only where it begins or ends
+  no_turn : (d : Change) → IsChange (AlternateAt a) d → IsYearOf (d.at -ℤ pos 1) year → dst (d.at -ℤ pos 1) ≢ dst d.at
+  no_turn d is of_year same =
+      let low = second_low _ _ of_year in let high = second_high _ _ of_year in
+      let before = tells _ (rule_second a _ _ is.before) low (omega linear) in
+      let after = tells _ (rule_second a _ _ is.after) (omega linear) (omega linear) in
+      is.differ (alternate_once a _ _ _ is.before before ∙ rw same (sym (alternate_once a _ _ _ is.after after)))
+
+  -- and there one comes, if the types differ
+  turn : (u : ℤ) → IsRuleYear year → IsRuleTime u → IsYearOf (u -ℤ pos 1) year → a.std ≢ a.dst → dst (u -ℤ pos 1) ≡ not (dst u)
+      → IsChange (AlternateAt a) (record { at = u; before = type_when a (dst (u -ℤ pos 1)); after = type_when a (dst u) })
+  turn u inside time of_year types differ =
+      let before = rule_time _ _ of_year inside in let low = second_low _ _ of_year in let high = second_high _ _ of_year in
+      record {
+        fits = omega linear;
+        fits_before = omega linear;
+        before = tells _ before low (omega linear);
+        after = tells _ time (omega linear) (omega linear);
+        differ = type_differs a _ _ types differ;
+      }
+
+-- ---- by the moments of years near it
+-- it begins or ends
 flip_off : (first next u : ℤ) (b c : Bool) → first <ℤ u → u ≤ℤ next → cond (int_le u first) false (cond (int_lt next u) false (not (beq b c))) ≡ false → b ≡ c
-flip_off _ _ u true true low high h = refl
-flip_off first next u false false low high h = refl
-flip_off first next u true false low high h = grind arith
-flip_off first next u false true low high h = grind arith
+flip_off first next u b c low high h = grind arith
 
-record IsFlip (first next u : ℤ) (b c : Bool) : Type 0 where
-  low : first <ℤ u
-  high : u ≤ℤ next
-  differ : b ≡ not c
-
-flip_on : (first next u : ℤ) (b c : Bool) → cond (int_le u first) false (cond (int_lt next u) false (not (beq b c))) ≡ true → IsFlip first next u b c
-flip_on _ _ u true true h = grind arith
-flip_on first next u false false h = grind arith
-flip_on first next u true false h = record { low = grind arith; high = grind arith; differ = refl }
-flip_on first next u false true h = record { low = grind arith; high = grind arith; differ = refl }
+flip_on : (first next u : ℤ) (b c : Bool) → cond (int_le u first) false (cond (int_lt next u) false (not (beq b c))) ≡ true
+    → (first <ℤ u) × (u ≤ℤ next) × (b ≡ not c)
+flip_on first next u b c h = grind arith
 
 none_at : (p : ℤ → Bool) (xs : List ℤ) (u : ℤ) → Contains xs u → list_any p xs ≡ false → p u ≡ false
-none_at p xs u (i, below, at) none = elim (cases_Bool (p u)) [
-  | inl on ↦ let any = list_any_at p xs i u below (rw at on) in cc
-  | inr off ↦ off
-]
-
--- no change comes in a year in which daylight saving time neither begins nor ends
-none_near : (a : Alternate) (year : ℤ) (d : Change) → IsAlternateRule a → has_flip (years_near (start_in a) (end_in a) year) ≡ false
-    → IsChange (AlternateAt a) d → IsYearOf (d.at -ℤ pos 1) year → ⊥
-unfolding moments_near
-none_near a year d rule none is of_second =
-    let near = years_near (start_in a) (end_in a) year in
-    let off = none_at (flips_at near) (seconds_near near) _ (change_near a _ d rule is of_second) none in
-    let low = second_low _ _ of_second in let high = second_high _ _ of_second in
-    let same = flip_off near.first near.next d.at _ _ (omega linear) (omega linear) off in
-    let own = one_year (floor_div (d.at -ℤ pos 1) 86_400) is.before.year year is.before.of_second of_second in
-    let inside = rw own at is.before.inside in
-    let before = near_type a _ _ rule inside low (omega linear)
-    (λ h. absurd (omega linear)) in
-    let after = near_type a _ _ rule inside (omega linear) (omega linear)
-    (λ h. subst IsRuleYear (one_year (floor_div d.at 86_400) is.after.year (year +ℤ pos 1) is.after.of_second h) is.after.inside) in
-    is.differ (alternate_once a _ _ _ is.before before ∙ rw same (sym (alternate_once a _ _ _ is.after after)))
-
--- a change of which the second before lies in the year
-pub record IsChangeIn (a : Alternate) (year : ℤ) (d : Change) : Type 0 where
-  pub is : IsChange (AlternateAt a) d
-  pub of_year : IsYearOf (d.at -ℤ pos 1) year
-
-pub differ_by : (a : Alternate) (b c : Bool) → a.std ≢ a.dst → b ≡ not c → type_when a b ≢ type_when a c
-differ_by a true false h e same = h (sym same)
-differ_by a false true h e same = h same
-differ_by a true true h e same = cc
-differ_by a false false h e same = cc
-
-change_made : (a : Alternate) (year u : ℤ) (b c : Bool) → a.std ≢ a.dst → b ≡ not c → IsYearOf (u -ℤ pos 1) year → AlternateAt a (u -ℤ pos 1) (type_when a b)
-    → AlternateAt a u (type_when a c)
-    → (d : Change) × IsChangeIn a year d
-change_made a _ u b c types differ of_year before after =
-    let here = rule_second a u _ after in (
-      record { at = u; before = type_when a b; after = type_when a c },
-      record {
-        is = record {
-          fits = omega linear;
-          fits_before = omega linear;
-          before = before;
-          after = after;
-          differ = differ_by a b c types differ;
-        };
-        of_year = of_year;
-      },
-    )
-
-one_near : (a : Alternate) (year : ℤ) → IsAlternateRule a → IsRuleYear year → IsRuleYear (year +ℤ pos 1) → a.std ≢ a.dst
-    → has_flip (years_near (start_in a) (end_in a) year) ≡ true
-    → (d : Change) × IsChangeIn a year d
-one_near a year rule inside next types some =
-    let near = years_near (start_in a) (end_in a) year in
-    let (k, u, below, at, on) = Any-from_list_any (flips_at near) (seconds_near near) some in
-    let flip = flip_on _ _ u _ _ on in
-    change_made a _ u _ _ types flip.differ (omega (arith, floors), omega (arith, floors))
-    (near_type a _ _ rule inside (omega linear) (omega linear) (λ h. next))
-    (near_type a _ u rule inside (omega linear) (omega linear) (λ h. next))
-
--- ---- where moments keep away from the ends of their years
--- then the year's own moments decide at each of its seconds, and at the next year's first one
-pub calm_margin : (a : Alternate) → IsAlternateRule a → are_calm (seconds_by_kind a.start a.std.offset) (seconds_by_kind a.end a.dst.offset) ≡ true
-    → IsMargin a (pos 172_800)
-unfolding margin_of
-calm_margin a rule calm = margin_kept a _ rule (rw calm)
-
-never_dst : (s e u : ℤ) → s ≡ e → is_dst_by_one s e u ≡ false
-never_dst s e u h = grind arith
-
-turned : (s e : ℤ) → s ≢ e → is_dst_by_one s e (s -ℤ pos 1) ≡ not (is_dst_by_one s e s)
-turned s e apart = grind linear
-
--- a rule with a margin of two days
-module _ (a : Alternate) (rule : IsAlternateRule a) (margin : IsMargin a (pos 172_800)) where
-  pub calm_type : (year u : ℤ) → IsRuleTime u → new_year year ≤ℤ u → u ≤ℤ new_year (year +ℤ pos 1)
-      → AlternateAt a u (type_when a (is_dst_by_one (start_in a year) (end_in a year) u))
-  calm_type year u time low high =
-      let step = year_step year in let most = days_at_most year in
-      (season_made a _ _ _ _ margin refl refl refl refl refl).decided u time
-      (omega (arith, floors), omega (arith, floors))
-
-  pub none_calm : (year : ℤ) (d : Change) → start_in a year ≡ end_in a year → IsChange (AlternateAt a) d → IsYearOf (d.at -ℤ pos 1) year → ⊥
-  none_calm year d one is of_second =
-      let low = second_low _ _ of_second in let high = second_high _ _ of_second in
-      let before = calm_type _ _ (rule_second a _ _ is.before) low (omega linear) in
-      let after = calm_type year _ (rule_second a _ _ is.after) (omega linear) (omega linear) in
-      is.differ (alternate_once a _ _ _ is.before (rw (never_dst _ _ _ one) at before)
-      ∙ sym (alternate_once a _ _ _ is.after (rw (never_dst _ _ _ one) at after)))
-
-  one_calm : (year : ℤ) → IsRuleYear year → a.std ≢ a.dst → start_in a year ≢ end_in a year → (d : Change) × IsChangeIn a year d
-  one_calm year inside types apart =
-      let u = start_in a year in
-      let low = margin.start.low year in let high = margin.start.high year in
-      let step = year_step year in let least = days_at_least year in
-      let of_before : IsYearOf (u -ℤ pos 1) year = (omega (arith, floors), omega (arith, floors)) in
-      let of_second : IsYearOf u year = (omega (arith, floors), omega (arith, floors)) in
-      change_made a _ u _ _ types (turned u _ apart) of_before
-      (calm_type _ _ (rule_time _ _ of_before inside) (omega (arith, floors)) (omega (arith, floors)))
-      (calm_type _ u (rule_time u _ of_second inside) (omega (arith, floors)) (omega (arith, floors)))
+none_at p xs u (i, below, at) none = grind (arith, list_any_at)
 
 -- ---- by the seconds of kinds
-apart_moved : (x y v w k : ℤ) → k +ℤ x ≡ v → k +ℤ y ≡ w → are_apart x y ≡ are_apart v w
-apart_moved x y v w k e f = grind linear
-
-are_one : (x y : ℤ) → are_apart x y ≡ false → x ≡ y
-are_one x y h = grind arith
-
-are_two : (x y : ℤ) → are_apart x y ≡ true → x ≢ y
-are_two x y h same = grind arith
-
-by_kind : (t : DayTime) (offset year : ℤ) → IsRuleDay t.day → moment_by (seconds_by_kind t offset) year ≡ moment t offset year
-by_kind t offset year fits = grind (linear, kind_found, fits)
-
 abbrev starts_of : Alternate → List ℤ
 starts_of a = seconds_by_kind a.start a.std.offset
 
 abbrev ends_of : Alternate → List ℤ
 ends_of a = seconds_by_kind a.end a.dst.offset
 
--- a rule in one year
+by_kind : (t : DayTime) (offset year : ℤ) → IsRuleDay t.day → moment_by (seconds_by_kind t offset) year ≡ moment t offset year
+by_kind t offset year fits = grind (linear, kind_found, fits)
+
+apart : (x y k v w : ℤ) → k +ℤ x ≡ v → k +ℤ y ≡ w → (are_apart x y ≡ false → v ≡ w) × (are_apart x y ≡ true → v ≢ w)
+apart x y k v w e f = (λ h. grind linear, λ h same. grind linear)
+
+turned : (s e : ℤ) (to_dst : Bool) → s ≢ e → (is_dst_by_one s e (cond to_dst s e) ≡ to_dst) × (is_dst_by_one s e (cond to_dst s e -ℤ pos 1) ≡ not to_dst)
+turned s e to_dst apart = (grind arith, grind arith)
+
+never_dst : (s e u v : ℤ) → s ≡ e → is_dst_by_one s e u ≡ is_dst_by_one s e v
+never_dst s e u v one = grind arith
+
+dst_alike : (s e u : ℤ) → (s ≡ u → ⊥) → (e ≡ u → ⊥) → is_dst_by_one s e (u -ℤ pos 1) ≡ is_dst_by_one s e u
+dst_alike s e u h k = grind linear
+
+amid : (moments : ℤ → ℤ) (year : ℤ) → KeepsMargin moments (pos 172_800) → IsYearOf (moments year) year × IsYearOf (moments year -ℤ pos 1) year
+amid moments year h =
+    let low = h.low year in let high = h.high year in let step = year_step year in let least = days_at_least year in
+    ((omega (arith, floors), omega (arith, floors)), (omega (arith, floors), omega (arith, floors)))
+
+-- a rule
 module _ (a : Alternate) (rule : IsAlternateRule a) where
-  near_by_kind : (year : ℤ) → years_near (moment_by (starts_of a)) (moment_by (ends_of a)) year ≡ years_near (start_in a) (end_in a) year
+  own_type : (year u : ℤ) → IsYearOf u year → IsRuleTime u
+      → AlternateAt a u (type_when a (dst_by (turns_in (start_in a) (end_in a) (year -ℤ pos 1)) (turns_in (start_in a) (end_in a) year)
+      (turns_in (start_in a) (end_in a) (year +ℤ pos 1)) u))
+  own_type year u of_second time =
+      alternate_at a u _ year _ refl of_second (rule_year u _ of_second time) (dst_by_three _ _ _ u _ (starts_near a rule) (ends_near a rule) of_second refl)
+
+  near_tells : (year : ℤ) → Tells a year (dst_near (years_near (start_in a) (end_in a) year))
+  near_tells year u time low high =
+      let next = year +ℤ pos 1 in
+      by_lt_z u (new_year next)
+      (λ l. rw (lt_true u _ l) (own_type year u (omega (arith, floors), omega (arith, floors)) time))
+      (λ m.
+      let step = year_step next in let least = days_at_least next in
+      let e : next -ℤ pos 1 ≡ year = omega linear in
+      let f : next +ℤ pos 1 ≡ year +ℤ pos 2 = omega linear in
+      rw (lt_false u _ m) (rw (e, f) at (own_type next u (omega (arith, floors), omega (arith, floors)) time)))
+
+  near_by_kind : (year : ℤ) → years_near (start_in a) (end_in a) year ≡ years_near (moment_by (starts_of a)) (moment_by (ends_of a)) year
   near_by_kind year = grind (linear, starts_of, by_kind, ends_of)
 
-  same_kind : (year : ℤ)
-      → are_apart (get_or (starts_of a) (kind_place year) (pos 0)) (get_or (ends_of a) (kind_place year) (pos 0)) ≡ are_apart (start_in a year) (end_in a year)
-  same_kind year =
-      let s = by_kind _ _ _ rule.start_day in let e = by_kind _ _ _ rule.end_day in
-      apart_moved _ _ (start_in a year) (end_in a year)
-      (pos 86_400 *ℤ year_start year) s e
+  -- ---- where moments keep away from the ends of their years, the year's own moments decide
+  module _ (calm : IsCalmRule a) where
+    calm_margin : IsMargin a (pos 172_800)
+    unfolding margin_of
+    calm_margin = margin_kept a _ rule (rw calm)
+
+    pub calm_tells : (year : ℤ) → Tells a year (is_dst_by_one (start_in a year) (end_in a year))
+    calm_tells year u time low high =
+        let step = year_step year in let most = days_at_most year in
+        (season_made a _ _ _ _ calm_margin refl refl refl refl refl).decided u time (omega (arith, floors), omega (arith, floors))
+
+    inside : (year : ℤ) (to_dst : Bool) → IsYearOf (turn_of a to_dst year) year × IsYearOf (turn_of a to_dst year -ℤ pos 1) year
+    inside year true = amid _ year calm_margin.start
+    inside year false = amid _ year calm_margin.end
+
+    -- if they are two, clocks change at each
+    pub turn_change : (year : ℤ) (to_dst : Bool) → IsRuleYear year → a.std ≢ a.dst → start_in a year ≢ end_in a year
+        → IsChange (AlternateAt a) (record { at = turn_of a to_dst year; before = type_when a (not to_dst); after = type_when a to_dst })
+    turn_change year to_dst of_rule types apart =
+        let (own, before) = inside year to_dst in let (here, there) = turned _ _ to_dst apart in
+        rw (here, there) at (turn a year _ (calm_tells year) (turn_of a to_dst year) of_rule (rule_time _ _ own of_rule) before types (there ∙ ap not (sym here)))
+
+    -- and at no other second of the year
+    at_moments : (year : ℤ) (d : Change) → IsChange (AlternateAt a) d → IsYearOf (d.at -ℤ pos 1) year → (start_in a year ≡ d.at) ⊎ (end_in a year ≡ d.at)
+    at_moments year d is of_year = elim (same_or_not _ _) [
+      | inl e ↦ inl e
+      | inr apart ↦ elim (same_or_not _ _) [
+        | inl e ↦ inr e
+        | inr other ↦ absurd (no_turn a year _ (calm_tells year) d is of_year (dst_alike _ _ _ apart other))
+      ]
+    ]
+
+    -- so the nearest of the two is the nearest one of the year
+    pub nearest_of_two : (w : Bool) (year after last : ℤ) (found other : Option Change)
+        → IsAsked (AlternateAt a) after last (start_in a year) found → IsAsked (AlternateAt a) after last (end_in a year) other
+        → IsNearest w (AlternateAt a) (IsOfYear after last year) (nearer_one w found other)
+    nearest_of_two w year after last found other h k =
+        nearest_moved w (AlternateAt a) _ _ _ _
+        (λ d is of. (is, ⊎_elim (λ e. inl (e, of.inside)) (λ e. inr (e, of.inside)) (at_moments year d is of.of_year)))
+        (λ d is. ⊎_elim
+        (λ p. (is, record { inside = p.1; of_year = rw p.0 at (inside year true).1 }))
+        (λ p. (is, record { inside = p.1; of_year = rw p.0 at (inside year false).1 })))
+        (nearest_either w (AlternateAt a) _ _ found _ (asked w _ _ _ _ _ h)
+        (asked w _ _ _ _ _ k))
+
+    pub none_of_one : (year : ℤ) (d : Change) → start_in a year ≡ end_in a year → IsChange (AlternateAt a) d → IsYearOf (d.at -ℤ pos 1) year → ⊥
+    none_of_one year d one is of_year = no_turn a year _ (calm_tells year) d is of_year (never_dst _ _ _ _ one)
+
+  apart_by_kind : (year : ℤ) → let x = get_or (starts_of a) (kind_place year) (pos 0) in let y = get_or (ends_of a) (kind_place year) (pos 0) in
+      (are_apart x y ≡ false → start_in a year ≡ end_in a year) × (are_apart x y ≡ true → start_in a year ≢ end_in a year)
+  apart_by_kind year = apart _ _ (pos 86_400 *ℤ year_start year) _ _ (by_kind _ _ _ rule.start_day) (by_kind _ _ _ rule.end_day)
 
   none_by : (year : ℤ) (d : Change) (calm : Bool) → are_calm (starts_of a) (ends_of a) ≡ calm → is_changing (starts_of a) (ends_of a) calm year ≡ false
       → IsChange (AlternateAt a) d → IsYearOf (d.at -ℤ pos 1) year → ⊥
-  none_by year d true calm none is of_second =
-      none_calm a rule (calm_margin a rule calm) _ d (are_one _ _ (rw (same_kind _) at none)) is of_second
-  none_by year d false calm none is of_second =
-      none_near a _ d rule (ap (λ y. has_flip y) (sym (near_by_kind year)) ∙ none) is of_second
+  unfolding moments_near
+  none_by year d true calm none is of_year = none_of_one calm year d ((apart_by_kind year).0 none) is of_year
+  none_by year d false calm none is of_year =
+      let near = years_near (start_in a) (end_in a) year in
+      let off = none_at (flips_at near) (seconds_near near) _ (change_near a _ d rule is of_year) (ap (λ y. has_flip y) (near_by_kind year) ∙ none) in
+      let low = second_low _ _ of_year in let high = second_high _ _ of_year in
+      no_turn a year _ (near_tells year) d is of_year (flip_off near.first near.next d.at _ _ (omega linear) (omega linear) off)
 
   pub none_in : (year : ℤ) (d : Change) → changes_in_year a year ≡ false → IsChange (AlternateAt a) d → IsYearOf (d.at -ℤ pos 1) year → ⊥
-  none_in _ d none is of_second = none_by _ d _ refl none is of_second
+  none_in _ d none is of_year = none_by _ d _ refl none is of_year
 
   one_by : (year : ℤ) (calm : Bool) → IsRuleYear year → IsRuleYear (year +ℤ pos 1) → a.std ≢ a.dst → are_calm (starts_of a) (ends_of a) ≡ calm
-      → is_changing (starts_of a) (ends_of a) calm year ≡ true → (d : Change) × IsChangeIn a year d
-  one_by year true inside next types calm some =
-      one_calm a rule (calm_margin a rule calm) _ inside types (are_two _ _ (rw (same_kind _) at some))
-  one_by year false inside next types calm some =
-      one_near a _ rule inside next types (ap (λ y. has_flip y) (sym (near_by_kind year)) ∙ some)
+      → is_changing (starts_of a) (ends_of a) calm year ≡ true → (d : Change) × IsChange (AlternateAt a) d × IsYearOf (d.at -ℤ pos 1) year
+  one_by year true of_rule next types calm some = (_, turn_change calm year true of_rule types ((apart_by_kind year).1 some), (inside calm year true).1)
+  one_by year false of_rule next types calm some =
+      let near = years_near (start_in a) (end_in a) year in
+      let (k, u, below, at, on) = Any-from_list_any (flips_at near) (seconds_near near) (ap (λ y. has_flip y) (near_by_kind year) ∙ some) in
+      let (low, high, differ) = flip_on _ _ u _ _ on in
+      let of_year : IsYearOf (u -ℤ pos 1) year = (omega (arith, floors), omega (arith, floors)) in
+      (_, turn a year _ (near_tells year) u of_rule (rule_until u year of_year of_rule next) of_year types differ, of_year)
 
-  pub one_in : (year : ℤ) → IsRuleYear year → IsRuleYear (year +ℤ pos 1) → a.std ≢ a.dst → changes_in_year a year ≡ true → (d : Change) × IsChangeIn a year d
-  one_in _ inside next types some = one_by _ _ inside next types refl some
+  pub one_in : (year : ℤ) → IsRuleYear year → IsRuleYear (year +ℤ pos 1) → a.std ≢ a.dst → changes_in_year a year ≡ true
+      → (d : Change) × IsChange (AlternateAt a) d × IsYearOf (d.at -ℤ pos 1) year
+  one_in _ of_rule next types some = one_by _ _ of_rule next types refl some
 
 -- ---- by the year's key
 abbrev keys_of : Alternate → List Bool
@@ -227,71 +199,51 @@ keys_of a = changing_keys (starts_of a) (ends_of a)
 key_at : (starts ends : List ℤ) (k : ℕ) → k < 35
     → get_or (changing_keys starts ends) k false ≡ is_changing starts ends (are_calm starts ends) (get_or key_years k (pos 0))
 unfolding changing_keys
-key_at starts ends k h = get_or-map (is_changing starts ends (are_calm starts ends)) key_years k (pos 0) false (omega (arith, key_count))
+key_at starts ends k h = grind (arith, get_or-map, key_count)
 
 pub by_key : (a : Alternate) (year : ℤ) → get_or (keys_of a) (year_key year) false ≡ changes_in_year a year
-by_key a year =
-    let below = key_below year in
-    key_at _ _ _ below
-    ∙ sym (changing_alike _ _ _ (get_or key_years (year_key year) (pos 0)) year
-    (own_key _ below))
+by_key a year = grind (arith, key_below, key_at, changing_alike, keys_are)
 
 none_of_all : (keys : List Bool) (k : ℕ) → list_any (λ b. b) keys ≡ false → get_or keys k false ≡ false
-none_of_all keys k none = elim (cases_Bool (get_or keys k false)) [
-  | inl on ↦ absurd (elim (cases_lt k (length keys)) [
-    | inl below ↦ let any = list_any_at (λ b. b) keys k false below on in cc
-    | inr out ↦ let d = get_or-eq_default keys false out in cc
-  ])
-  | inr off ↦ off
-]
+none_of_all keys k none = grind (arith, list_any_at, get_or-eq_default)
 
 std_either : (a : Alternate) (dst : Bool) → a.std ≡ a.dst → type_when a dst ≡ a.std
 std_either a true same = sym same
 std_either a false same = refl
 
 pub steady_alike : (a : Alternate) → a.std ≡ a.dst → NeverChanges a
-steady_alike a same u v s t h k = grind (linear, std_either)
+steady_alike a same u v s t h k = grind linear
 
 key_total : (a : Alternate) → length (keys_of a) ≡ 35
 unfolding changing_keys
-key_total a = length-map key_years (is_changing (starts_of a) (ends_of a) (are_calm (starts_of a) (ends_of a))) ∙ key_count
+key_total a = grind (arith, length-map, key_count)
 
 -- a rule
 module _ (a : Alternate) (rule : IsAlternateRule a) where
   -- ---- from one second to another, if clocks don't change between them
-  -- at each second of the rule's years some type is in force
-  typed : (u : ℤ) → IsRuleTime u → (t : LocalType) × AlternateAt a u t
-  typed u time =
-      let of_second = lies_in (floor_div u 86_400) in
-      (_, own_type a _ u rule of_second (rule_year u _ of_second time))
-
   -- the type stays
   pub still : (u v : ℤ) (t : LocalType) → HasNoChange (AlternateAt a) (λ w. (u <ℤ w) × (w ≤ℤ v)) → AlternateAt a u t → IsRuleTime v → u ≤ℤ v → AlternateAt a v t
   still u v t none h last le =
       let first = rule_second a u t h in
       stays _ u v t (omega linear) (omega linear) le none
-      (λ w low high. typed w (omega linear, omega linear)) h
+      (λ w low high. (_, own_type a rule _ w (lies_in (floor_div w 86_400)) (omega linear, omega linear))) h
 
   pub unchanged : (u v : ℤ) (s t : LocalType) → HasNoChange (AlternateAt a) (λ w. (u <ℤ w) × (w ≤ℤ v)) → AlternateAt a u s → AlternateAt a v t → u ≤ℤ v → s ≡ t
   unchanged u v s t none h k le = alternate_once a v s t (still u v s none h (rule_second a v t k) le) k
 
   -- a rule that never changes the clocks has one type
-  steady : HasNoChange (AlternateAt a) (λ w. Unit {0}) → NeverChanges a
-  steady none u v s t h k =
-      by_lt_z v u (λ l. sym (unchanged v u t s (λ d is i. none d is tt) k h (omega linear)))
-      (λ m. unchanged u v s t (λ d is i. none d is tt) h k m)
-
   pub steady_without : list_any (λ b. b) (keys_of a) ≡ false → NeverChanges a
-  steady_without none = steady (λ d is i.
-      none_in a rule _ d (sym (by_key a is.before.year) ∙ none_of_all (keys_of a) _ none) is is.before.of_second)
+  steady_without none u v s t h k =
+      let never : (d : Change) → IsChange (AlternateAt a) d → ⊥ =
+      λ d is. none_in a rule _ d (sym (by_key a is.before.year) ∙ none_of_all (keys_of a) _ none) is is.before.of_second in
+      by_lt_z v u (λ l. sym (unchanged v u t s (λ d is i. never d is) k h (omega linear))) (λ m. unchanged u v s t (λ d is i. never d is) h k m)
 
   pub unsteady : a.std ≢ a.dst → list_any (λ b. b) (keys_of a) ≡ true → NeverChanges a → ⊥
   unsteady types some never =
       let (k, b, below, at, on) = Any-from_list_any (λ b. b) (keys_of a) some in
       let few = rw (key_total a) at below in
-      let bound = year_bounds k few in
+      let bound = keys_are k few in
       let e = get_or_default (keys_of a) k false b below ∙ at ∙ on in
-      let year = get_or key_years k (pos 0) in
-      let (d, c) = one_in a rule year (omega linear, omega linear) (omega linear, omega linear) types
+      let (d, is, of_year) = one_in a rule (get_or key_years k (pos 0)) (omega linear, omega linear) (omega linear, omega linear) types
       (sym (key_at _ _ k few) ∙ e) in
-      c.is.differ (never (d.at -ℤ pos 1) d.at d.before d.after c.is.before c.is.after)
+      is.differ (never (d.at -ℤ pos 1) d.at d.before d.after is.before is.after)

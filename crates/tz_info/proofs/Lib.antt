@@ -10,7 +10,6 @@ pub mod RuleDays
 pub mod Neighbours
 pub mod RuleLaws
 pub mod RuleTurns
-pub mod NextMoments
 pub mod KindLaws
 pub mod YearKeys
 pub mod SeasonLaws
@@ -18,7 +17,6 @@ pub mod RuleChanges
 pub mod RuleGaps
 pub mod ChangeSearch
 pub mod ChangingYears
-pub mod CalmYears
 pub mod AskedYears
 pub mod Prefixes
 pub mod LeapEntries

@@ -1,7 +1,7 @@
 -- Each year has one day that is the rule's, and the closed form finds it.
 use Rattle.tz_info.proofs.{
-  Words.{Bool, DayForm, IsDayOf, IsRuleDay, IsWeekdayInWeek, LiesIn, ap, arith, cases_lt, closed_day, closed_day_is, date_lies, day_number, days_at_least},
-  Words.{days_at_most, days_in_month, days_in_year, floors, inl, inr, is_leap, julian_is, julian_place, leap_at_most, months_all, months_step, nat_le},
+  Words.{Bool, DayForm, IsDayOf, IsRuleDay, IsWeekdayInWeek, LiesIn, ap, arith, closed_day, closed_day_is, date_lies, day_number, days_at_least},
+  Words.{days_at_most, days_in_month, days_in_year, floors, is_leap, julian_is, julian_place, leap_at_most, months_all, months_step, nat_le},
   Words.{number_after, pos, rule_day, rule_day_with, starts_rise, sym, weekday_at, weekday_below, weekday_is, weekday_of, weekday_place, year_start, year_step},
   Words.{ℕ, ℤ, ◌%◌, ◌&&◌, ◌*◌, ◌+ℤ◌, ◌+◌, ◌-◌, ◌<ℤ◌, ◌<◌, ◌∙◌, ◌≡◌, ◌≤ℤ◌, ◌≤◌},
 }
@@ -17,14 +17,7 @@ same_week : (first week a b weekday : ℕ) → (first + (a - 1)) % 7 ≡ weekday
 same_week _ _ a b _ h k low c d e f = omega arith
 
 one_weekday : (year : ℤ) (month week weekday a b : ℕ) → week ≤ 5 → IsWeekdayInWeek year month week weekday a → IsWeekdayInWeek year month week weekday b → a ≡ b
-one_weekday year month week _ a b most h k =
-    elim (cases_lt week 5) [
-      | inl lt ↦
-          same_week _ _ a b _
-          (sym (weekday_at year month a h.date.2) ∙ h.falls) (sym (weekday_at year month b k.date.2) ∙ k.falls)
-          (weekday_below (day_number year month 1)) (h.in_week lt).0 (h.in_week lt).1 (k.in_week lt).0 (k.in_week lt).1
-      | inr ge ↦ omega (arith, h.last (omega arith) b k.date k.falls, k.last (omega arith) a h.date h.falls)
-    ]
+one_weekday year month week _ a b most h k = grind (arith, same_week, weekday_at, weekday_below)
 
 pub one_rule_day : (form : DayForm) (year a b : ℤ) → IsRuleDay form → IsDayOf form year a → IsDayOf form year b → a ≡ b
 one_rule_day (Julian1 n) year a b fits h k = h.3 ∙ sym (julian_is year n h.0 h.1 h.2) ∙ julian_is year n k.0 k.1 k.2 ∙ sym k.3
@@ -34,7 +27,7 @@ one_rule_day (MonthWeekday month week weekday) year a b fits h k =
 
 pub rule_day_is : (form : DayForm) (year : ℤ) → IsRuleDay form → IsDayOf form year (rule_day form year)
 unfolding rule_day
-rule_day_is form year fits = (rule_day_with form year).1 fits
+rule_day_is form year fits = grind (arith, rule_day_with)
 
 pub rule_day_closed : (form : DayForm) (year : ℤ) → IsRuleDay form → rule_day form year ≡ closed_day form year
 rule_day_closed form year fits =
@@ -81,4 +74,4 @@ closed_rises (MonthWeekday month week weekday) a b fits h =
     omega (arith, floors)
 
 pub day_rises : (form : DayForm) (a b : ℤ) → IsRuleDay form → a <ℤ b → rule_day form a <ℤ rule_day form b
-day_rises _ a b fits h = rw (rule_day_closed _ a fits, rule_day_closed _ b fits) (closed_rises _ a b fits h)
+day_rises _ a b fits h = grind (arith, rule_day_closed, closed_rises)

@@ -7,7 +7,7 @@ use Rattle.tz_info.proofs.{
   WallSegments.{not_begun, rule_begun},
   Words.{Alternate as AlternateRule, AlternateAt, AreLess, Bool, Change, HasGap, IsAlternateRule, IsDecidedIn, IsNear, IsNeverFrom, IsRuleGap, IsSeason},
   Words.{IsSeasonFor, IsSeasonIn, IsSeasonOf, IsStart, IsTableLess, IsValid, IsWide, IsWindowOf, LocalType, MatchOption, None, Option, Season, Some},
-  Words.{TransitionRule, TypeAt, Zone, arith, by_lt_z, cond, false, int_lt, is_dst_by_one, length, linear, not, pos, refl, subst, sym, table_count, true},
+  Words.{TransitionRule, TypeAt, Zone, arith, by_lt_z, cond, false, int_lt, is_dst_by_one, length, linear, not, pos, subst, sym, table_count, true},
   Words.{type_when, ℤ, ◌+ℤ◌, ◌-ℤ◌, ◌<ℤ◌, ◌≡◌, ◌≤ℤ◌},
   ZoneChanges.{from_rule, to_rule},
 }
@@ -23,15 +23,11 @@ record Turns (start end u v moment : ℤ) (dst : Bool) : Type 0 where
 
 turns : (start end u v : ℤ) (dst : Bool) → u <ℤ v → is_dst_by_one start end u ≡ not dst
     → is_dst_by_one start end v ≡ not (not dst) → Turns start end u v (cond dst start end) dst
-turns _ end u v true h a b = grind linear
-turns start end u v false h a b = grind linear
+turns _ end u v dst h a b = grind linear
 
 -- ---- the types there
 other : (b dst : Bool) → (b ≡ dst → ⊥) → b ≡ not dst
-other true true h = absurd (h refl)
-other true false h = refl
-other false true h = refl
-other false false h = absurd (h refl)
+other b dst h = grind arith
 
 at : (a : AlternateRule) (s : Season) (u : ℤ) (dst : Bool) → IsSeason a s → IsNear u → IsDecidedIn s u → is_dst_by_one s.turns.start s.turns.end u ≡ dst
     → AlternateAt a u (type_when a dst)
@@ -47,10 +43,7 @@ other_at a s _ l dst h near never =
     (omega linear))
 
 most_offset : (a : AlternateRule) (b c : Bool) → (type_when a (not b)).offset ≤ℤ (type_when a b).offset → (type_when a c).offset ≤ℤ (type_when a b).offset
-most_offset a true true h = omega linear
-most_offset a true false h = h
-most_offset a false true h = h
-most_offset a false false h = omega linear
+most_offset a b c h = grind linear
 
 near_by : (a : AlternateRule) (l : ℤ) (dst : Bool) → IsAlternateRule a → IsWide l → IsNear (l -ℤ (type_when a dst).offset)
 near_by a l true rule wide = grind linear

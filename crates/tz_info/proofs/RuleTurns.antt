@@ -1,9 +1,8 @@
 -- A rule's types and its moments: from which second on a type is in force, and which one a second before.
 use Rattle.tz_info.proofs.{
-  Neighbours.{by_end, by_start},
   RuleDays.{day_rises, one_rule_day, rule_day_is},
   Words.{Alternate, AlternateAt, DayTime, IsAlternateRule, IsBetween, IsDayOf, IsDstAt, IsInSomeYear, IsRuleDay, IsRuleYear, IsYearOf, ap, arith, by_lt_z},
-  Words.{end_in, false, false≢true, floors, inl, inr, linear, moment, pos, refl, rule_day, start_in, true, ℤ, ◌*ℤ◌, ◌+ℤ◌, ◌-ℤ◌, ◌<ℤ◌, ◌≡◌, ◌≤ℤ◌},
+  Words.{end_in, false, floors, inl, inr, linear, moment, pos, rule_day, start_in, true, ℤ, ◌*ℤ◌, ◌+ℤ◌, ◌-ℤ◌, ◌<ℤ◌, ◌≡◌, ◌≤ℤ◌, ◌⊎◌},
 }
 
 abbrev Rise : (ℤ → ℤ) → Type 0
@@ -24,39 +23,30 @@ moment_is t _ year day u fits of_year shown =
     let e : day ≡ rule_day t.day year = one_rule_day _ _ day _ fits of_year (rule_day_is _ _ fits) in
     omega (arith, floors)
 
-left_out : (f g : ℤ → ℤ) (year u : ℤ) → Rise f → Rise g → u ≡ f year → g (year -ℤ pos 1) <ℤ f year → IsInSomeYear f g (u -ℤ pos 1) → ⊥
-left_out f g year u rf rg e h (y, a, b) =
-    by_lt_z y year
+-- where a moment of f comes between those of g, it begins what f and g enclose, or ends what g and f do
+sides : (f g : ℤ → ℤ) (year u : ℤ) → Rise f → Rise g → u ≡ f year → IsBetween g f year
+    → ((f year <ℤ g year) × IsInSomeYear f g u × (IsInSomeYear f g (u -ℤ pos 1) → ⊥))
+    ⊎ ((g year <ℤ f year) × IsInSomeYear g f (u -ℤ pos 1) × (IsInSomeYear g f u → ⊥))
+sides f g year u rf rg e (inl (before, after)) = inl (omega linear, (year, omega linear, omega linear), λ i. let (y, a, b) = i in by_lt_z y year
     (λ l. let r = rg y (year -ℤ pos 1) (omega linear) in omega linear)
-    (λ l. let r = rf year y (omega linear) in omega linear)
-
-right_out : (f g : ℤ → ℤ) (year u : ℤ) → Rise f → Rise g → u ≡ f year → f year <ℤ g (year +ℤ pos 1) → IsInSomeYear g f u → ⊥
-right_out f g year u rf rg e h (y, a, b) =
-    by_lt_z year y
+    (λ l. let r = rf year y (omega linear) in omega linear))
+sides f g year u rf rg e (inr (before, after)) = inr (omega linear, (year, omega linear, omega linear), λ i. let (y, a, b) = i in by_lt_z year y
     (λ l. let r = rg (year +ℤ pos 1) y (omega linear) in omega linear)
-    (λ l. let r = rf y year (omega linear) in omega linear)
+    (λ l. let r = rf y year (omega linear) in omega linear))
 
 -- at a start that comes between ends daylight saving time begins
 begins : (f g : ℤ → ℤ) (year u : ℤ) → Rise f → Rise g → u ≡ f year → IsBetween g f year → IsDstAt f g year u true × IsDstAt f g year (u -ℤ pos 1) false
-begins f g year u rf rg e (inl (before, after)) = (
-  by_start f g _ u _ (omega linear) (λ _. (year, omega linear, omega linear)) (λ _. refl),
-  by_start f g _ _ _ (omega linear) (λ t. absurd (false≢true t)) (λ k. absurd (left_out f g _ u rf rg e before k)),
-)
-begins f g year u rf rg e (inr (before, after)) = (
-  by_end f g _ u _ _ before refl (λ t. absurd (false≢true t)) (λ k. absurd (right_out f g _ u rf rg e after k)),
-  by_end f g _ _ _ _ before refl (λ _. (year, omega linear, omega linear)) (λ _. refl),
-)
+begins f g year u rf rg e between = elim (sides f g year u rf rg e between) [
+  | inl (order, there, out) ↦ (grind linear, grind linear)
+  | inr (order, there, out) ↦ (grind linear, grind linear)
+]
 
 -- and at an end that comes between starts it is over
 is_over : (f g : ℤ → ℤ) (year u : ℤ) → Rise f → Rise g → u ≡ g year → IsBetween f g year → IsDstAt f g year u false × IsDstAt f g year (u -ℤ pos 1) true
-is_over f g year u rf rg e (inl (before, after)) = (
-  by_end f g _ u _ _ after refl (λ _. (year, omega linear, omega linear)) (λ _. refl),
-  by_end f g _ _ _ _ after refl (λ t. absurd (false≢true t)) (λ k. absurd (left_out g f _ u rg rf e before k)),
-)
-is_over f g year u rf rg e (inr (before, after)) = (
-  by_start f g _ u _ (omega linear) (λ t. absurd (false≢true t)) (λ k. absurd (right_out g f _ u rg rf e after k)),
-  by_start f g _ _ _ (omega linear) (λ _. (year, omega linear, omega linear)) (λ _. refl),
-)
+is_over f g year u rf rg e between = elim (sides g f year u rg rf e between) [
+  | inl (order, there, out) ↦ (grind linear, grind linear)
+  | inr (order, there, out) ↦ (grind linear, grind linear)
+]
 
 pub starts : (a : Alternate) (year day u : ℤ) → IsAlternateRule a → IsRuleYear year → IsDayOf a.start.day year day
     → (u +ℤ a.std.offset) ≡ (pos 86_400 *ℤ day +ℤ a.start.time) → IsBetween (end_in a) (start_in a) year

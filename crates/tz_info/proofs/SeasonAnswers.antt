@@ -1,5 +1,5 @@
 -- The answer of two seconds at which a season's moments decide.
-use Rattle.offset_core.specs.declared.local_result.LocalResult.TheVariants.{Ambiguous, None, Single}
+use Rattle.offset_core.specs.declared.local_result.LocalResult.TheVariants.{None}
 use Rattle.std.proofs.Math.Bool.{beq}
 use Rattle.tz_info.proofs.{
   Candidates.{asked_both, asked_found, asked_other, dst_or_std, std_or_dst},
@@ -11,9 +11,7 @@ use Rattle.tz_info.proofs.{
 use Rattle.tz_info.specs.declared.rule.transition_rule.TransitionRule.TheVariants.{Alternate}
 
 joined_none : (a : LocalResult LocalType) → joined a None ≡ a
-joined_none None = refl
-joined_none (Single s) = refl
-joined_none (Ambiguous s t) = refl
+joined_none a = grind arith
 
 -- what is known of the second of an offset
 pub record IsKnown (from l o : ℤ) : Type 0 where
@@ -22,16 +20,13 @@ pub record IsKnown (from l o : ℤ) : Type 0 where
 
 -- ---- the type of the greater offset first, of daylight saving time or of standard time
 pub greater : (a : AlternateRule) (dst : Bool) → dst ≡ int_lt a.std.offset a.dst.offset → (type_when a (not dst)).offset ≤ℤ (type_when a dst).offset
-greater a true e = grind arith
-greater a false e = grind arith
+greater a dst e = grind arith
 
 pub alike : (a : AlternateRule) (dst : Bool) → ((type_when a dst).offset ≡ (type_when a (not dst)).offset) ↔ (a.std.offset ≡ a.dst.offset)
-alike a true = grind linear
-alike a false = ((λ e. e), (λ e. e))
+alike a dst = (grind linear, grind linear)
 
 pub std_too : (a : AlternateRule) (dst : Bool) → a.std.offset ≡ a.dst.offset → (type_when a dst).offset ≡ a.std.offset
-std_too a true e = sym e
-std_too a false e = refl
+std_too a dst e = grind arith
 
 -- the second is that of the one type or of the other one
 pub either : (a : AlternateRule) (from l : ℤ) (dst : Bool) (u : ℤ) (t : LocalType) → Shows (TypeFrom (Alternate a) from) l u t
@@ -41,13 +36,11 @@ either a from l false u t s = std_or_dst a t _ l u s
 
 -- the season decides at both seconds that could show the local time
 pub amid : (a : AlternateRule) (s : Season) (from l : ℤ) (dst : Bool) → IsSeasonFor a from l s → IsAmidFrom s from (l -ℤ (type_when a dst).offset)
-amid a s _ l true h = h.daylight
-amid a s from l false h = h.standard
+amid a s _ l dst h = grind linear
 
 pub season_for : (a : AlternateRule) (s : Season) (from l : ℤ) (dst : Bool) → IsSeason a s → IsAmidFrom s from (l -ℤ (type_when a dst).offset)
     → IsAmidFrom s from (l -ℤ (type_when a (not dst)).offset) → IsSeasonFor a from l s
-season_for a s from l true season first last = grind (linear, first)
-season_for a s from l false season first last = grind (linear, first)
+season_for a s from l dst season first last = grind (linear, first)
 
 -- a rule whose two types differ in their offsets, and a local time
 module _ (a : AlternateRule) (l : ℤ) (other : a.std.offset ≢ a.dst.offset) where

@@ -9,9 +9,7 @@ use Rattle.tz_info.proofs.{
 
 -- a second eight days or more from the neighbouring years lies in the year
 amid_lies : (u year : ℤ) → IsBeside (neg_ℤ (pos 691_200)) year u → IsYearOf u year
-amid_lies u year h =
-    let step = year_step year in let least = days_at_least year in
-    (omega (arith, floors), omega (arith, floors))
+amid_lies u year h = grind (arith, floors, year_step, days_at_least)
 
 -- moments come in one order in the season's year and in the second's
 one_order : (a : Alternate) (margin year own u : ℤ) → IsBeside margin year u → IsYearOf u own
@@ -37,7 +35,4 @@ season_made a margin year _ s kept begins from until start end = record {
 
 -- the first day of a year lies in it
 pub own_start : (year : ℤ) → year_of (year_start year) ≡ year
-own_start year =
-    let step = year_step year in let least = days_at_least year in
-    let lies : LiesIn (year_start year) year = (omega (arith, floors), omega (arith, floors)) in
-    one_year (year_start year) (year_of (year_start year)) year (lies_in (year_start year)) lies
+own_start year = let step = year_step year in let least = days_at_least year in one_year (year_start year) _ year (lies_in _) (omega (arith, floors), omega (arith, floors))

@@ -2,18 +2,18 @@
 use Rattle.std.proofs.{Math.Dec.{eqb}, lemmas.Bool.{eqb-true}}
 use Rattle.tz_info.proofs.{
   ListLaws.{one_true},
-  Words.{Bool, List, all_below, and_parts, ap, arith, cond, false, floor_div, floor_mod, floor_mod_parts, floors, get_or, int_le, int_lt, is_between, is_leap},
-  Words.{kind_place, length, linear, nat_le, nat_lt, pos, refl, sym, true, weekday_below, weekday_of, year_start, year_step, ℕ, ℤ, ◌%◌, ◌&&◌, ◌*ℤ◌, ◌+ℤ◌},
-  Words.{◌-ℤ◌, ◌<◌, ◌∙◌, ◌≡◌, ◌≤ℤ◌},
+  Words.{Bool, IsRuleYear, List, SFits, all_below, ap, arith, cond, false, floor_div, floor_mod, floor_mod_parts, floors, get_or, int_le, int_lt, is_leap},
+  Words.{kind_place, length, linear, nat_le, nat_lt, pos, refl, true, w32, weekday_below, weekday_of, year_start, year_step, ℕ, ℤ, ◌%◌, ◌&&◌, ◌*ℤ◌, ◌+ℤ◌},
+  Words.{◌-ℤ◌, ◌<◌, ◌∙◌, ◌≡◌, ◌≤ℤ◌, ◌↔◌},
 }
 use Rattle.tz_info.specs.{
-  Steps.{ChangingYears.{dst_near, flips_at, has_flip, is_changing, key_years, leap_place, moment_by, turns_in, year_key, years_near}, Turns.{dst_by}},
+  Steps.ChangingYears.{dst_near, flips_at, has_flip, is_changing, key_years, leap_place, moment_by, turns_in, year_key, years_near},
   declared.rule.{changing.YearsNear.{YearsNear}, moments.Turns.{Turns}},
 }
 
 -- ---- the same seconds, all as much later
-between_later : (x y u k : ℤ) → is_between (x +ℤ k) (y +ℤ k) (u +ℤ k) ≡ is_between x y u
-between_later x y u k = grind linear
+before_later : (u k : ℤ) → (u +ℤ k) -ℤ pos 1 ≡ (u -ℤ pos 1) +ℤ k
+before_later u k = omega linear
 
 le_later : (x y k : ℤ) → int_le (x +ℤ k) (y +ℤ k) ≡ int_le x y
 le_later x y k = grind arith
@@ -23,19 +23,6 @@ lt_later x y k = grind arith
 
 moved : Turns → ℤ → Turns
 moved t k = record { start = t.start +ℤ k; end = t.end +ℤ k }
-
-dst_moved : (a b c : Turns) (u k : ℤ) → dst_by (moved a k) (moved b k) (moved c k) (u +ℤ k) ≡ dst_by a b c u
-unfolding moved
-dst_moved a b c u k =
-    rw (
-      le_later _ _ k,
-      between_later _ _ u k,
-      between_later _ _ u k,
-      between_later _ _ u k,
-      between_later _ _ u k,
-      between_later _ _ u k,
-      between_later _ _ u k,
-    )
 
 all_moved : YearsNear → ℤ → YearsNear
 all_moved y k = record {
@@ -48,27 +35,16 @@ all_moved y k = record {
 }
 
 near_moved : (y : YearsNear) (u k : ℤ) → dst_near (all_moved y k) (u +ℤ k) ≡ dst_near y u
-unfolding all_moved
-near_moved y u k = rw (lt_later u _ k, dst_moved _ _ _ u k, dst_moved _ _ _ u k)
+unfolding all_moved moved
+near_moved y u k = simp (le_later, lt_later)
 
 flip_moved : (y : YearsNear) (u k : ℤ) → flips_at (all_moved y k) (u +ℤ k) ≡ flips_at y u
 unfolding all_moved
-flip_moved y u k =
-    let e : (u +ℤ k) -ℤ pos 1 ≡ (u -ℤ pos 1) +ℤ k = omega linear in
-    rw (e, le_later u _ k, lt_later _ u k, near_moved y u k, near_moved y _ k)
+flip_moved y u k = rw (before_later u k, le_later u _ k, lt_later _ u k, near_moved y u k, near_moved y _ k)
 
 has_moved : (y : YearsNear) (k : ℤ) → has_flip (all_moved y k) ≡ has_flip y
 unfolding all_moved moved
-has_moved y k =
-    rw (
-      flip_moved y _ k,
-      flip_moved y _ k,
-      flip_moved y _ k,
-      flip_moved y _ k,
-      flip_moved y _ k,
-      flip_moved y _ k,
-      flip_moved y _ k,
-    )
+has_moved y k = simp (flip_moved y)
 
 -- ---- years of one key
 -- one of four years is a leap year at most
@@ -92,23 +68,9 @@ IsSolo : Bool → Bool → Bool → Bool → Type 0
 IsSolo a b c d = (a ≡ true → b ≡ true → ⊥) × (a ≡ true → c ≡ true → ⊥) × (a ≡ true → d ≡ true → ⊥) × (b ≡ true → c ≡ true → ⊥) × (b ≡ true → d ≡ true → ⊥) ×
     (c ≡ true → d ≡ true → ⊥)
 
-test_at : ℕ → ℕ → Bool
-test_at k n = eqb k n
-
-solo_at : (a b c d : Bool) → IsSolo a b c d
-    → (a ≡ test_at 0 (place_of a b c d)) × (b ≡ test_at 1 (place_of a b c d)) × (c ≡ test_at 2 (place_of a b c d)) × (d ≡ test_at 3 (place_of a b c d))
-unfolding IsSolo test_at
-solo_at true true c d h = absurd (h.0 refl refl)
-solo_at true false true d h = absurd (h.1 refl refl)
-solo_at true false false true h = absurd (h.2 refl refl)
-solo_at true false false false h = (refl, refl, refl, refl)
-solo_at false true true d h = absurd (h.3 refl refl)
-solo_at false true false true h = absurd (h.4 refl refl)
-solo_at false true false false h = (refl, refl, refl, refl)
-solo_at false false true true h = absurd (h.5 refl refl)
-solo_at false false true false h = (refl, refl, refl, refl)
-solo_at false false false true h = (refl, refl, refl, refl)
-solo_at false false false false h = (refl, refl, refl, refl)
+solo_at : (a b c d : Bool) → IsSolo a b c d → let p = place_of a b c d in (a ≡ eqb 0 p) × (b ≡ eqb 1 p) × (c ≡ eqb 2 p) × (d ≡ eqb 3 p)
+unfolding IsSolo
+solo_at a b c d h = (grind arith, grind arith, grind arith, grind arith)
 
 leaps_solo : (x : ℤ) → IsSolo (is_leap (x -ℤ pos 1)) (is_leap x) (is_leap (x +ℤ pos 1)) (is_leap (x +ℤ pos 2))
 unfolding IsSolo
@@ -123,10 +85,8 @@ leaps_solo x = (
 
 leaps_alike : (x y : ℤ) → leap_place x ≡ leap_place y → LeapsAlike x y
 leaps_alike x y e =
-    let a = solo_at _ _ _ _ (leaps_solo x) in
-    let b = solo_at _ _ _ _ (leaps_solo y) in
-    let at : (k : ℕ) → test_at k (leap_place x) ≡ test_at k (leap_place y) = λ k. ap (λ n. test_at k n) e in
-    record { before = a.0 ∙ at 0 ∙ sym b.0; here = a.1 ∙ at 1 ∙ sym b.1; after = a.2 ∙ at 2 ∙ sym b.2; later = a.3 ∙ at 3 ∙ sym b.3 }
+    let a = solo_at _ _ _ _ (leaps_solo x) in let b = solo_at _ _ _ _ (leaps_solo y) in
+    record { before = cc; here = cc; after = cc; later = cc }
 
 leap_places : (x y : ℤ) → year_key x ≡ year_key y → (leap_place x ≡ leap_place y) × (weekday_of (year_start x) ≡ weekday_of (year_start y))
 leap_places x y e = grind arith
@@ -153,38 +113,26 @@ module _ (x y q : ℤ) (leap : is_leap x ≡ is_leap y) (start : year_start y �
   unfolding moved
   turns_moved _ _ = rw (moment_moved _, moment_moved _)
 
--- the years before and after them begin as many weeks later too
-record StartsAlike (x y q : ℤ) : Type 0 where
-  before : year_start (y -ℤ pos 1) ≡ year_start (x -ℤ pos 1) +ℤ pos 7 *ℤ q
-  after : year_start (y +ℤ pos 1) ≡ year_start (x +ℤ pos 1) +ℤ pos 7 *ℤ q
-  later : year_start (y +ℤ pos 2) ≡ year_start (x +ℤ pos 2) +ℤ pos 7 *ℤ q
-
-next_alike : (x y q : ℤ) → is_leap x ≡ is_leap y → year_start y ≡ year_start x +ℤ pos 7 *ℤ q → year_start (y +ℤ pos 1) ≡ year_start (x +ℤ pos 1) +ℤ pos 7 *ℤ q
-next_alike x y q leap start = let a = year_step x in let b = rw (← leap) at (year_step y) in omega (arith, floors)
+-- so are the starts of the years after them, and of those before
+next_alike : (x y v w q : ℤ) → v ≡ x +ℤ pos 1 → w ≡ y +ℤ pos 1 → is_leap x ≡ is_leap y
+    → (year_start y ≡ year_start x +ℤ pos 7 *ℤ q) ↔ (year_start w ≡ year_start v +ℤ pos 7 *ℤ q)
+next_alike x y v w q e f leap = let a = year_step x in let b = rw (← leap) at (year_step y) in rw (e, f) (λ s. omega (arith, floors), λ s. omega (arith, floors))
 
 -- two years whose starts are whole weeks apart
 module _ (x y q : ℤ) (leaps : LeapsAlike x y) (start : year_start y ≡ year_start x +ℤ pos 7 *ℤ q) where
-  starts_alike : StartsAlike x y q
-  starts_alike =
-      let after = next_alike x y q leaps.here start in
-      let e : (x +ℤ pos 1) +ℤ pos 1 ≡ x +ℤ pos 2 = omega linear in
-      let f : (y +ℤ pos 1) +ℤ pos 1 ≡ y +ℤ pos 2 = omega linear in
-      let g : (x -ℤ pos 1) +ℤ pos 1 ≡ x = omega linear in
-      let h : (y -ℤ pos 1) +ℤ pos 1 ≡ y = omega linear in
-      let a = rw g at (year_step (x -ℤ pos 1)) in let b = rw (h, ← leaps.before) at (year_step (y -ℤ pos 1)) in
-      record { before = omega (arith, floors); after = after; later = rw (e, f) at (next_alike _ _ q leaps.after after) }
-
   near_alike : (starts ends : List ℤ)
       → years_near (moment_by starts) (moment_by ends) y ≡ all_moved (years_near (moment_by starts) (moment_by ends) x) (pos 86_400 *ℤ (pos 7 *ℤ q))
   unfolding all_moved
   near_alike starts ends =
-      let s = starts_alike in
+      let before = (next_alike (x -ℤ pos 1) (y -ℤ pos 1) x y q (omega linear) (omega linear) leaps.before).1 start in
+      let after = (next_alike x y _ _ q refl refl leaps.here).0 start in
+      let later = (next_alike (x +ℤ pos 1) (y +ℤ pos 1) (x +ℤ pos 2) (y +ℤ pos 2) q (omega linear) (omega linear) leaps.after).0 after in
       let first : pos 86_400 *ℤ year_start y ≡ pos 86_400 *ℤ year_start x +ℤ pos 86_400 *ℤ (pos 7 *ℤ q) = rw start (omega linear) in
-      let next : pos 86_400 *ℤ year_start (y +ℤ pos 1) ≡ pos 86_400 *ℤ year_start (x +ℤ pos 1) +ℤ pos 86_400 *ℤ (pos 7 *ℤ q) = rw s.after (omega linear) in
-      let a = turns_moved _ _ q leaps.before s.before starts ends in
+      let next : pos 86_400 *ℤ year_start (y +ℤ pos 1) ≡ pos 86_400 *ℤ year_start (x +ℤ pos 1) +ℤ pos 86_400 *ℤ (pos 7 *ℤ q) = rw after (omega linear) in
+      let a = turns_moved _ _ q leaps.before before starts ends in
       let b = turns_moved x y q leaps.here start starts ends in
-      let c = turns_moved _ _ q leaps.after s.after starts ends in
-      let d = turns_moved (x +ℤ pos 2) (y +ℤ pos 2) q leaps.later s.later starts ends in
+      let c = turns_moved _ _ q leaps.after after starts ends in
+      let d = turns_moved (x +ℤ pos 2) (y +ℤ pos 2) q leaps.later later starts ends in
       rw (a, b, c, d, first, next)
 
   by_calm : (starts ends : List ℤ) (calm : Bool) → is_changing starts ends calm y ≡ is_changing starts ends calm x
@@ -200,48 +148,40 @@ changing_alike _ _ _ x y e =
     let (q, start) = weeks _ _ weekday in
     by_calm x y q leaps start _ _ _
 
--- the year of each key has that key
-each_key : all_below 35 (λ k. eqb (year_key (get_or key_years k (pos 0))) k) ≡ true
+-- the kind of a key's years: those of the second seven keys are leap years
+abbrev kind_by_key : ℕ → ℕ
+kind_by_key k = cond (nat_le 7 k && nat_lt k 14) k (k % 7)
+
+-- the year of each key has that key and that kind
+abbrev are_same : ℕ → ℕ → ℕ → ℕ → ℤ → Bool
+are_same a b c d year = eqb a b && eqb c d && int_le (pos 2000) year && int_le year (pos 2299)
+
+same_are : (a b c d : ℕ) (year : ℤ) → are_same a b c d year ≡ true → (a ≡ b) × (c ≡ d) × (pos 2000 ≤ℤ year) × (year ≤ℤ pos 2299)
+same_are a b c d year h = (grind (arith, eqb-true), grind (arith, eqb-true), grind arith, grind arith)
+
+abbrev fits_key : ℕ → Bool
+fits_key k = let year = get_or key_years k (pos 0) in are_same (year_key year) k (kind_by_key k) (kind_place year) year
+
+each_key : all_below 35 fits_key ≡ true
 unfolding key_years year_start
 each_key = refl
 
-pub own_key : (k : ℕ) → k < 35 → year_key (get_or key_years k (pos 0)) ≡ k
-own_key k h = eqb-true _ k (one_true 35 k (λ k. eqb (year_key (get_or key_years k (pos 0))) k) h each_key)
-
--- the kind of each key's years: those of the second seven keys are leap years
-abbrev pub kind_by_key : ℕ → ℕ
-kind_by_key k = cond (nat_le 7 k && nat_lt k 14) k (k % 7)
-
-each_kind : all_below 35 (λ k. eqb (kind_by_key k) (kind_place (get_or key_years k (pos 0)))) ≡ true
-unfolding key_years year_start
-each_kind = refl
-
-pub own_kind : (k : ℕ) → k < 35 → kind_by_key k ≡ kind_place (get_or key_years k (pos 0))
-own_kind k h = eqb-true _ _ (one_true 35 k (λ k. eqb (kind_by_key k) (kind_place (get_or key_years k (pos 0)))) h each_kind)
+pub keys_are : (k : ℕ) → k < 35 → let year = get_or key_years k (pos 0) in
+    (year_key year ≡ k) × (kind_by_key k ≡ kind_place year) × (pos 2000 ≤ℤ year) × (year ≤ℤ pos 2299)
+keys_are k h = same_are _ k _ _ _ (one_true 35 k fits_key h each_key)
 
 pub key_count : length key_years ≡ 35
 unfolding key_years
 key_count = refl
 
-each_bound : all_below 35 (λ k. int_le (pos 2000) (get_or key_years k (pos 0)) && int_le (get_or key_years k (pos 0)) (pos 2299)) ≡ true
-unfolding key_years
-each_bound = refl
-
-pub year_bounds : (k : ℕ) → k < 35 → (pos 2000 ≤ℤ get_or key_years k (pos 0)) × (get_or key_years k (pos 0) ≤ℤ pos 2299)
-year_bounds k h =
-    let at = get_or key_years k (pos 0) in
-    let (low, high) = and_parts (int_le (pos 2000) at) (int_le at (pos 2299))
-    (one_true 35 k (λ k. int_le (pos 2000) (get_or key_years k (pos 0)) && int_le (get_or key_years k (pos 0)) (pos 2299)) h each_bound) in
-    (grind arith, grind arith)
-
 place_below : (a b c d : Bool) → place_of a b c d < 5
-place_below true b c d = omega arith
-place_below false true c d = omega arith
-place_below false false true d = omega arith
-place_below false false false true = omega arith
-place_below false false false false = omega arith
+place_below a b c d = grind arith
 
 pub key_below : (year : ℤ) → year_key year < 35
 key_below year =
     let place = place_below (is_leap (year -ℤ pos 1)) (is_leap year) (is_leap (year +ℤ pos 1)) (is_leap (year +ℤ pos 2)) in
     let weekday = weekday_below (year_start year) in omega arith
+
+-- a year that a rule answers in and the years near it fit 32 bits
+pub near_fit : (year : ℤ) → IsRuleYear year → SFits w32 year × SFits w32 (year -ℤ pos 1) × SFits w32 (year +ℤ pos 1) × SFits w32 (year +ℤ pos 2)
+near_fit year h = (omega linear, omega linear, omega linear, omega linear)

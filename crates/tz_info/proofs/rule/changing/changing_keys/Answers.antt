@@ -1,5 +1,5 @@
 use Rattle.std.proofs.lemmas.List.{map-append, take_more_set}
-use Rattle.tz_info.proofs.{Fits.fits, YearKeys.{key_count, year_bounds}}
+use Rattle.tz_info.proofs.{Fits.fits, YearKeys.{key_count, keys_are}}
 use Rattle.tz_info.proofs.Words.{SFits, ap, arith, changing_keys, get_or, key_years, length, length-set, map, pos, refl, rules, sym, take_all, take_more, w32}
 use Rattle.tz_info.proofs.Words.{◌<◌, ◌∙◌, ◌≡◌, ◌≤◌}
 use Rattle.tz_info.specs.Steps.ChangingYears.{is_changing}
@@ -8,7 +8,7 @@ use Rattle.tz_info.proofs.rule.changing.changing_keys.Goals as goal
 pub is_changing-requires-clause-year : goal.is_changing-requires-clause-year
 is_changing-requires-clause-year c =
     let f : SFits w32 (get_or c.key_years-years.result c.loop-key.key (pos 0)) = search rules in
-    simp fits (rw c.key_years-years.ensures (year_bounds _ (omega arith)))
+    let k = keys_are c.loop-key.key (omega arith) in simp fits (rw c.key_years-years.ensures (k.2, k.3))
 
 pub loop-key-preserved : goal.loop-key-preserved
 loop-key-preserved c =

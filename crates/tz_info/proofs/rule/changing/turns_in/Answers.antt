@@ -9,7 +9,7 @@ fits : (first second : ℤ) → IsDay first → (neg_ℤ (pos 63_072_000) ≤ℤ
 fits first second day bound = (omega (arith, floors), omega (arith, floors), omega (arith, floors), omega (arith, floors))
 
 kind : (c : After-kind_of-kind) → c.kind_of-kind.result ≡ kind_place c.args.year
-kind c = let fy = c.ranges.year in simp to_z-of_z at c.kind_of-kind.ensures.place
+kind c = grind (arith, to_z-of_z)
 
 pub overflow_add-result : goal.overflow_add-result
 overflow_add-result c =

@@ -9,4 +9,4 @@ returns-then-not-is_calm_kind c =
 
 pub returns : goal.returns
 unfolding are_calm
-returns c = let done : c.loop-kind.kind ≡ 14 = omega arith in sym (rw done at c.loop-kind.invariant)
+returns c = let done : c.loop-kind.kind ≡ 14 = omega arith in cc

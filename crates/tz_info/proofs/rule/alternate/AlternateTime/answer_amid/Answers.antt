@@ -1,7 +1,7 @@
 use Rattle.std.proofs.Math.Bool.{beq}
 use Rattle.tz_info.proofs.{
   SeasonAnswers.{amid, asked_in_turn, both_asked, greater},
-  Words.{Bool, Bor, Counts, LocalType, SFits, ap, inl, int_lt, joined, map_of, not, refl, rules, shown_if, to_z-of_z, type_when, w32, w64, ◌-ℤ◌, ◌∙◌, ◌≡◌},
+  Words.{arith, Bool, Bor, Counts, LocalType, SFits, ap, inl, int_lt, joined, map_of, not, refl, rules, shown_if, to_z-of_z, type_when, w32, w64, ◌-ℤ◌, ◌∙◌, ◌≡◌},
   rule.alternate.AlternateTime.answer_amid.Goals.{After-second_showing-by_last},
 }
 use Rattle.tz_info.proofs.rule.alternate.AlternateTime.answer_amid.Goals as goal
@@ -31,14 +31,10 @@ seconds c =
     )
 
 pub is_dst_amid-requires-clause-decides : goal.is_dst_amid-requires-clause-decides
-is_dst_amid-requires-clause-decides c =
-    let (dst, fl, ff, f1, f2, is, first, last, by_first, by_last) = seconds c in
-    simp to_z-of_z (rw by_first (amid _ _ _ _ dst c.requires.season).decided)
+is_dst_amid-requires-clause-decides c = grind (arith, to_z-of_z, seconds, amid)
 
 pub is_dst_amid-requires-2-clause-decides : goal.is_dst_amid-requires-2-clause-decides
-is_dst_amid-requires-2-clause-decides c =
-    let (dst, fl, ff, f1, f2, is, first, last, by_first, by_last) = seconds (goal.at.is_dst_amid-requires-2-clause-decides c).After-second_showing-by_last in
-    simp to_z-of_z (rw by_last (amid _ _ _ _ _ c.requires.season).decided)
+is_dst_amid-requires-2-clause-decides c = grind (arith, to_z-of_z, seconds, amid)
 
 pub returns : goal.returns
 returns c =

@@ -1,5 +1,5 @@
 use Rattle.tz_info.proofs.{AskedYears.{beyond_first, from_next, never_at_all, never_beyond, none_out}, Fits.fits}
-use Rattle.tz_info.proofs.Words.{IsRuleYear, SFits, arith, changes_in_year, false, ints, refl, rules, sym, w32, w64, year_at, ◌∙◌, ◌≡◌}
+use Rattle.tz_info.proofs.Words.{to_z-of_z, IsRuleYear, SFits, arith, false, ints, refl, rules, w32, w64, year_at, ◌≡◌}
 use Rattle.tz_info.proofs.rule.alternate.AlternateTime.changing_year.Goals.{Else-not-is_rule_year}
 use Rattle.tz_info.proofs.rule.alternate.AlternateTime.changing_year.Goals as goal
 
@@ -25,35 +25,19 @@ returns-then-not-is_rule_year c =
     (simp fits at c.loop-step.invariant)
 
 pub overflow_cast-year : goal.overflow_cast-year
-overflow_cast-year c =
-    let (fy, fn, e, i) = inside (goal.at.overflow_cast-year c).Else-not-is_rule_year in simp fits fn
+overflow_cast-year c = grind (arith, to_z-of_z, inside)
 
 pub overflow_cast-result : goal.overflow_cast-result
-overflow_cast-result c =
-    let (fy, fn, e, i) = inside (goal.at.overflow_cast-result c).Else-not-is_rule_year in simp fits fn
+overflow_cast-result c = grind (arith, to_z-of_z, inside)
 
 pub changes_in_year-requires : goal.changes_in_year-requires
-changes_in_year-requires c = let (fy, fn, e, i) = inside (goal.at.changes_in_year-requires c).Else-not-is_rule_year in simp fits i
+changes_in_year-requires c = grind (arith, to_z-of_z, inside)
 
 pub returns-then-changes_in_year : goal.returns-then-changes_in_year
-returns-then-changes_in_year c =
-    let ff = c.ranges.first in
-    let (fy, fn, e, i) = inside (goal.at.returns-then-changes_in_year c).Else-not-is_rule_year in
-    simp fits (record {
-      inside = i;
-      beyond = rw e (beyond_first _ _ _ (omega arith));
-      from = rw e (simp fits at c.loop-step.invariant);
-      changes = sym (simp fits at c.changes_in_year.ensures.value) ∙ c.if-changes_in_year.true;
-    })
+returns-then-changes_in_year c = grind (arith, to_z-of_z, inside, beyond_first)
 
 pub loop-step-preserved : goal.loop-step-preserved
-loop-step-preserved c =
-    let ff = c.ranges.first in
-    let (fy, fn, e, i) = inside (goal.at.loop-step-preserved c).Else-not-is_rule_year in
-    let none : changes_in_year c.args.self.now c.year_at-year.result ≡ false = sym (simp fits at c.changes_in_year.ensures.value)
-    ∙ c.if-changes_in_year.false in
-    simp fits (from_next _ _ _ _ c.changes_in_year.ensures.rule (rw e at none)
-    (simp fits at c.loop-step.invariant))
+loop-step-preserved c = grind (arith, to_z-of_z, inside, from_next)
 
 pub returns : goal.returns
 returns c =

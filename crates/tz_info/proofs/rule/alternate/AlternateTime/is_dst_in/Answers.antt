@@ -1,9 +1,10 @@
+use Rattle.tz_info.proofs.Words.{to_z-of_z}
 use Rattle.tz_info.proofs.{Fits.fits, RuleLaws.{alternate_at, year_found}, Words.{IsRuleYear, LiesIn, SFits, arith, floor_div, floors, w32, w64, ◌≡◌}}
 use Rattle.tz_info.proofs.rule.alternate.AlternateTime.is_dst_in.Goals.{After-year_of}
 use Rattle.tz_info.proofs.rule.alternate.AlternateTime.is_dst_in.Goals as goal
 
 pub returns-then-decides : goal.returns-then-decides
-returns-then-decides c = let at_second = c.ranges.unix_time in simp fits at c.is_dst_amid.ensures
+returns-then-decides c = grind (arith, to_z-of_z)
 
 -- what was given fits, and so do its day and its year, in which it lies
 in_year : (c : After-year_of) → SFits w64 c.args.unix_time × SFits w64 c.day_of-day.result × SFits w32 c.year_of.result
@@ -20,10 +21,7 @@ is_dst-requires-clause-lies c = let (at_second, at_day, at_year, day, lies, insi
     in_year (goal.at.is_dst-requires-clause-lies c).After-year_of in simp fits lies
 
 pub is_dst-requires-clause-inside : goal.is_dst-requires-clause-inside
-is_dst-requires-clause-inside c = let (at_second, at_day, at_year, day, lies, inside) =
-    in_year (goal.at.is_dst-requires-clause-inside c).After-year_of in simp fits inside
+is_dst-requires-clause-inside c = grind (arith, to_z-of_z, in_year)
 
 pub returns : goal.returns
-returns c =
-    let (at_second, at_day, at_year, day, lies, inside) = in_year (goal.at.returns c).After-year_of in
-    alternate_at _ _ _ _ _ day lies inside (simp fits at c.is_dst.ensures)
+returns c = grind (arith, to_z-of_z, in_year, alternate_at)

@@ -13,8 +13,8 @@ returns-clause-nearest c =
     let ff = c.ranges.first in
     let fy : SFits w32 c.in_ok-year.year = search rules in
     let a = c.args.self.now in
-    nearest_next _ a _ _ _
-    _ c.ask_year-asked.ensures.asked.rule c.requires.near c.requires.none
+    nearest_next _ a _ _ c.requires.near c.requires.none
+    _ _ c.ask_year-asked.ensures.asked.rule
     (simp fits at c.in_ok-year.ensures)
     (of_stretch _ a _ _ _ _ _
     (simp fits at c.stretch_ahead.ensures)

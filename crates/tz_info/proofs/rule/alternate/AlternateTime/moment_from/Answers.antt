@@ -1,4 +1,4 @@
-use Rattle.tz_info.proofs.{AskedYears.{found_here, of_stretch}, Fits.fits, Words.{None, SFits, Some, rules, w64}}
+use Rattle.tz_info.proofs.{AskedYears.{found_here, of_stretch}, Fits.fits, Words.{arith, to_z-of_z, None, SFits, Some, rules, w64}}
 use Rattle.tz_info.proofs.rule.alternate.AlternateTime.moment_from.Goals as goal
 
 pub returns-in-Some-clause-nearest : goal.returns-in-Some-clause-nearest
@@ -7,7 +7,7 @@ returns-in-Some-clause-nearest c =
     let fa : SFits w64 c.stretch_ahead-stretch.result.after = search rules in
     let fl : SFits w64 c.stretch_ahead-stretch.result.last = search rules in
     let a = c.args.self.now in
-    found_here _ a _ _ _ c.requires.near
+    found_here _ a _ _ c.requires.near _
     (of_stretch _ a _ _ _ _
     (Some _)
     (simp fits at c.stretch_ahead-stretch.ensures) c.in-Some.ensures)
@@ -21,4 +21,4 @@ moment_beyond-requires-clause-none c =
     (simp fits at c.stretch_ahead-stretch.ensures) c.in-None.ensures))
 
 pub returns-in-None-clause-nearest : goal.returns-in-None-clause-nearest
-returns-in-None-clause-nearest c = let fs = c.ranges.second in simp fits at c.moment_beyond.ensures.nearest
+returns-in-None-clause-nearest c = grind (arith, to_z-of_z)

@@ -1,7 +1,5 @@
-use Rattle.tz_info.proofs.{Fits.fits, Words.{SFits, rules, w32}}
+use Rattle.tz_info.proofs.Words.{arith, to_z-of_z}
 use Rattle.tz_info.proofs.rule.alternate.AlternateTime.nearest_in.Goals as goal
 
 pub returns-else-is_calm : goal.returns-else-is_calm
-returns-else-is_calm c =
-    let fy : SFits w32 c.args.asked.year = search rules in
-    simp fits at c.nearest_by_three.ensures
+returns-else-is_calm c = grind (arith, to_z-of_z)

@@ -1,5 +1,5 @@
 use Rattle.tz_info.proofs.{Fits.fits, KindLaws.within_years, Neighbours.near_years}
-use Rattle.tz_info.proofs.Words.{Alternate, DayTime, IsAlternate, LocalType, arith, ints, rules, seconds_by_kind, subst, ◌≡◌}
+use Rattle.tz_info.proofs.Words.{to_z-of_z, Alternate, DayTime, LocalType, arith, ints, rules, seconds_by_kind, ◌≡◌}
 use Rattle.tz_info.proofs.rule.alternate.AlternateTime.new.Goals as goal
 
 shown : LocalType → LocalType → DayTime → DayTime → Alternate
@@ -40,11 +40,7 @@ invariant_of-result c =
 
 pub returns : goal.returns
 unfolding shown
-returns c =
-    let f = c.ranges.dst_start_time in
-    let g = c.ranges.dst_end_time in
-    let e = same_shown _ _ _ _ _ _ (simp fits at c.in-Some.ensures.2) (simp fits at c.in-Some-at.ensures.2) in
-    (subst IsAlternate e (invariant_of-result c).0.within, e)
+returns c = grind (arith, to_z-of_z, same_shown, invariant_of-result)
 
 pub returns-in_default-at : goal.returns-in_default-at
 unfolding shown

@@ -15,15 +15,9 @@ returns-in-Some-clause-reached c =
     let fs = c.ranges.second in let fa : SFits w64 c.in-Some.change.at = search rules in
     let fm = c.max.type_inv in
     let fb : SFits w64 (c.in-Some.change.at -ℤ pos 1) = omega (arith, ints) in
-    simp fits (changed_reached _ _ _ _ _ _
-    _ _ c.type_and_change.ensures.rule c.requires.wide c.requires.order
-    (simp fits at c.type_and_change.ensures.in_force) c.shown_at-now.ensures.offset c.shown_at.ensures.offset
-    (simp fits at c.shown_at-now.ensures.shown) (simp fits at c.shown_at.ensures.shown) (rw c.in-Some.is at
-    (simp fits at c.type_and_change.ensures.nearest)) (omega (arith, ints))
-    (λ u. (
-      (λ h. (omega (arith, ints, clamps), omega (arith, ints, clamps))),
-      (λ both. omega (arith, ints, clamps)),
-    )))
+    simp fits (changed_reached _ _ _ _ _ c.type_and_change.ensures.rule c.requires.wide c.requires.order (simp fits at c.type_and_change.ensures.in_force)
+    c.shown_at-now.ensures.offset _ (rw c.in-Some.is at (simp fits at c.type_and_change.ensures.nearest)) c.shown_at.ensures.offset
+    (omega (arith, ints, clamps)) (omega (arith, ints)))
 
 pub returns-in_default-clause-reached : goal.returns-in_default-clause-reached
 returns-in_default-clause-reached c =

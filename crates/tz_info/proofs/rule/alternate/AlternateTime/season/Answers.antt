@@ -1,5 +1,5 @@
 use Rattle.tz_info.proofs.{Fits.fits, KindLaws.{IsMargin, margin_kept}, SeasonLaws.{own_start, season_made}}
-use Rattle.tz_info.proofs.Words.{SFits, Season, ap, arith, floors, pos, refl, sym, w64, year_of, year_start, ◌*ℤ◌, ◌+ℤ◌, ◌-ℤ◌, ◌∙◌, ◌≡◌}
+use Rattle.tz_info.proofs.Words.{to_z-of_z, SFits, Season, ap, arith, floors, pos, refl, sym, w64, year_of, year_start, ◌*ℤ◌, ◌+ℤ◌, ◌-ℤ◌, ◌∙◌, ◌≡◌}
 use Rattle.tz_info.proofs.rule.alternate.AlternateTime.season.Goals.{After-first_of_year-first, After-self}
 use Rattle.tz_info.proofs.rule.alternate.AlternateTime.season.Goals as goal
 
@@ -16,16 +16,10 @@ kept : (c : After-self) → IsMargin c.args.self.now c.self.inside.margin
 kept c = rw (← c.self.view_is) (margin_kept _ _ c.self.invariant.0 c.self.invariant.3)
 
 pub turns_from-requires-clause-first : goal.turns_from-requires-clause-first
-turns_from-requires-clause-first c =
-    let (at_second, at_day, at_first, begins, own) = begun (goal.at.turns_from-requires-clause-first c).After-first_of_year-first in
-    simp fits (begins ∙ ap year_start (sym own))
+turns_from-requires-clause-first c = grind (arith, to_z-of_z, begun)
 
 pub turns_from-requires-clause-kind : goal.turns_from-requires-clause-kind
-turns_from-requires-clause-kind c =
-    let (at_second, at_day, at_first, begins, own) = begun (goal.at.turns_from-requires-clause-kind c).After-first_of_year-first in
-    let leap = simp fits at c.year_day_of-place.ensures.leap in
-    let weekday = simp fits at c.year_day_of-place.ensures.first in
-    simp fits (rw own (rw (leap, weekday) at c.kind_by.ensures.value))
+turns_from-requires-clause-kind c = grind (arith, to_z-of_z, begun)
 
 pub overflow_sub-result : goal.overflow_sub-result
 overflow_sub-result c = let bound = (kept (goal.at.overflow_sub-result c).After-self).bound in

@@ -1,5 +1,5 @@
-use Rattle.tz_info.proofs.Fits.{fits}
+use Rattle.tz_info.proofs.Words.{arith, to_z-of_z}
 use Rattle.tz_info.proofs.rule.alternate.AlternateTime.type_in.Goals as goal
 
 pub returns : goal.returns
-returns c = let at_second = c.ranges.unix_time in rw c.type_when.ensures (simp fits at c.is_dst_in.ensures)
+returns c = grind (arith, to_z-of_z)

@@ -1,18 +1,11 @@
-use Rattle.tz_info.proofs.{Fits.fits, Words.{SFits, arith, ints, pos, refl, rules, w64, ◌-ℤ◌}}
+use Rattle.tz_info.proofs.{Fits.fits, Words.{to_z-of_z, SFits, arith, ints, pos, refl, rules, w64, ◌-ℤ◌}}
 use Rattle.tz_info.proofs.rule.changing.YearsNear.flips_at.Goals as goal
 
 pub returns-then-second-self : goal.returns-then-second-self
-returns-then-second-self c =
-    let fs = c.ranges.second in
-    let ff : SFits w64 c.args.self.first = search rules in
-    rw (simp fits at c.if-second-self.true) refl
+returns-then-second-self c = grind (arith, to_z-of_z)
 
 pub returns-then-self-second : goal.returns-then-self-second
-returns-then-self-second c =
-    let fs = c.ranges.second in
-    let ff : SFits w64 c.args.self.first = search rules in
-    let fn : SFits w64 c.args.self.next = search rules in
-    rw (simp fits at c.if-second-self.false, simp fits at c.if-self-second.true) refl
+returns-then-self-second c = grind (arith, to_z-of_z)
 
 pub returns : goal.returns
 returns c =
