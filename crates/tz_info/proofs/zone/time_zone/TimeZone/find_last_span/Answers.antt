@@ -12,8 +12,7 @@ returns c =
     let offset : SFits w64 c.from.result = search rules in
     let is_offset = simp to_z-of_z at c.from.ensures in
     let last : SFits w64 c.last_typed-last.result = search rules in
-    simp to_z-of_z (last_spans _ _ e (rw (← c.self.view_is) c.self.invariant.valid)
-    (rw (← c.self.view_is) c.self.invariant.extremes) least greatest after last c.last_typed-last.ensures
+    simp to_z-of_z (last_spans _ _ e (rw (← c.self.view_is) c.self.invariant.extremes) least greatest after last c.last_typed-last.ensures
     (simp to_z-of_z at c.in-Ok.ensures)
     (λ u fits later. ((c.start_by.ensures u).0 ((simp to_z-of_z at (c.second_before-after.ensures u (omega linear))).0 later)).1)
     (rw is_offset at (simp to_z-of_z at c.cut_at.ensures)) (simp to_z-of_z at c.previous_change.ensures))

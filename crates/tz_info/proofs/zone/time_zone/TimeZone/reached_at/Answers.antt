@@ -44,9 +44,8 @@ since c =
           let own = rw (ap (λ z. z.rule) c.self.view_is) at w.in-None.ensures in
           let below = rw c.deref.ensures.value at c.begin_of-index.ensures.below in
           let has = slice_get_read _ _ _ _ refl below w.index.ensures in
-          rw w.reached-is (simp to_z-of_z (reached_in _ _ _ _ _
-          _ valid made (sym place) own (rw (c.begin_of-index.ensures.index, ap (λ z. z.types) c.self.view_is) at has)
-          c.requires.second w.shown_at-reached.ensures.offset (simp to_z-of_z at w.shown_at-reached.ensures.shown)))
+          rw w.reached-is (simp to_z-of_z (reached_in _ _ _ _ valid made c.requires.second _ _ (sym place) own
+          (rw (c.begin_of-index.ensures.index, ap (λ z. z.types) c.self.view_is) at has) w.shown_at-reached.ensures.offset (simp to_z-of_z at w.shown_at-reached.ensures.shown)))
     ]
 
 pub returns-then-place-eq0-clause-reached : goal.returns-then-place-eq0-clause-reached
@@ -72,9 +71,8 @@ returns-then-place-eq0-clause-reached c =
           let own = rw (ap (λ z. z.rule) c.self.view_is) at w.in-None.ensures in
           let below = rw c.deref.ensures.value at c.begin_of-index.ensures.below in
           let has = slice_get_read c.self.inside.local_types.items _ c.begin_of-index.result.0 w.index.result.now refl below w.index.ensures in
-          rw w.reached-is (simp to_z-of_z (reached_in z c.self.inside.changes c.count-place.result c.args.second w.shown_at-reached.result
-          w.index.result.now valid made (sym place) own (rw (c.begin_of-index.ensures.index, ap (λ z. z.types) c.self.view_is) at has)
-          c.requires.second w.shown_at-reached.ensures.offset (simp to_z-of_z at w.shown_at-reached.ensures.shown)))
+          rw w.reached-is (simp to_z-of_z (reached_in _ _ _ _ valid made c.requires.second _ _ (sym place) own
+          (rw (c.begin_of-index.ensures.index, ap (λ z. z.types) c.self.view_is) at has) w.shown_at-reached.ensures.offset (simp to_z-of_z at w.shown_at-reached.ensures.shown)))
     ] in
     from_least z c.args.second _ (rw first at reached)
 
@@ -121,18 +119,14 @@ returns-then-reached-end-clause-reached c =
     let place = simp to_z-of_z at c.count-place.ensures.count in
     let reached = since d in
     let ft : SFits w64 (c.latest_end-end.result -ℤ pos 1) = omega (arith, ints) in
-    simp to_z-of_z (at_end _ _ _ _ _ _
-    _ (rw (← c.self.view_is) c.self.invariant.valid) made fg (rw (← c.self.view_is) c.self.invariant.extremes.greatest)
-    c.count-place.ensures.within c.requires.second
-    (rw place (begun _ _ made.rising fs (rw place at c.count-place.ensures.within))) fe reached (latest d)
-    (omega (arith, ints)))
+    simp to_z-of_z (at_end _ _ _ _ (rw c.self.view_is at c.self.invariant.valid) made c.requires.second _ _ _ fg
+    (rw (← c.self.view_is) c.self.invariant.extremes.greatest) c.count-place.ensures.within reached (latest d)
+    (rw place (begun _ _ made.rising fs (rw place at c.count-place.ensures.within))) fe (omega (arith, ints)))
 
 pub returns-else-reached-end-clause-reached : goal.returns-else-reached-end-clause-reached
 returns-else-reached-end-clause-reached c =
     let d = (goal.at.returns-else-reached-end-clause-reached c).After-latest_end-end in
     let fg : SFits w32 c.self.inside.extremes.greatest = search rules in
     let z = c.args.self.now in
-    at_segment _ c.self.inside.changes c.count-place.result c.args.second _ c.latest_end-end.result
-    c.self.inside.extremes.greatest (rw (← c.self.view_is) c.self.invariant.valid) (rw (← c.self.view_is) c.self.invariant.list) fg
-    (rw (← c.self.view_is) c.self.invariant.extremes.greatest) c.count-place.ensures.within c.requires.second (since d) (latest d)
-    (omega (arith, ints))
+    at_segment _ _ _ _ (rw c.self.view_is at c.self.invariant.valid) (rw c.self.view_is at c.self.invariant.list) c.requires.second _ _ _ fg
+    (rw (← c.self.view_is) c.self.invariant.extremes.greatest) c.count-place.ensures.within (since d) (latest d) (omega (arith, ints))

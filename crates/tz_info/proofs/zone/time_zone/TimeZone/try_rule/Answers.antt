@@ -33,8 +33,8 @@ returns-clause-found c =
 pub returns-clause-counted : goal.returns-clause-counted
 returns-clause-counted c =
     let (fl, ff, start) = begun (goal.at.returns-clause-counted c).After-rule_from in
-    asked_by_zone _ _ _ _ _ _ (rw (← c.self.view_is) c.self.invariant.valid) c.requires.rule start
-    c.requires.local c.answer_from-season.ensures.offsets
+    asked_by_zone _ _ _ _ (rw (← c.self.view_is) c.self.invariant.valid) c.requires.rule start
+    c.requires.local c.answer_from-season.ensures.offsets _ _
     (simp to_z-of_z at c.answer_from-season.ensures.counted)
 
 pub returns-clause-season : goal.returns-clause-season

@@ -89,8 +89,7 @@ returns-then-high-next c =
     c.loop-place.invariant.walked in
     let time = ap (λ t. t.unix_leap_time) c.transition-next.ensures.item in
     record {
-      found = none_behind z c.args.local _ _ c.loop-place.place c.transition-next.result _ valid
-          window (omega arith) (omega linear) (tried at.After-try_until-answer);
+      found = none_behind z c.args.local _ _ c.loop-place.place valid window c.transition-next.result (omega arith) (omega linear) _ (tried at.After-try_until-answer);
       cost = rose_by_walk z c.args.local _ _ _ _ 1 _ _ _
           window split (omega arith) walked (omega arith) (one_look _ _ c.transition-next.ensures.cost);
       counted = asked_for_window z _ _ c.leap_time_near-high.result c.loop-place.place c.transition-next.result _ _
