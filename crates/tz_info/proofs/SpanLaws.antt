@@ -1,11 +1,11 @@
 -- Spans: at each second between two that have a type there is one, and from the last change to the next one it is the same.
 use Rattle.tz_info.proofs.{
   ChangeSearch.{InForce, Typed, stays},
-  LastType.{last_is},
+  LastType.last_is,
   LeapEntries.{before_found, follow},
-  LeapOrder.{none_counted},
-  RuleChanges.{rule_second},
-  RuleLaws.{rule_year},
+  LeapOrder.none_counted,
+  RuleChanges.rule_second,
+  RuleLaws.rule_year,
   SegmentLaws.{come_at_time, come_by_time, segment_most, segments_rise},
   Words.{Alternate as AlternateRule, AreLeapSeconds, Change, HasNoChange, IfSome, IsAlternateRefused, IsBeginBy, IsChange, IsEndBy, IsFirst, IsFromLast},
   Words.{IsInSpan, IsLast, IsLeapTime, IsOutOfForce, IsRefusedBy, IsRuleOrNone, IsRuleTime, IsSince, IsSpan, IsSpanAt, IsTypeRefused, IsTyped, IsUnixTime},
