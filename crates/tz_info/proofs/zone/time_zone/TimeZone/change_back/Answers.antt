@@ -1,6 +1,9 @@
-use Rattle.tz_info.proofs.{FoldLaws.{begins, begins_at, fold_at, goes_back}, Words.{SFits, by_lt_z, linear, pos, rules, to_z-of_z, w64, ◌+ℤ◌, ◌-ℤ◌, ◌<ℤ◌, ◌≤ℤ◌}}
+use Rattle.tz_info.proofs.{
+  FoldLaws.{begins, begins_at, fold_at, goes_back},
+  Words.{SFits, by_lt_z, linear, pos, rules, to_z, to_z-of_z, w64, ◌+ℤ◌, ◌-ℤ◌, ◌<ℤ◌, ◌≤ℤ◌},
+  zone.time_zone.TimeZone.change_back.Goals.{After-has_reached},
+}
 use Rattle.tz_info.proofs.zone.time_zone.TimeZone.change_back.Goals as goal
-use Rattle.tz_info.proofs.zone.time_zone.TimeZone.change_back.Goals.{After-has_reached}
 
 pub unreachable-requires : goal.unreachable-requires
 unreachable-requires c =
@@ -21,14 +24,14 @@ type_at-before-requires c =
 -- the second before the change, and that its type and its place are those of the code
 before : (c : After-has_reached)
     → SFits w64 c.args.local × SFits w64 c.args.first × SFits w64 c.args.last × SFits w64 c.in-Some.at × SFits w64 (c.in-Some.at -ℤ pos 1)
-    × (c.args.first <ℤ c.in-Some.at) × (c.in-Some.at ≤ℤ c.args.last)
+    × (c.args.first <ℤ c.in-Some.at) × (c.in-Some.at ≤ℤ to_z w64 c.loop-at.end-bits)
 before c =
     let fl = c.ranges.local in let ff = c.ranges.first in let fe = c.ranges.last in
     let fa : SFits w64 c.in-Some.at = search rules in
     let back = simp to_z-of_z at c.loop-at.invariant in
     let begun = begins_at _ _ _ _ _ _ c.requires.ends back c.near_span_at-span.ensures
     _ c.in-Some.is in
-    (fl, ff, fe, fa, omega linear, begun.0, omega linear)
+    (fl, ff, fe, fa, omega linear, begun.0, begun.1)
 
 pub returns-then-has_reached : goal.returns-then-has_reached
 returns-then-has_reached c =
@@ -42,9 +45,6 @@ returns-then-has_reached c =
 pub loop-at-smaller : goal.loop-at-smaller
 loop-at-smaller c =
     let (fl, ff, fe, fa, fb, later, most) = before (goal.at.loop-at-smaller c).After-has_reached in
-    let back = simp to_z-of_z at c.loop-at.invariant in
-    let begun = begins_at _ _ _ _ _ _ c.requires.ends back c.near_span_at-span.ensures
-    _ c.in-Some.is in
     simp to_z-of_z (omega linear)
 
 pub loop-at-preserved : goal.loop-at-preserved

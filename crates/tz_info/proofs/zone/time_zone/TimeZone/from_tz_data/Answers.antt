@@ -19,18 +19,16 @@ returns c =
       magic = search rules;
     }
 
-pub returns-in_err-lists-clause-only : goal.returns-in_err-lists-clause-only
-returns-in_err-lists-clause-only c z file valid =
-    let p = err_from_is_err_and c.from_residual.result c.from_residual.ensures.1 in rw (p.1, p.2) (only _ _ c.in_err-lists.ensures.lists _ file)
-
-pub returns-in_err-lists-clause-fault : goal.returns-in_err-lists-clause-fault
-returns-in_err-lists-clause-fault c = grind (arith, fault)
-
-pub returns-in_err-lists-clause-first : goal.returns-in_err-lists-clause-first
-returns-in_err-lists-clause-first c =
+pub returns-in_err-lists : goal.returns-in_err-lists
+returns-in_err-lists c =
     let p = err_from_is_err_and c.from_residual.result c.from_residual.ensures.1 in
-    rw (p.1, p.2) (named _ (Err _) tt (fault _ _ c.in_err-lists.ensures.lists))
-
-pub returns-in_err-lists-clause-memory : goal.returns-in_err-lists-clause-memory
-returns-in_err-lists-clause-memory c =
-    let p = err_from_is_err_and c.from_residual.result c.from_residual.ensures.1 in rw (p.1, p.2) (memory _ _ c.in_err-lists.ensures.lists)
+    let lists = c.in_err-lists.ensures.lists in
+    let is = fault _ _ lists in
+    rw (p.1, p.2) (record {
+      found = tt;
+      only = λ z file valid. only _ _ lists _ file;
+      fault = is;
+      first = named _ (Err _) tt is;
+      memory = memory _ _ lists;
+      magic = search rules;
+    })

@@ -1,6 +1,10 @@
-use Rattle.tz_info.proofs.{ExtremeLaws.at_most_greatest, Fits.fits, GapLaws.{first_near, gap_at_first}}
-use Rattle.tz_info.proofs.Words.{IsNear, SFits, arith, ints, pos, rules, w64, ◌-ℤ◌, ◌≤ℤ◌}
-use Rattle.tz_info.proofs.zone.time_zone.TimeZone.gap_by_search.Goals.{After-first_at_or_after-first}
+use Rattle.tz_info.proofs.{
+  ExtremeLaws.at_most_greatest,
+  Fits.fits,
+  GapLaws.{first_near, gap_at_first},
+  Words.{IsNear, SFits, arith, ints, pos, rules, w64, ◌-ℤ◌, ◌≤ℤ◌},
+  zone.time_zone.TimeZone.gap_by_search.Goals.{After-first_at_or_after-first},
+}
 use Rattle.tz_info.proofs.zone.time_zone.TimeZone.gap_by_search.Goals as goal
 
 near : (c : After-first_at_or_after-first)
@@ -32,8 +36,6 @@ pub returns : goal.returns
 returns c =
     let (ff, low, high, near) = near (goal.at.returns c).After-first_at_or_after-first in
     let fl = c.ranges.local in
-    let first = c.first_at_or_after-first.result in
     let fb : SFits w64 (c.first_at_or_after-first.result.at -ℤ pos 1) = omega (arith, ints) in
-    let z = c.args.self.now in
-    simp fits (gap_at_first _ _ c.requires.reach.0 c.requires.reach.1 first.at first.local_time_type.now _
+    simp fits (gap_at_first _ _ _ _ _ _ _
     c.requires.never c.requires.reach.2 low high (simp fits at c.first_at_or_after-first.ensures.found) (simp fits at c.type_at.ensures))
