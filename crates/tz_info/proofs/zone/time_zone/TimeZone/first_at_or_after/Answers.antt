@@ -1,11 +1,11 @@
 use Rattle.tz_info.proofs.{
   DigitLaws.digits-less,
   EntryChanges.{rose_less, rose_then},
+  Fits.fits,
   RuleSegments.first_by_rule,
   SegmentEndLaws.{begun_near, first_there},
   TableLaws.{reach_of, table_of, top_least},
-  Words.{HasReach, IsRuleOrNone, IsValid, SFits, Zone, ap, arith, cases_eq, digits, digits-more, inl, inr, linear, rules, to_z-of_z, w32, w64, ℕ, ◌*◌, ◌+◌},
-  Words.{◌<◌, ◌≤◌},
+  Words.{HasReach, IsRuleOrNone, IsValid, SFits, Zone, ap, arith, cases_eq, digits, digits-more, inl, inr, linear, rules, w32, w64, ℕ, ◌*◌, ◌+◌, ◌<◌, ◌≤◌},
   zone.time_zone.TimeZone.first_at_or_after.Goals.{After-first_reaching-place},
 }
 use Rattle.tz_info.specs.{Steps.Entries.AreEntries, Steps.SegmentEnds.IsFirstSegment}
@@ -27,7 +27,7 @@ reach c =
 first : (c : After-first_reaching-place) → IsFirstSegment c.args.self.now.types c.self.inside.changes.items c.args.local c.first_reaching-place.result
 first c =
     let fl = c.ranges.local in
-    rw (c.deref.ensures.value, ap (λ z. z.types) c.self.view_is) at (simp to_z-of_z at c.first_reaching-place.ensures.first)
+    rw (c.deref.ensures.value, ap (λ z. z.types) c.self.view_is) at (simp fits at c.first_reaching-place.ensures.first)
 
 -- the probes of the search are fewer than the bound, if there is an entry
 fewer : (n m : ℕ) → n ≤ m → digits n ≤ 2 * digits m × (0 < n → digits n + 1 ≤ 2 * digits m)
@@ -41,7 +41,7 @@ returns-in_default c =
     let z = c.args.self.now in
     let limits : IsRuleOrNone z.rule = rw (← c.self.view_is) c.self.invariant.limits in
     let own = rw (ap (λ (z : Zone). z.rule) c.self.view_is) at c.in_default.ensures in
-    let is = rw (c.deref-in_default.ensures.value, ap (λ (z : Zone). z.types) c.self.view_is) at (simp to_z-of_z at c.first_of.ensures.first) in
+    let is = rw (c.deref-in_default.ensures.value, ap (λ (z : Zone). z.types) c.self.view_is) at (simp fits at c.first_of.ensures.first) in
     let bound = fewer _ _ (entries d).few in
     record {
       found = first_there z _ _ _ _ (table_of z _ (valid d) (entries d)) c.requires.local (first d) _ _ _ _ (valid d) limits own (reach d).2 is;
@@ -58,7 +58,7 @@ first_since-requires-clause-near c =
     let fb : SFits w64 c.begin_of-begin.result.1 = search rules in
     let z = c.args.self.now in
     let limits : IsRuleOrNone z.rule = rw (← c.self.view_is) c.self.invariant.limits in
-    simp to_z-of_z (rw c.begin_of-begin.ensures.begin (begun_near z _ _
+    simp fits (rw c.begin_of-begin.ensures.begin (begun_near z _ _
     _ _ (table_of z _ (valid d) (entries d)) c.requires.local (first d) _ _
     (valid d) limits (let top = top_least z.rule c.self.inside.changes (entries d).more in omega arith) (reach d).2))
 
@@ -72,7 +72,7 @@ returns c =
     record {
       found = first_by_rule c.args.self.now c.self.inside.changes _ _ (valid d) (entries d) is.0 (first d).within is.1
           c.args.local c.first_since.result.at _ c.requires.local (first d)
-          (rw c.begin_of-begin.ensures.begin at (simp to_z-of_z at c.first_since.ensures.first));
+          (rw c.begin_of-begin.ensures.begin at (simp fits at c.first_since.ensures.first));
       cost = elim (cases_eq _ 0) [
         | inl none ↦ let free = c.begin_of-begin.ensures.free none in grind linear
         | inr some ↦ rose_less _ _ _ _ _ _ (rose_then _ _ _ _ _ _ _ (rose_then _ _ _ _ _ _ _ c.first_reaching-place.ensures.cost

@@ -1,30 +1,24 @@
 use Rattle.tz_info.proofs.{
   EntryChanges.{rose_less, rose_then},
+  Fits.fits,
   ReachedLaws.{at_end, at_segment, from_least, reached_in},
   RuleSegments.reached_by_rule,
-  SegmentLaws.{begin_first, come_from},
-  Words.{AreRising, List, RoseWithin, SFits, Transition, TypeAt, ap, arith, begin_of, cases_lt, digits, digits-more, inl, inr, ints, least_time, length},
-  Words.{linear, place_at, pos, refl, rules, slice_get_read, sym, to_z, to_z-of_z, w32, w64, ℤ, ◌+◌, ◌-ℤ◌, ◌≡◌, ◌≤ℤ◌, ◌≤◌},
+  SegmentEndLaws.begun_by,
+  SegmentLaws.begin_first,
+  Words.{RoseWithin, SFits, TypeAt, ap, arith, begin_of, digits, digits-more, ints, least_time, length, linear, pos, refl, rules, slice_get_read, sym, to_z},
+  Words.{w32, w64, ◌+◌, ◌-ℤ◌, ◌≡◌},
   zone.time_zone.TimeZone.reached_at.Goals.{After-latest_end-end, in-None, in-Some},
 }
 use Rattle.tz_info.specs.{Steps.SegmentEnds.IsLatestEnd, Steps.Since.IsReachedSince}
 use Rattle.tz_info.proofs.zone.time_zone.TimeZone.reached_at.Goals as goal
-
--- the segment of a second has begun
-begun : (ts : List Transition) (u : ℤ) → AreRising ts → SFits w64 u → place_at ts u ≤ length ts → begin_of ts (place_at ts u) ≤ℤ u
-begun ts u rising fits within = elim (cases_lt 0 _) [
-  | inl some ↦ (come_from _ _ u rising some within).0 (omega arith)
-  | inr none ↦ let e : place_at ts u ≡ 0 = omega arith in rw (e, begin_first ts) (omega (arith, ints))
-]
 
 pub reached_since-reached-requires-clause-order : goal.reached_since-reached-requires-clause-order
 reached_since-reached-requires-clause-order c =
     let fs = c.ranges.second in
     let fb : SFits w64 c.begin_of-index.result.1 = search rules in
     let made = rw c.self.view_is at c.self.invariant.list in
-    let place = simp to_z-of_z at c.count-place.ensures.count in
-    simp to_z-of_z (rw (c.begin_of-index.ensures.begin, place) (begun _ _ made.rising fs
-    (rw place at c.count-place.ensures.within)))
+    let place = simp fits at c.count-place.ensures.count in
+    simp fits (rw c.begin_of-index.ensures.begin (begun_by _ _ _ made.rising c.count-place.ensures.within (omega (arith, place)) fs))
 
 -- from the begin of the segment on
 since : (c : After-latest_end-end)
@@ -34,20 +28,20 @@ since c =
     let fb : SFits w64 c.begin_of-index.result.1 = search rules in
     let valid = rw c.self.view_is at c.self.invariant.valid in
     let made = rw c.self.view_is at c.self.invariant.list in
-    let place = simp to_z-of_z at c.count-place.ensures.count in
+    let place = simp fits at c.count-place.ensures.count in
     elim c.match-rule_at.branch [
       | in-Some w ↦
-          let fr : SFits w64 w.reached_since-reached.result = search rules in
+          let fr = w.reached_since-reached.type_inv in
           let is = rw (ap (λ z. z.rule) c.self.view_is) at w.in-Some.ensures in
-          rw w.reached-is (simp to_z-of_z (reached_by_rule _ _ _ _ valid made is.0 c.count-place.ensures.within is.1 _ _
-          (rw c.begin_of-index.ensures.begin at (simp to_z-of_z at w.reached_since-reached.ensures.reached))))
+          rw w.reached-is (simp fits (reached_by_rule _ _ _ _ valid made is.0 c.count-place.ensures.within is.1 _ _
+          (rw c.begin_of-index.ensures.begin at (simp fits at w.reached_since-reached.ensures.reached))))
       | in-None w ↦
-          let fr : SFits w64 w.shown_at-reached.result = search rules in
+          let fr = w.shown_at-reached.type_inv in
           let own = rw (ap (λ z. z.rule) c.self.view_is) at w.in-None.ensures in
           let has = slice_get_read _ _ _ _ refl (rw c.deref.ensures.value at c.begin_of-index.ensures.below) w.index.ensures in
-          rw w.reached-is (simp to_z-of_z (reached_in _ _ _ _ valid made c.requires.second _ _ (sym place) own
+          rw w.reached-is (simp fits (reached_in _ _ _ _ valid made c.requires.second _ _ (sym place) own
           (rw (c.begin_of-index.ensures.index, ap (λ z. z.types) c.self.view_is) at has) w.shown_at-reached.ensures.offset
-          (simp to_z-of_z at w.shown_at-reached.ensures.shown)))
+          (simp fits at w.shown_at-reached.ensures.shown)))
     ]
 
 pub returns-then-place-eq0 : goal.returns-then-place-eq0
@@ -56,23 +50,23 @@ returns-then-place-eq0 c =
     let fb : SFits w64 c.begin_of-index.result.1 = search rules in
     let valid = rw c.self.view_is at c.self.invariant.valid in
     let made = rw c.self.view_is at c.self.invariant.list in
-    let place = simp to_z-of_z at c.count-place.ensures.count in
+    let place = simp fits at c.count-place.ensures.count in
     let first : begin_of c.self.inside.changes.items c.count-place.result ≡ least_time = rw c.if-place-eq0.true (begin_first c.self.inside.changes.items) in
     let more = digits-more _ _ made.few in
     record {
       reached = from_least _ _ _ (elim c.match-rule_at.branch [
         | in-Some w ↦
-            let fr : SFits w64 w.reached_since-reached.result = search rules in
+            let fr = w.reached_since-reached.type_inv in
             let is = rw (ap (λ z. z.rule) c.self.view_is) at w.in-Some.ensures in
-            rw w.reached-is (simp to_z-of_z (rw first at (reached_by_rule _ _ _ _ valid made is.0 c.count-place.ensures.within is.1 _ _
-            (rw c.begin_of-index.ensures.begin at (simp to_z-of_z at w.reached_since-reached.ensures.reached)))))
+            rw w.reached-is (simp fits (rw first at (reached_by_rule _ _ _ _ valid made is.0 c.count-place.ensures.within is.1 _ _
+            (rw c.begin_of-index.ensures.begin at (simp fits at w.reached_since-reached.ensures.reached)))))
         | in-None w ↦
-            let fr : SFits w64 w.shown_at-reached.result = search rules in
+            let fr = w.shown_at-reached.type_inv in
             let own = rw (ap (λ z. z.rule) c.self.view_is) at w.in-None.ensures in
             let has = slice_get_read _ _ _ _ refl (rw c.deref.ensures.value at c.begin_of-index.ensures.below) w.index.ensures in
-            rw w.reached-is (simp to_z-of_z (rw first at (reached_in _ _ _ _ valid made c.requires.second _ _ (sym place) own
+            rw w.reached-is (simp fits (rw first at (reached_in _ _ _ _ valid made c.requires.second _ _ (sym place) own
             (rw (c.begin_of-index.ensures.index, ap (λ z. z.types) c.self.view_is) at has) w.shown_at-reached.ensures.offset
-            (simp to_z-of_z at w.shown_at-reached.ensures.shown))))
+            (simp fits at w.shown_at-reached.ensures.shown))))
       ]);
       cost = elim c.match-rule_at.branch [
         | in-Some w ↦ rw w.probes-is (rose_less _ _ _ _ _ _ (rose_then _ _ _ _ _ _ _ (rose_then _ _ _ _ _ _ _ c.count-place.ensures.cost
@@ -101,12 +95,12 @@ returns-then-reached-end c =
     let fe : SFits w64 c.latest_end-end.result = search rules in
     let fg : SFits w32 c.self.inside.extremes.greatest = search rules in
     let made = rw c.self.view_is at c.self.invariant.list in
-    let place = simp to_z-of_z at c.count-place.ensures.count in
+    let place = simp fits at c.count-place.ensures.count in
     let ft : SFits w64 (c.latest_end-end.result -ℤ pos 1) = omega (arith, ints) in
     record {
-      reached = simp to_z-of_z (at_end _ _ _ _ (rw c.self.view_is at c.self.invariant.valid) made c.requires.second _ _ _ fg
+      reached = simp fits (at_end _ _ _ _ (rw c.self.view_is at c.self.invariant.valid) made c.requires.second _ _ _ fg
           (rw (← c.self.view_is) c.self.invariant.extremes.greatest) c.count-place.ensures.within (since d) (latest d)
-          (rw place (begun _ _ made.rising fs (rw place at c.count-place.ensures.within))) fe (omega (arith, ints)));
+          (begun_by _ _ _ made.rising c.count-place.ensures.within (omega (arith, place)) fs) fe (omega (arith, ints)));
       cost = ended d;
     }
 
