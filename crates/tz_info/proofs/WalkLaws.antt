@@ -2,17 +2,20 @@
 use Rattle.offset_core.specs.declared.local_result.LocalResult.TheVariants.{None as Never}
 use Rattle.tz_info.proofs.{
   AnswerLaws.{Parts, behind_answer, same_answer},
-  Candidates.{offset_of_rule},
+  Candidates.offset_of_rule,
   ExtremeLaws.{at_least_least, at_most_greatest},
   SegmentLaws.{between_of, later_segment, segment_at, segment_here, segment_is, segments_rise, type_from, type_in_from, within_of},
-  TableSearch.{Between},
+  TableSearch.Between,
   WallSegments.{leap_time_of, near_of, offset_here, rule_begun, type_of_table},
   Words.{AreRising, AreUtOffsets, Bool, Counts, IsNear, IsShownIn, IsStart, IsTried, IsValid, IsWallAnswer, IsWide, IsWindow, List, LocalResult, LocalType},
   Words.{None, Option, RoseByWalk, RoseWithin, RuleAt, Shows, Some, Transition, TransitionRule, TypeAt, TypeFrom, Zone, [], ap, arith, begin_of, cases_lt},
-  Words.{come_between, digits, filter, get_or, get_or_default, index_of, inl, inr, least_time, length, linear, reads_more, refl, segment_of, suc, sym},
-  Words.{table_count, true, zero, ℕ, ℤ, ⊎_elim, ◌+ℤ◌, ◌+◌, ◌-ℤ◌, ◌<ℤ◌, ◌<◌, ◌∙◌, ◌∷◌, ◌≡◌, ◌≤ℤ◌, ◌≤◌, ◌⊎◌},
+  Words.{come_between, digits, digits-le, filter, get_or, get_or_default, index_of, inl, inr, least_time, length, linear, reads_more, refl, segment_of, suc},
+  Words.{sym, table_count, true, zero, ℕ, ℤ, ⊎_elim, ◌+ℤ◌, ◌+◌, ◌-ℤ◌, ◌<ℤ◌, ◌<◌, ◌∙◌, ◌∷◌, ◌≡◌, ◌≤ℤ◌, ◌≤◌, ◌⊎◌},
 }
 use Rattle.tz_info.specs.Steps.Walk.{IsTimeWithin}
+
+-- a number has fewer digits than a list can have items
+pub ruleset room = digits-le
 
 -- ---- one segment more
 -- the next transition comes at `until`, or there is no next one

@@ -46,15 +46,13 @@ tried : (c : After-try_until-answer)
 tried c =
     let fl = c.ranges.local in
     let fn : SFits w64 c.transition-next.result.unix_leap_time = search rules in
-    let z = c.args.self.now in let i = c.loop-place.invariant in let own = table_most z in
-    let next = c.transition-next.ensures.item in
-    tried_segment z _ _ _ _ _ _ (rw (← c.self.view_is) c.self.invariant.valid) (omega arith)
-    (omega arith) i.begin
-    (inl (c.transition-next.result, omega arith, ap (λ t. Some t.unix_leap_time) next))
+    let i = c.loop-place.invariant in let own = table_most c.args.self.now in
+    tried_segment _ _ _ _ _ _ _ (rw c.self.view_is at c.self.invariant.valid) (omega arith) (omega arith) i.begin
+    (inl (c.transition-next.result, omega arith, ap (λ t. Some t.unix_leap_time) c.transition-next.ensures.item))
     (rw i.index at (simp fits at c.try_until-answer.ensures)) (simp fits at i.found)
 
 pub latest-current-requires-clause-room : goal.latest-current-requires-clause-room
-latest-current-requires-clause-room c = omega (arith, digits-le (length c.args.self.now.transitions))
+latest-current-requires-clause-room c = grind (arith, digits-le)
 
 pub loop-place-init : goal.loop-place-init
 loop-place-init c =
@@ -62,9 +60,7 @@ loop-place-init c =
     let (window, split) = begun (goal.at.loop-place-init c).After-passed_count-first in
     let p = c.passed_count-first.ensures.cost in let q = c.latest-current.ensures.cost in
     record {
-      found =
-          simp fits (none_before _ _ _ _ _
-          (rw (← c.self.view_is) c.self.invariant.valid) window split);
+      found = simp fits (none_before _ _ _ _ _ (rw (← c.self.view_is) c.self.invariant.valid) window split);
       begin = c.latest-current.ensures.begin;
       index = c.latest-current.ensures.index;
       listed = c.latest-current.ensures.listed;
@@ -79,21 +75,21 @@ loop-place-init c =
     }
 
 pub transition-next-requires-clause-room : goal.transition-next-requires-clause-room
-transition-next-requires-clause-room c = omega (arith, digits-le (length c.args.self.now.transitions))
+transition-next-requires-clause-room c = grind (arith, digits-le)
 
 pub returns-then-high-next : goal.returns-then-high-next
 returns-then-high-next c =
     let at = goal.at.returns-then-high-next c in
     let fh = c.leap_time_near-high.type_inv in
     let (window, split) = begun at.After-passed_count-first in
-    let z = c.args.self.now in let valid = rw c.self.view_is at c.self.invariant.valid in let walked = simp fits at
-    c.loop-place.invariant.walked in
+    let valid = rw c.self.view_is at c.self.invariant.valid in
+    let walked = simp fits at c.loop-place.invariant.walked in
     let time = ap (λ t. t.unix_leap_time) c.transition-next.ensures.item in
     record {
-      found = none_behind z c.args.local _ _ c.loop-place.place valid window c.transition-next.result (omega arith) (omega linear) _ (tried at.After-try_until-answer);
-      cost = rose_by_walk z c.args.local _ _ _ _ 1 _ _ _
-          window split (omega arith) walked (omega arith) (one_look _ _ c.transition-next.ensures.cost);
-      counted = asked_for_window z _ _ c.leap_time_near-high.result c.loop-place.place c.transition-next.result _ _
+      found = none_behind _ _ _ _ c.loop-place.place valid window c.transition-next.result (omega arith) (omega linear) _
+          (tried at.After-try_until-answer);
+      cost = rose_by_walk _ _ _ _ _ _ 1 _ _ _ window split (omega arith) walked (omega arith) (one_look _ _ c.transition-next.ensures.cost);
+      counted = asked_for_window _ _ _ c.leap_time_near-high.result c.loop-place.place c.transition-next.result _ _
           valid window (omega arith) (omega linear)
           (ap (λ p. p.rule_questions) c.transition-next.ensures.cost ∙ walked.questions);
     }
@@ -126,7 +122,6 @@ returns c =
     let (window, split) = begun (goal.at.returns c).After-passed_count-first in
     record {
       found = all_segments _ _ _ valid.transitions.rising (simp fits at c.try_last.ensures.found);
-      cost = rose_by_walk _ _ _ _ _
-          _ 0 _ _ _ window split (omega arith) (simp fits at c.loop-place.invariant.walked) (omega arith) c.try_last.ensures.cost;
+      cost = rose_by_walk _ _ _ _ _ _ 0 _ _ _ window split (omega arith) (simp fits at c.loop-place.invariant.walked) (omega arith) c.try_last.ensures.cost;
       counted = rw c.loop-place.invariant.walked.questions at (simp fits at c.try_last.ensures.counted);
     }
