@@ -3,7 +3,6 @@ use Rattle.tz_info.proofs.zone.time_zone.TimeZone.held_at.Goals as goal
 
 pub returns : goal.returns
 returns c = λ u low high.
-    let fu = c.ranges.unix_time in
     let ff = c.start_by.type_inv in
     let fe = c.end_by.type_inv in
     let at = c.in-Ok.ensures in

@@ -4,7 +4,6 @@ use Rattle.tz_info.proofs.zone.time_zone.TimeZone.span_by_place.Goals as goal
 
 pub index-requires : goal.index-requires
 index-requires c =
-    let fu = c.ranges.unix_time in
     let n : vec_len c.self.inside.local_types ≡ length _ = search rules in
     rw n (index_between _ _ _ _ c.self.invariant.valid c.self.invariant.list
     c.in-Some.ensures)

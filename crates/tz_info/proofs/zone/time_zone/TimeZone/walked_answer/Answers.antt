@@ -80,7 +80,6 @@ transition-next-requires-clause-room c = grind (arith, digits-le)
 pub returns-then-high-next : goal.returns-then-high-next
 returns-then-high-next c =
     let at = goal.at.returns-then-high-next c in
-    let fh = c.leap_time_near-high.type_inv in
     let (window, split) = begun at.After-passed_count-first in
     let valid = rw c.self.view_is at c.self.invariant.valid in
     let walked = simp fits at c.loop-place.invariant.walked in
@@ -116,7 +115,6 @@ try_last-requires-clause-seen c =
 
 pub returns : goal.returns
 returns c =
-    let fl = c.ranges.local in
     let valid = rw c.self.view_is at c.self.invariant.valid in
     let fh = c.leap_time_near-high.type_inv in
     let (window, split) = begun (goal.at.returns c).After-passed_count-first in
