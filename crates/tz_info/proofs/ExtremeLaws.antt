@@ -1,12 +1,12 @@
 -- The least and the greatest of some offsets.
 use Rattle.std.proofs.lemmas.List.{map-append}
 use Rattle.tz_info.proofs.{
-  Candidates.{one_of_two},
+  Candidates.one_of_two,
   Words.{All-contains, All-push, AreExtremes, AreJoined, AreJoinedByRule, Contains, Contains-append_left, Contains-append_right, Contains-push, Extremes},
   Words.{IsEnd, IsGreatest, IsLeast, IsTypeOf, IsWindowOf, List, LocalType, None, Option, SFits, Some, TransitionRule, TypeAt, Zone, [], add-one, ap},
   Words.{append_assoc, arith, get_or, get_or-map, inl, inr, length, length-map, linear, offsets, offsets_of, refl, rule_offsets, slice_get, slice_get-get_or},
   Words.{sym, take, take-suc, w32, ℕ, ℤ, ◌++◌, ◌+◌, ◌-ℤ◌, ◌<◌, ◌∙◌, ◌∷◌, ◌≡◌, ◌≤ℤ◌, ◌⊎◌},
-  ZoneLaws.{type_listed},
+  ZoneLaws.type_listed,
 }
 use Rattle.tz_info.specs.declared.rule.transition_rule.TransitionRule.TheVariants.{Alternate, Fixed}
 

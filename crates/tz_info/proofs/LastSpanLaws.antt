@@ -1,12 +1,12 @@
 -- The last span, and the local times that only one of its seconds shows.
 use Rattle.tz_info.proofs.{
-  ChangeSearch.{nearest_moved},
+  ChangeSearch.nearest_moved,
   ExtremeLaws.{at_least_least, at_most_greatest},
-  LeapStarts.{saturated},
+  LeapStarts.saturated,
   SpanLaws.{no_change_within, until_less},
   Words.{AreExtremes, Extremes, HasNoChange, IsInSpan, IsLast, IsLastSpan, IsLastTyped, IsShownOnce, IsSince, IsSpanAt, IsWide, LastSpan, LocalType, SFits},
   Words.{Shows, TypeAt, Zone, by_lt_z, false, linear, offsets, pos, saturate_signed, w32, w64, ℤ, ◌+ℤ◌, ◌-ℤ◌, ◌<ℤ◌, ◌≡◌, ◌≤ℤ◌},
-  ZoneLaws.{type_once},
+  ZoneLaws.type_once,
 }
 
 -- the offsets of a zone, the last second that has a type, and its span

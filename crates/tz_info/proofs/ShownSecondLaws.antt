@@ -5,7 +5,7 @@ use Rattle.tz_info.proofs.{
   Words.{AreEndsWithin, AreShownWithin, AreWithin, Bool, HaveOneTypeFrom, IsEndWithin, IsFirstAtOrAfter, IsGreatest, IsLeast, IsNeverWithin, IsNextRun},
   Words.{IsWindowOf, IsWithinRun, LocalType, None, Option, Precedes, SFits, ShownSeconds, ShowsWithin, Some, TypeAt, Zone, arith, by_lt_z, false, linear},
   Words.{offsets, pos, refl, subst, true, unsigned_abs, w64, ℤ, ◌+ℤ◌, ◌-ℤ◌, ◌<ℤ◌, ◌<◌, ◌≡◌, ◌≤ℤ◌},
-  ZoneLaws.{type_once},
+  ZoneLaws.type_once,
 }
 
 -- ---- from run to run, until one shows such a local time

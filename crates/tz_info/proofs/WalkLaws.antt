@@ -171,14 +171,6 @@ rose_by_walk z l low high _ _ n a b c window split within w one r =
     record {
       window = length (come_between z.transitions low high);
       counted = record { low = low; high = high; window = window; count = refl };
-      most =
-          record {
-            reads_kept = omega arith;
-            reads_most = omega arith;
-            questions_kept = omega arith;
-            questions_most = omega arith;
-            pieces_same = r.pieces_same
-                ∙ w.pieces;
-          };
+      most = grind linear;
       least = λ h. omega arith;
     }

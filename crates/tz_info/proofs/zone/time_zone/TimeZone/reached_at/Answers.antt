@@ -82,7 +82,7 @@ ended c =
     elim c.match-rule_at.branch [
       | in-Some w ↦ rose_less _ _ _ _ _ _ (rose_then _ _ _ _ _ _ _ (rose_then _ _ _ _ _ _ _ first w.reached_since-reached.ensures.cost)
           (rw w.probes-is at c.latest_end-end.ensures.cost)) (omega arith) (omega arith)
-      | in-None w ↦ let last = rw w.probes-is at c.latest_end-end.ensures.cost in grind linear
+      | in-None w ↦ grind linear
     ]
 
 latest : (c : After-latest_end-end) → IsLatestEnd c.args.self.now.types c.self.inside.changes.items c.count-place.result c.latest_end-end.result

@@ -1,5 +1,8 @@
-use Rattle.tz_info.proofs.{EntryChanges.{index_between, span_between}, Fits.fits}
-use Rattle.tz_info.proofs.Words.{SFits, Some, arith, length, rules, slice_get, slice_get_read, vec_len, w64, ◌≡◌}
+use Rattle.tz_info.proofs.{
+  EntryChanges.{index_between, span_between},
+  Fits.fits,
+  Words.{SFits, Some, arith, length, rules, slice_get, slice_get_read, vec_len, w64, ◌≡◌},
+}
 use Rattle.tz_info.proofs.zone.time_zone.TimeZone.span_by_place.Goals as goal
 
 pub index-requires : goal.index-requires
