@@ -23,37 +23,37 @@ record Ends {T : Type 0} (p : ℤ → T → Type 0) (first last : ℤ) (a b : T)
   pub not_before : (u : ℤ) (t : T) → p u t → first ≤ℤ u
   pub not_after : (u : ℤ) (t : T) → p u t → u ≤ℤ last
 
-of_one : {T : Type 0} (p : ℤ → T → Type 0) (a : T) → (h : IsWallAnswer p (Single a)) → Ends p h.second h.second a a
-of_one p a h = grind arith
+of_one : {T : Type 0} {p : ℤ → T → Type 0} {a : T} → (h : IsWallAnswer p (Single a)) → Ends p h.second h.second a a
+of_one h = grind arith
 
-of_several : {T : Type 0} (p : ℤ → T → Type 0) (a b : T) → (h : IsWallAnswer p (Ambiguous a b)) → Ends p h.first h.last a b
-of_several p a b h = record { at_first = h.at_first; at_last = h.at_last; not_before = h.not_before; not_after = h.not_after }
+of_several : {T : Type 0} {p : ℤ → T → Type 0} {a b : T} → (h : IsWallAnswer p (Ambiguous a b)) → Ends p h.first h.last a b
+of_several h = record { at_first = h.at_first; at_last = h.at_last; not_before = h.not_before; not_after = h.not_after }
 
 -- r takes the first of p's seconds first, and the last of q's last
-both : {T : Type 0} (p q r : ℤ → T → Type 0) (f l m n : ℤ) (a b c d : T) → Parts p q r → Ends p f l a b → Ends q m n c d → IsWallAnswer r (Ambiguous a d)
-both p q r f l m n a b c d o x y = record {
+both : {T : Type 0} {p q r : ℤ → T → Type 0} {f l m n : ℤ} {a b c d : T} → Parts p q r → Ends p f l a b → Ends q m n c d → IsWallAnswer r (Ambiguous a d)
+both {f} {n} o x y = record {
   first = f;
   last = n;
-  several = o.order f n a d x.at_first y.at_last;
-  at_first = o.first f a x.at_first;
-  at_last = o.last n d y.at_last;
-  not_before = λ u t k. ⊎_elim (x.not_before u t) (λ h. let e = o.order f u a t x.at_first h in omega linear) (o.all u t k);
-  not_after = λ u t k. ⊎_elim (λ h. let e = o.order u n t d h y.at_last in omega linear) (y.not_after u t) (o.all u t k);
+  several = o.order _ _ _ _ x.at_first y.at_last;
+  at_first = o.first _ _ x.at_first;
+  at_last = o.last _ _ y.at_last;
+  not_before = λ u t k. ⊎_elim (x.not_before u t) (λ h. let e = o.order _ u _ t x.at_first h in omega linear) (o.all u t k);
+  not_after = λ u t k. ⊎_elim (λ h. let e = o.order u _ t _ h y.at_last in omega linear) (y.not_after u t) (o.all u t k);
 }
 
 -- where q takes none
-first_alone : {T : Type 0} (p q r : ℤ → T → Type 0) (a : LocalResult T) → Parts p q r → IsWallAnswer p a → IsWallAnswer q None → IsWallAnswer r a
-first_alone p q r a o x y = grind (linear, same_answer)
+first_alone : {T : Type 0} {p q r : ℤ → T → Type 0} (a : LocalResult T) → Parts p q r → IsWallAnswer p a → IsWallAnswer q None → IsWallAnswer r a
+first_alone a o x y = grind (linear, same_answer)
 
 pub joined_answer : {T : Type 0} (p q r : ℤ → T → Type 0) (a b : LocalResult T) → Parts p q r → IsWallAnswer p a
     → IsWallAnswer q b → IsWallAnswer r (joined a b)
 joined_answer p q r None b o x y = grind (linear, same_answer)
-joined_answer p q r (Single a) None o x y = first_alone p q r (Single a) o x y
-joined_answer p q r (Single a) (Single c) o x y = both p q r _ _ _ _ a a c c o (of_one p a x) (of_one q c y)
-joined_answer p q r (Single a) (Ambiguous c d) o x y = both p q r _ _ _ _ a a c d o (of_one p a x) (of_several q c d y)
-joined_answer p q r (Ambiguous a b) None o x y = first_alone p q r (Ambiguous a b) o x y
-joined_answer p q r (Ambiguous a b) (Single c) o x y = both p q r _ _ _ _ a b c c o (of_several p a b x) (of_one q c y)
-joined_answer p q r (Ambiguous a b) (Ambiguous c d) o x y = both p q r _ _ _ _ a b c d o (of_several p a b x) (of_several q c d y)
+joined_answer p q r (Single a) None o x y = first_alone (Single a) o x y
+joined_answer p q r (Single a) (Single c) o x y = both o (of_one x) (of_one y)
+joined_answer p q r (Single a) (Ambiguous c d) o x y = both o (of_one x) (of_several y)
+joined_answer p q r (Ambiguous a b) None o x y = first_alone (Ambiguous a b) o x y
+joined_answer p q r (Ambiguous a b) (Single c) o x y = both o (of_several x) (of_one y)
+joined_answer p q r (Ambiguous a b) (Ambiguous c d) o x y = both o (of_several x) (of_several y)
 
 -- q takes the second c more, which comes after all others
 pub behind_answer : {T : Type 0} (p q : ℤ → T → Type 0) (c : ℤ) (t : T) (answer : LocalResult T) → ((u : ℤ) (f : T) → p u f → q u f)

@@ -1,8 +1,8 @@
 -- A local time has one answer with both sides of its gap.
 use Rattle.tz_info.proofs.{
-  WallLaws.{shown_once},
+  WallLaws.shown_once,
   Words.{AreTypesAround, Around, Change, HasGap, LocalType, Shows, TypeAt, Zone, linear, one_around, pos, subst, ℤ, ◌-ℤ◌, ◌≡◌},
-  ZoneLaws.{type_once},
+  ZoneLaws.type_once,
 }
 use Rattle.tz_info.specs.Around.{Skips}
 

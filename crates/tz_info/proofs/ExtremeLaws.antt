@@ -1,12 +1,12 @@
 -- The least and the greatest of some offsets.
 use Rattle.std.proofs.lemmas.List.{map-append}
 use Rattle.tz_info.proofs.{
-  Candidates.{one_of_two},
+  Candidates.one_of_two,
   Words.{All-contains, All-push, AreExtremes, AreJoined, AreJoinedByRule, Contains, Contains-append_left, Contains-append_right, Contains-push, Extremes},
-  Words.{IsEnd, IsGreatest, IsLeast, IsTypeOf, IsWindowOf, List, LocalType, None, Option, SFits, Some, TransitionRule, TypeAt, Zone, [], add-one, append_assoc},
-  Words.{arith, get_or, get_or-map, inl, inr, length, length-map, linear, offsets, offsets_of, refl, rule_offsets, slice_get, slice_get-get_or, subst, sym},
-  Words.{take, take-suc, w32, ℕ, ℤ, ◌++◌, ◌+◌, ◌-ℤ◌, ◌<◌, ◌∙◌, ◌∷◌, ◌≡◌, ◌≤ℤ◌, ◌⊎◌},
-  ZoneLaws.{type_listed},
+  Words.{IsEnd, IsGreatest, IsLeast, IsTypeOf, IsWindowOf, List, LocalType, None, Option, SFits, Some, TransitionRule, TypeAt, Zone, [], add-one, ap},
+  Words.{append_assoc, arith, get_or, get_or-map, inl, inr, length, length-map, linear, offsets, offsets_of, refl, rule_offsets, slice_get, slice_get-get_or},
+  Words.{sym, take, take-suc, w32, ℕ, ℤ, ◌++◌, ◌+◌, ◌-ℤ◌, ◌<◌, ◌∙◌, ◌∷◌, ◌≡◌, ◌≤ℤ◌, ◌⊎◌},
+  ZoneLaws.type_listed,
 }
 use Rattle.tz_info.specs.declared.rule.transition_rule.TransitionRule.TheVariants.{Alternate, Fixed}
 
@@ -27,25 +27,18 @@ joined xs e o r a j = record {
   };
 }
 
-type_among : (types : List LocalType) (k : ℕ) (d : LocalType) → k < length types → Contains (offsets_of types) (get_or types k d).offset
-type_among types k d h = (k, simp length-map (h), get_or-map (λ t. t.offset) types k d (get_or types k d).offset h)
-
 -- of one type more
 pub next_type : (types : List LocalType) (n : ℕ) (d : LocalType) (e r : Extremes) → n < length types → AreExtremes (offsets_of (take n types)) e
     → AreJoined e (get_or types n d).offset r → AreExtremes (offsets_of (take (n + 1) types)) r
 next_type types n d e r h a j = rw (add-one, take-suc types n d h, map-append) (joined _ e _ r a j)
 
 -- ---- with the rule's
-by_rule : (types : List LocalType) (rule : TransitionRule) (e r : Extremes) → AreExtremes (offsets_of types) e → AreJoinedByRule e rule r
-    → AreExtremes (offsets types (Some rule)) r
-by_rule _ (Fixed t) e r h j = joined _ e _ r h j
-by_rule types (Alternate a) e r h (one, f, g) =
-    let s = joined _ one _ r (joined _ e _ one h f) g in
-    rw append_assoc at s
-
 pub rule_joined : (types : List LocalType) (rule : Option TransitionRule) (some : TransitionRule) (e r : Extremes) → rule ≡ Some some
     → AreExtremes (offsets_of types) e → AreJoinedByRule e some r → AreExtremes (offsets types rule) r
-rule_joined _ _ _ e r is h j = rw is (by_rule _ _ e r h j)
+rule_joined _ _ (Fixed t) e r is h j = rw is (joined _ e _ r h j)
+rule_joined types _ (Alternate a) e r is h (one, f, g) =
+    let s = joined _ one _ r (joined _ e _ one h f) g in
+    rw is (rw append_assoc at s)
 
 -- ---- the offset of a type in force is one of them
 pub rule_among : (rule : Option TransitionRule) (u : ℤ) (t : LocalType) → IsTypeOf rule u t → Contains (rule_offsets rule) t.offset
@@ -60,7 +53,7 @@ listed_among : (types : List LocalType) (k : ℕ) (t : LocalType) → k < length
 listed_among types k t h e =
     let g : Some (get_or types k t) ≡ Some t = sym (slice_get-get_or types k t h) ∙ e in
     let s : get_or types k t ≡ t = cc in
-    rw s at (type_among _ k t h)
+    (k, simp length-map h, get_or-map (λ t. t.offset) types k t _ h ∙ ap (λ (x : LocalType). x.offset) s)
 
 pub in_force_among : (z : Zone) (u : ℤ) (t : LocalType) → TypeAt z u t → Contains (offsets z.types z.rule) t.offset
 in_force_among z u t a = elim (type_listed z u t a) [
@@ -82,11 +75,10 @@ at_least_least z u g t h a = All-contains (λ x. g ≤ℤ x) (offsets _ z.rule) 
 -- the seconds by the greatest offset and by the least
 pub window_made : (z : Zone) (from until g h : ℤ) → IsEnd from → IsEnd until → SFits w32 g → SFits w32 h → IsGreatest (offsets z.types z.rule) g
     → IsLeast (offsets z.types z.rule) h → IsWindowOf z from until (from -ℤ g) (until -ℤ h)
-window_made z _ _ g h first last fits_g fits_h greatest least = record {
-  greatest = subst (IsGreatest (offsets _ z.rule)) (back _ g) greatest;
-  least = subst (IsLeast (offsets _ z.rule)) (back _ h) least;
-  near_low = (omega linear, omega (linear, first));
-  near_high = (omega linear, omega (linear, last));
-} where
-  back : (x y : ℤ) → y ≡ x -ℤ (x -ℤ y)
-  back x y = omega linear
+window_made z from until g h first last fits_g fits_h greatest least =
+    let same : from -ℤ (from -ℤ g) ≡ g = omega linear in let alike : until -ℤ (until -ℤ h) ≡ h = omega linear in record {
+      greatest = rw same greatest;
+      least = rw alike least;
+      near_low = (omega linear, omega (linear, first));
+      near_high = (omega linear, omega (linear, last));
+    }

@@ -55,7 +55,6 @@ pub mod TypedLaws
 pub mod LastSpanLaws
 pub mod FoldLaws
 pub mod SpanSearch
-pub mod SpanStepLaws
 pub mod RunLaws
 pub mod ShownSecondLaws
 pub mod RuleReached

@@ -1,61 +1,63 @@
 -- Questions to a zone's rule: at which seconds it is asked, and how often for a local time.
 use Rattle.std.proofs.lemmas.List.Elements.{Contains-append_cases, Contains-get_or}
 use Rattle.tz_info.proofs.{
-  ListFaults.{equal_known},
-  PassedTransitions.{no_items},
+  ListFaults.equal_known,
+  PassedTransitions.no_items,
   SegmentLaws.{come_at_time, come_by_then},
-  WalkLaws.{window_most},
+  WalkLaws.window_most,
   WallSegments.{leap_time_of, near_of, rule_begun},
   Words.{All-contains, AllPairs-cons, Alternate as AlternateRule, AreUtOffsets, Contains, Contains-append_right, IsAskedAt, IsAskedAtEach, IsAskedAtLeapTime},
   Words.{IsAskedFor, IsAskedFrom, IsAskedSince, IsByRuleFor, IsLeapTime, IsNear, IsSecondFrom, IsStart, IsValid, IsWide, IsWindow, LocalType, None, Option},
   Words.{Some, Transition, TransitionRule, Zone, [], ap, arith, get_or, inl, inr, length, linear, offsets, offsets_of, refl, rule_offsets, segment_of, suc},
   Words.{sym, zero, ℕ, ℤ, ⊎_elim, ◌+◌, ◌-ℤ◌, ◌<ℤ◌, ◌<◌, ◌↔◌, ◌∙◌, ◌∷◌, ◌≡◌, ◌≢◌, ◌≤ℤ◌, ◌⊎◌},
-  ZoneLaws.{same_passed},
+  ZoneLaws.same_passed,
 }
-use Rattle.tz_info.specs.{Questions.{IsByRule}, declared.rule.transition_rule.TransitionRule.TheVariants.{Alternate, Fixed}}
+use Rattle.tz_info.specs.{Questions.IsByRule, declared.rule.transition_rule.TransitionRule.TheVariants.{Alternate, Fixed}}
 
 -- ---- from which second on the rule is asked
-by_rule_there : (z : Zone) (u : ℤ) (rule : TransitionRule) → IsValid z → z.rule ≡ Some rule → IsNear u → segment_of z u ≡ length z.transitions → IsByRule z u
-by_rule_there z u rule valid is near there =
-    let time = leap_time_of z u valid near in
-    record { rule = rule; of_zone = is; leap_time = time.0; of_second = λ _. time.1; from_last = come_at_time z u _ time.1 ∙ there }
-
 by_rule_segment : (z : Zone) (u : ℤ) → IsByRule z u → segment_of z u ≡ length z.transitions
 by_rule_segment z u a = grind (linear, come_by_then)
 
 -- a zone asks its rule from `start` on
-seconds_by_rule : (z : Zone) (rule : TransitionRule) (start l : ℤ) → IsValid z → z.rule ≡ Some rule → IsStart z.transitions z.leaps (length z.transitions) start
-    → IsWide l → AreUtOffsets rule → (u : ℤ) → IsSecondFrom rule start l u ↔ IsByRuleFor z l u
-seconds_by_rule z _ _ l valid is begun wide offsets u = (
-  (λ k.
-      let near : IsNear u = rw k.of_second (near_of l _ wide (offsets _ k.of_rule)) in
-      record {
-        offset = k.offset;
-        of_rule = rw is k.of_rule;
-        of_second = k.of_second;
-        by_rule = by_rule_there z u _ valid is near
-            ((rule_begun z u _ valid near begun).1 k.since);
-      }),
-  (λ k.
-      let of_rule = rw is at k.of_rule in
-      let near : IsNear u = rw k.of_second (near_of l _ wide (offsets _ of_rule)) in
-      record {
-        offset = k.offset;
-        of_rule = of_rule;
-        of_second = k.of_second;
-        since = (rule_begun z u _ valid near begun).0
-            (by_rule_segment z u k.by_rule);
-      }),
-)
+module _ (z : Zone) (rule : TransitionRule) (start l : ℤ) (valid : IsValid z) (is : z.rule ≡ Some rule)
+    (begun : IsStart z.transitions z.leaps (length z.transitions) start) (wide : IsWide l) (offsets : AreUtOffsets rule) where
+  near : (u : ℤ) → (o : ℤ) → Contains (rule_offsets (Some rule)) o → u ≡ l -ℤ o → IsNear u
+  near u o of_rule e = rw e (near_of l _ wide (offsets _ of_rule))
 
-pub asked_by_zone : (z : Zone) (rule : TransitionRule) (start l : ℤ) (p q : ℕ) → IsValid z → z.rule ≡ Some rule
-    → IsStart z.transitions z.leaps (length z.transitions) start → IsWide l → AreUtOffsets rule → IsAskedFrom rule start l p q → IsAskedFor z l p q
-asked_by_zone z _ _ l p q valid is begun wide offsets k = record {
-  seconds = k.seconds;
-  once = k.once;
-  each = λ u. let same = seconds_by_rule z _ _ l valid is begun wide offsets u in let e = k.each u in ((λ c. same.0 (e.0 c)), (λ c. e.1 (same.1 c)));
-  count = k.count;
-}
+  seconds_by_rule : (u : ℤ) → IsSecondFrom rule start l u ↔ IsByRuleFor z l u
+  seconds_by_rule u = (
+    (λ k.
+        let near = near u _ k.of_rule k.of_second in
+        let time = leap_time_of z u valid near in
+        record {
+          offset = k.offset;
+          of_rule = rw is k.of_rule;
+          of_second = k.of_second;
+          by_rule = record {
+            rule = rule;
+            of_zone = is;
+            leap_time = time.0;
+            of_second = λ _. time.1;
+            from_last = come_at_time z u _ time.1 ∙ (rule_begun z u _ valid near begun).1 k.since;
+          };
+        }),
+    (λ k.
+        let of_rule = rw is at k.of_rule in
+        record {
+          offset = k.offset;
+          of_rule = of_rule;
+          of_second = k.of_second;
+          since = (rule_begun z u _ valid (near u _ of_rule k.of_second) begun).0 (by_rule_segment z u k.by_rule);
+        }),
+  )
+
+  pub asked_by_zone : (p q : ℕ) → IsAskedFrom rule start l p q → IsAskedFor z l p q
+  asked_by_zone p q k = record {
+    seconds = k.seconds;
+    once = k.once;
+    each = λ u. let same = seconds_by_rule u in let e = k.each u in ((λ c. same.0 (e.0 c)), (λ c. e.1 (same.1 c)));
+    count = k.count;
+  }
 
 in_one : (a u : ℤ) → Contains (a ∷ []) u → u ≡ a
 in_one a u (zero, h, e) = sym e
@@ -141,7 +143,7 @@ pub asked_for_window : (z : Zone) (l low high : ℤ) (n : ℕ) (d : Transition) 
 asked_for_window z l low _ n d p q valid w h later e = nowhere _ p q (λ u k.
     let among = Contains-append_right (offsets_of z.types) (rule_offsets z.rule) _ k.of_rule in
     let least = All-contains (λ x. w.least ≤ℤ x) (offsets _ z.rule) _ w.is_least.fewest among in
-    let most = window_most z l low _ n d u _ valid w h later least (omega linear) in grind (arith, by_rule_segment)) e
+    let most = window_most z l low _ n valid w d h later u _ least (omega linear) in grind (arith, by_rule_segment)) e
 
 -- ---- by instant
 pub asked_at_time : (z : Zone) (u x : ℤ) (p q : ℕ) → (0 < length z.transitions → IsLeapTime z.leaps u x) → IsAskedAtLeapTime z x p q → IsAskedAt z u p q
@@ -156,8 +158,7 @@ either None = inr refl
 pub asked_without : (z : Zone) (u : ℤ) (p q : ℕ) → length z.transitions ≡ 0 → ((rule : TransitionRule) → z.rule ≡ Some rule → q ≡ p + 1)
     → (z.rule ≡ None → q ≡ p) → IsAskedAt z u p q
 asked_without z u p q e asked unasked =
-    let f = no_items _ e in
     asked_at_time z u u p q (λ h. absurd (omega arith)) (elim (either z.rule) [
-      | inl k ↦ inl (k.0, k.1, rw f, asked k.0 k.1)
+      | inl k ↦ inl (k.0, k.1, rw (no_items _ e), asked k.0 k.1)
       | inr n ↦ inr (inl (n, unasked n))
     ])

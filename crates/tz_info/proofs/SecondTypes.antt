@@ -1,11 +1,11 @@
 -- The type in force at a second, as it is asked for the list of changes, and the change there.
 use Rattle.tz_info.proofs.{
   ChangeSearch.{InForce, IsOnce, none_before, none_here},
-  RuleLaws.{rule_told},
-  Words.{Change, HasNoChange, HasType, IsChange, IsLeapTime, IsRefusedBy, IsRuleOrNone, IsTypeRefused, IsValid, List, LocalType, MatchOption, None, Option},
-  Words.{RuleOrElse, RuleOrType, SFits, Some, TransitionRule, TypeAt, Zone, [], all_fit, arith, by_leap_time, by_rule, cases_lt, change_between, change_here},
-  Words.{false, get_or, index_at, inl, inr, is_second, length, linear, nat_lt, passed, pos, refl, rule_type_or, slice_get, suc, true, type_at_leap_time},
-  Words.{type_exact, type_or_none, w64, zero, ℕ, ℤ, ◌+ℤ◌, ◌-ℤ◌, ◌<◌, ◌==◌, ◌∷◌, ◌≡◌, ◌⊎◌},
+  RuleLaws.rule_told,
+  Words.{Change, HasNoChange, HasType, IsChange, IsLeapTime, IsRefusedBy, IsRuleOrNone, IsValid, List, LocalType, MatchOption, None, Option, RuleOrElse},
+  Words.{RuleOrType, SFits, Some, TransitionRule, TypeAt, Zone, [], all_fit, arith, by_leap_time, by_rule, cases_lt, change_between, change_here, false},
+  Words.{get_or, index_at, inl, inr, is_second, length, linear, nat_lt, passed, pos, refl, rule_type_or, slice_get, suc, true, type_at_leap_time, type_exact},
+  Words.{type_or_none, w64, zero, ℕ, ℤ, ◌+ℤ◌, ◌-ℤ◌, ◌<◌, ◌==◌, ◌∷◌, ◌≡◌, ◌⊎◌},
   ZoneLaws.{before_or_from_last, fits_or_not, inside_listed, last_index_below, leap_time_decided, type_not_refused},
 }
 
@@ -44,8 +44,12 @@ or_told : (rule : Option TransitionRule) (z : Zone) (u : ℤ) (i : ℕ) → i < 
 or_told (Some rule) z u i h limits = rule_told _ u limits
 or_told None z u i h limits = let t = inside_listed _ i h in itself ⊥ _ t.0 t.1
 
+-- `types` gives the type of each second, or none
+abbrev pub AreTypes : InForce → (ℤ → Option LocalType) → Type 0
+AreTypes f types = (u : ℤ) → MatchOption (types u) ((t : LocalType) → f u t → ⊥) (f u)
+
 at_leap_time : (z : Zone) (u x : ℤ) → IsValid z → IsRuleOrNone z.rule → (0 < length z.transitions → IsLeapTime z.leaps u x)
-    → MatchOption (type_at_leap_time z u x) (IsTypeRefused z u) (TypeAt z u)
+    → MatchOption (type_at_leap_time z u x) ((t : LocalType) → TypeAt z u t → ⊥) (TypeAt z u)
 at_leap_time z u x valid limits of_second =
     let i = index_at z x in
     let below = last_index_below _ x 0 _ valid.some valid.transitions.indexes in
@@ -56,31 +60,23 @@ at_leap_time z u x valid limits of_second =
           rw (test, t.1) (record { leap_time = x; of_second = of_second; in_force = record { before_last = λ _. t.1; from_last = λ l. absurd (omega arith) } })
       | inr last ↦
           let test : nat_lt (length (passed z.transitions x)) (length z.transitions) ≡ false = grind arith in
-          rw test (moved _ _ (λ t. RuleOrType z u i t) _ _
-          (λ refused. by_rule x of_second last refused)
+          rw test (moved _ ((t : LocalType) → TypeAt z u t → ⊥) (λ t. RuleOrType z u i t) _ _
+          (λ refused t h. type_not_refused z u t h (by_rule x of_second last refused))
           (λ t h. record { leap_time = x; of_second = of_second; in_force = record { before_last = λ l. absurd (omega arith); from_last = λ _. h } })
           (or_told _ z u i below limits))
     ]
 
-type_told : (z : Zone) (u : ℤ) → IsValid z → IsRuleOrNone z.rule → MatchOption (type_or_none z u) (IsTypeRefused z u) (TypeAt z u)
+pub types_told : (z : Zone) → IsValid z → IsRuleOrNone z.rule → AreTypes (TypeAt z) (type_or_none z)
 unfolding type_or_none
-type_told z u valid limits = elim (cases_lt 0 (length z.transitions)) [
+types_told z valid limits u = elim (cases_lt 0 (length z.transitions)) [
   | inl some ↦
       let test : (length z.transitions == 0) ≡ false = grind arith in
       elim (leap_time_decided z.leaps u) [
         | inl x ↦ grind (arith, all_true, at_leap_time)
-        | inr r ↦ rw (test, all_false _ u _ _ r.passed r.leaves) (by_leap_time some r)
+        | inr r ↦ rw (test, all_false _ u _ _ r.passed r.leaves) (λ t h. type_not_refused z u t h (by_leap_time some r))
       ]
   | inr none ↦ grind (arith, at_leap_time)
 ]
-
--- `types` gives the type of each second, or none
-abbrev pub AreTypes : InForce → (ℤ → Option LocalType) → Type 0
-AreTypes f types = (u : ℤ) → MatchOption (types u) ((t : LocalType) → f u t → ⊥) (f u)
-
-pub types_told : (z : Zone) → IsValid z → IsRuleOrNone z.rule → AreTypes (TypeAt z) (type_or_none z)
-types_told z valid limits u = moved _ _ _ _ (type_or_none z u) (λ refused t h. type_not_refused z u t h refused) (λ t h. h)
-    (type_told z u valid limits)
 
 -- ---- the change at a second
 -- no change comes at the second and none is listed, or the one listed comes there

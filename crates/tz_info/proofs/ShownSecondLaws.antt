@@ -2,10 +2,10 @@
 use Rattle.std.specs.Prelude.{if◌then◌else◌}
 use Rattle.tz_info.proofs.{
   ExtremeLaws.{at_least_least, at_most_greatest},
-  Words.{AreEndsWithin, AreShownWithin, AreWithin, Bool, HaveOneTypeFrom, IsEndWithin, IsFirstAtOrAfter, IsGreatest, IsLeast, IsNeverWithin},
-  Words.{IsNextRun, IsWindowOf, IsWithinRun, LocalType, None, Option, Precedes, SFits, ShownSeconds, ShowsWithin, Some, TypeAt, Zone, arith, by_lt_z, false},
-  Words.{linear, offsets, pos, refl, subst, true, unsigned_abs, w64, ℤ, ◌+ℤ◌, ◌-ℤ◌, ◌<ℤ◌, ◌<◌, ◌≡◌, ◌≤ℤ◌},
-  ZoneLaws.{type_once},
+  Words.{AreEndsWithin, AreShownWithin, AreWithin, Bool, HaveOneTypeFrom, IsEndWithin, IsFirstAtOrAfter, IsGreatest, IsLeast, IsNeverWithin, IsNextRun},
+  Words.{IsWindowOf, IsWithinRun, LocalType, None, Option, Precedes, SFits, ShownSeconds, ShowsWithin, Some, TypeAt, Zone, arith, by_lt_z, false, linear},
+  Words.{offsets, pos, refl, subst, true, unsigned_abs, w64, ℤ, ◌+ℤ◌, ◌-ℤ◌, ◌<ℤ◌, ◌<◌, ◌≡◌, ◌≤ℤ◌},
+  ZoneLaws.type_once,
 }
 
 -- ---- from run to run, until one shows such a local time
@@ -22,58 +22,55 @@ all_within z _ _ low _ w = record {
 pub none_left : (z : Zone) (from until low high : ℤ) → AreWithin z from until low high → high ≤ℤ low → IsNeverWithin (TypeAt z) from until
 none_left z from until low high all h u t k = grind linear
 
--- in a run a second shows a local time of the stretch if and only if it lies between two seconds
-in_run : (z : Zone) (from until start end u : ℤ) (s t : LocalType) → HaveOneTypeFrom (TypeAt z) start end t → start ≤ℤ u → u <ℤ end
-    → ShowsWithin (TypeAt z) from until u s → IsWithinRun start end (from -ℤ t.offset) (until -ℤ t.offset) u
-in_run z from until _ end u s t type low high h =
-    let k = subst (ShowsWithin (TypeAt z) from until u) (type_once z u s t h.type (type u low high)) h in grind linear
+-- what shows a local time of the stretch lies between two seconds, and a run has one type
+module _ (z : Zone) (from until low high start end : ℤ) (t : LocalType) (all : AreWithin z from until low high)
+    (type : HaveOneTypeFrom (TypeAt z) start end t) where
+  -- in the run a second shows a local time of the stretch if and only if it lies between two seconds
+  in_run : (u : ℤ) (s : LocalType) → start ≤ℤ u → u <ℤ end → ShowsWithin (TypeAt z) from until u s
+      → IsWithinRun start end (from -ℤ t.offset) (until -ℤ t.offset) u
+  in_run u s low high h =
+      let k = subst (ShowsWithin (TypeAt z) from until u) (type_once z u s t h.type (type u low high)) h in grind linear
 
-to_run : (z : Zone) (from until start end u : ℤ) (t : LocalType) → SFits w64 u → TypeAt z u t → IsWithinRun start end (from -ℤ t.offset) (until -ℤ t.offset) u
-    → ShowsWithin (TypeAt z) from until u t
-to_run z _ _ _ end u t fits here h = grind linear
+  to_run : (u : ℤ) → SFits w64 u → IsWithinRun start end (from -ℤ t.offset) (until -ℤ t.offset) u → ShowsWithin (TypeAt z) from until u t
+  to_run u fits is = let here = type u is.low is.high in grind linear
 
--- what the next run leaves, if it has none
-pub goes_on : (w : Bool) (z : Zone) (from until low high start end : ℤ) (t : LocalType) → AreWithin z from until low high → IsNextRun w low high start end
-    → HaveOneTypeFrom (TypeAt z) start end t → ((u : ℤ) → IsWithinRun start end (from -ℤ t.offset) (until -ℤ t.offset) u → ⊥)
-    → AreWithin z from until (if w then end else low) (if w then high else start)
-goes_on true z _ _ low high start end t all run type none =
-    record {
-      near_low = (omega linear, omega (linear, all.near_high));
-      near_high = all.near_high;
-      within = λ u s h. let (since, before) = all.within u s h in
-          (by_lt_z u end (λ l. absurd (none u (in_run z _ _ _ end u s t type (omega linear) l h))) (λ m. m), before);
-    }
-goes_on false z from until low high start end t all run type none =
-    record {
-      near_low = all.near_low;
-      near_high = (omega (linear, all.near_low), omega (linear, all.near_high));
-      within = λ u s h. let (since, before) = all.within u s h in
-          (since, by_lt_z u start (λ l. l) (λ m. absurd (none u (in_run z from until start end u s t type m (omega linear) h))));
-    }
+  -- what the next run leaves, if it has none
+  pub goes_on : (w : Bool) → IsNextRun w low high start end → ((u : ℤ) → IsWithinRun start end (from -ℤ t.offset) (until -ℤ t.offset) u → ⊥)
+      → AreWithin z from until (if w then end else low) (if w then high else start)
+  goes_on true run none = record {
+    near_low = (omega linear, omega (linear, all.near_high));
+    near_high = all.near_high;
+    within = λ u s h. let (since, before) = all.within u s h in
+        (by_lt_z u end (λ l. absurd (none u (in_run u s (omega linear) l h))) (λ m. m), before);
+  }
+  goes_on false run none = record {
+    near_low = all.near_low;
+    near_high = (omega (linear, all.near_low), omega (linear, all.near_high));
+    within = λ u s h. let (since, before) = all.within u s h in
+        (since, by_lt_z u start (λ l. l) (λ m. absurd (none u (in_run u s m (omega linear) h))));
+  }
+
+  -- the first such second of the next run is the first of all, or the last one the last of all
+  pub found_in_run : (w : Bool) (u : ℤ) → SFits w64 u → IsNextRun w low high start end → IsWithinRun start end (from -ℤ t.offset) (until -ℤ t.offset) u
+      → ((v : ℤ) → IsWithinRun start end (from -ℤ t.offset) (until -ℤ t.offset) v → Precedes w u v) → IsEndWithin w (TypeAt z) from until u t
+  found_in_run true u fits run is least = record {
+    shown = to_run u fits is;
+    first = λ v s h. let (since, before) = all.within v s h in by_lt_z v end
+        (λ l. least v (in_run v s (omega linear) l h))
+        (λ m. omega linear);
+  }
+  found_in_run false u fits run is greatest = record {
+    shown = to_run u fits is;
+    last = λ v s h. let (since, before) = all.within v s h in by_lt_z v start
+        (λ l. omega linear)
+        (λ m. greatest v (in_run v s m (omega linear) h));
+  }
 
 -- it leaves less
 pub leaves_less : (w : Bool) (low high start end : ℤ) → low <ℤ high → IsNextRun w low high start end
     → unsigned_abs ((if w then high else start) -ℤ (if w then end else low)) < unsigned_abs (high -ℤ low)
 leaves_less true low _ _ end h run = omega linear
 leaves_less false low high start end h run = omega linear
-
--- the first such second of the next run is the first of all, or the last one the last of all
-pub found_in_run : (w : Bool) (z : Zone) (from until low high start end u : ℤ) (t : LocalType) → SFits w64 u → AreWithin z from until low high
-    → IsNextRun w low high start end → HaveOneTypeFrom (TypeAt z) start end t → IsWithinRun start end (from -ℤ t.offset) (until -ℤ t.offset) u
-    → ((v : ℤ) → IsWithinRun start end (from -ℤ t.offset) (until -ℤ t.offset) v → Precedes w u v)
-    → IsEndWithin w (TypeAt z) from until u t
-found_in_run true z from _ low high _ end u t fits all run type is least = record {
-  shown = to_run z _ _ _ end u t fits (type u is.low is.high) is;
-  first = λ v s h. let (since, before) = all.within v s h in by_lt_z v end
-      (λ l. least v (in_run z _ _ _ end v s t type (omega linear) l h))
-      (λ m. omega linear);
-}
-found_in_run false z from until low high start end u t fits all run type is greatest = record {
-  shown = to_run z _ _ _ end u t fits (type u is.low is.high) is;
-  last = λ v s h. let (since, before) = all.within v s h in by_lt_z v start
-      (λ l. omega linear)
-      (λ m. greatest v (in_run z _ _ _ end v s t type m (omega linear) h));
-}
 
 -- ---- there is no other answer
 -- of two seconds none comes before the other
@@ -92,20 +89,13 @@ one_answer z from until (Some a) (Some b) h k =
 abbrev pub IsAllOf : Zone → ℤ → ℤ → LocalType → Type 0
 IsAllOf z low high t = (u : ℤ) → low ≤ℤ u → u <ℤ high → TypeAt z u t
 
--- a second that shows a local time of the stretch does so by that type
-by_type : (z : Zone) (from until greatest least u : ℤ) (s t : LocalType) → IsGreatest (offsets z.types z.rule) greatest → IsLeast (offsets z.types z.rule) least
-    → IsAllOf z (from -ℤ greatest) (until -ℤ least) t → ShowsWithin (TypeAt z) from until u s → ShowsWithin (TypeAt z) from until u t
-by_type z from until _ _ u s t g l all h =
-    let most = at_most_greatest z u _ s g h.type in let fewest = at_least_least z u _ s l h.type in
-    subst (ShowsWithin (TypeAt z) from until u) (type_once z u s t h.type (all u (omega linear) (omega linear))) h
-
 pub ordinary : (z : Zone) (from until greatest least : ℤ) (t : LocalType) (s : ShownSeconds) → SFits w64 (from -ℤ t.offset)
     → SFits w64 ((until -ℤ t.offset) -ℤ pos 1) → IsGreatest (offsets z.types z.rule) greatest → IsLeast (offsets z.types z.rule) least
     → IsAllOf z (from -ℤ greatest) (until -ℤ least) t → AreEndsWithin (TypeAt z) from until s
     → (s.first.at ≡ from -ℤ t.offset) × ((s.last.at +ℤ pos 1) ≡ until -ℤ t.offset)
 ordinary z from until _ _ t s fits fits_last g l all h =
-    let first = by_type z _ _ _ _ _ _ t g l all h.first.shown in
-    let last = by_type z _ _ _ _ _ _ t g l all h.last.shown in
+    let first = by_type _ _ h.first.shown in
+    let last = by_type _ _ h.last.shown in
     let most = at_most_greatest z _ _ t g first.type in let fewest = at_least_least z _ _ t l first.type in
     let since = first.since in let before = last.before in
     let low = h.first.first (from -ℤ t.offset) t
@@ -113,6 +103,12 @@ ordinary z from until _ _ t s fits fits_last g l all h =
     let high = h.last.last ((until -ℤ t.offset) -ℤ pos 1) t
     (record { fits = fits_last; type = all _ (omega linear) (omega linear); since = omega linear; before = omega linear }) in
     (omega linear, omega linear)
+  where
+    -- a second that shows a local time of the stretch does so by that type
+    by_type : (u : ℤ) (s : LocalType) → ShowsWithin (TypeAt z) from until u s → ShowsWithin (TypeAt z) from until u t
+    by_type u s h =
+        let most = at_most_greatest z u _ s g h.type in let fewest = at_least_least z u _ s l h.type in
+        subst (ShowsWithin (TypeAt z) from until u) (type_once z u s t h.type (all u (omega linear) (omega linear))) h
 
 -- ---- laws of the first second at or after a local time
 pub one_first : (z : Zone) (local u v : ℤ) (s t : LocalType) → IsFirstAtOrAfter (TypeAt z) local u s → IsFirstAtOrAfter (TypeAt z) local v t → (u ≡ v) × (s ≡ t)

@@ -1,17 +1,17 @@
 -- Spans: at each second between two that have a type there is one, and from the last change to the next one it is the same.
 use Rattle.tz_info.proofs.{
   ChangeSearch.{InForce, Typed, stays},
-  LastType.{last_is},
+  LastType.last_is,
   LeapEntries.{before_found, follow},
-  LeapOrder.{none_counted},
-  RuleChanges.{rule_second},
-  RuleLaws.{rule_year},
+  LeapOrder.none_counted,
+  RuleChanges.rule_second,
+  RuleLaws.rule_year,
   SegmentLaws.{come_at_time, come_by_time, segment_most, segments_rise},
-  Words.{Alternate as AlternateRule, AreLeapSeconds, Change, HasNoChange, IfSome, IsAlternateRefused, IsBeginBy, IsChange, IsEndBy, IsFirst, IsFirstChange},
-  Words.{IsFromLast, IsInSpan, IsLast, IsLastChange, IsLeapTime, IsOutOfForce, IsRefusedBy, IsRuleOrNone, IsRuleTime, IsSince, IsSpan, IsSpanAt, IsTypeRefused},
-  Words.{IsTyped, IsUnixTime, IsUntil, IsValid, LeapSecond, List, LocalType, None, Option, SFits, Some, Span, Transition, TransitionRule, TypeAt, Zone, ap},
-  Words.{arith, by_leap_time, by_lt_z, by_rule, cases_lt, correction_before, floor_div, inl, inr, last_transition, least_time, length, lies_in, linear, neg_ℤ},
-  Words.{option_map, pos, refl, segment_of, subst, sym, w64, year_of, ℤ, ◌-ℤ◌, ◌-◌, ◌<ℤ◌, ◌<◌, ◌∙◌, ◌≡◌, ◌≤ℤ◌, ◌⊎◌},
+  Words.{Alternate as AlternateRule, AreLeapSeconds, Change, HasNoChange, IfSome, IsAlternateRefused, IsBeginBy, IsChange, IsEndBy, IsFirst, IsFromLast},
+  Words.{IsInSpan, IsLast, IsLeapTime, IsOutOfForce, IsRefusedBy, IsRuleOrNone, IsRuleTime, IsSince, IsSpan, IsSpanAt, IsTypeRefused, IsTyped, IsUnixTime},
+  Words.{IsUntil, IsValid, LeapSecond, List, LocalType, None, Option, SFits, Some, Span, Transition, TransitionRule, TypeAt, Zone, ap, arith, by_leap_time},
+  Words.{by_lt_z, by_rule, cases_lt, correction_before, floor_div, inl, inr, last_transition, least_time, length, lies_in, linear, neg_ℤ, option_map, pos},
+  Words.{refl, segment_of, subst, sym, w64, year_of, ℤ, ◌-ℤ◌, ◌-◌, ◌<ℤ◌, ◌<◌, ◌∙◌, ◌≡◌, ◌≤ℤ◌, ◌⊎◌},
   ZoneChanges.{out_before, out_from, refused_on, time_of, to_rule},
   ZoneLaws.{inside_listed, type_decided, type_once},
 }
@@ -120,18 +120,6 @@ idle_until : (f : InForce) (u v : ℤ) (next : Option Change) → IsFirst f (λ 
 idle_until f u v None h until d is i = h d is i.0
 idle_until f u v (Some c) h until d is i = grind linear
 
-last_type : (z : Zone) (u : ℤ) (t : LocalType) (c : Change) → IsValid z → IsRuleOrNone z.rule → SFits w64 u → TypeAt z u t
-    → IsLastChange (TypeAt z) (λ v. v ≤ℤ u) c → c.after ≡ t
-last_type z u t c valid limits fits h last =
-    no_change z _ u _ t valid limits last.is.fits fits last.inside
-    (λ d is i. let l = last.nearest d is i.1 in omega linear) last.is.after h
-
-next_type : (z : Zone) (u : ℤ) (t : LocalType) (c : Change) → IsValid z → IsRuleOrNone z.rule → SFits w64 u → TypeAt z u t
-    → IsFirstChange (TypeAt z) (λ v. u <ℤ v) c → t ≡ c.before
-next_type z u t c valid limits fits h next =
-    no_change z u _ t _ valid limits fits next.is.fits_before (omega linear)
-    (λ d is i. let l = next.nearest d is i.0 in omega linear) h next.is.before
-
 -- ---- a span goes from the last change or the first second with a type to the next change or the last second with a type
 -- a second with a type, from which on the span's seconds come, and up to which they come
 record IsLow (z : Zone) (u : ℤ) (t : LocalType) (last : Option Change) (from : Option ℤ) : Type 0 where
@@ -148,56 +136,57 @@ record IsHigh (z : Zone) (u : ℤ) (t : LocalType) (next : Option Change) (until
   earlier : (v : ℤ) → SFits w64 v → IsUntil until v → (v ≤ℤ high) × IsUntil (seconds_of next) v
   ends : IfSome until (IsOutOfForce (TypeAt z) t)
 
-low_of : (z : Zone) (u : ℤ) (t : LocalType) (last : Option Change) (from : Option ℤ) → IsValid z → IsRuleOrNone z.rule → SFits w64 u → TypeAt z u t
-    → IsLast (TypeAt z) (λ v. v ≤ℤ u) last → IsBeginBy z last from → IsLow z u t last from
-low_of z u t None None valid limits fits h last k =
-    record { low = least_time; typed = k; since = tt; later = λ v f since. (omega linear, tt); begins = tt }
-low_of z u t None (Some x) valid limits fits h last k = record {
-  low = x;
-  typed = k.typed;
-  since = by_lt_z u x
-      (λ l. absurd (k.before (typed_between z u x _ t _ valid (omega linear) (omega linear) h k.typed.1 limits))) (λ m. m);
-  later = λ v f since. (since, tt);
-  begins = record { fits = k.fits; out = λ at. k.before (t, at) };
-}
-low_of z u t (Some c) from valid limits fits h last k = rw k (record {
-  low = c.at;
-  typed = (c.after, last.is.after);
-  since = last.inside;
-  later = λ v f since. (since, since);
-  begins = rw (last_type z u t c valid limits fits h last) at (out_before z c last.is);
-})
+-- a second with its type in a valid zone
+module _ (z : Zone) (u : ℤ) (t : LocalType) (valid : IsValid z) (limits : IsRuleOrNone z.rule) (fits : SFits w64 u) (h : TypeAt z u t) where
+  low_of : (last : Option Change) (from : Option ℤ) → IsLast (TypeAt z) (λ v. v ≤ℤ u) last → IsBeginBy z last from → IsLow z u t last from
+  low_of None None last k = record { low = least_time; typed = k; since = tt; later = λ v f since. (omega linear, tt); begins = tt }
+  low_of None (Some x) last k = record {
+    low = x;
+    typed = k.typed;
+    since = by_lt_z u x (λ l. absurd (k.before (typed_between z u x _ t _ valid (omega linear) (omega linear) h k.typed.1 limits))) (λ m. m);
+    later = λ v f since. (since, tt);
+    begins = record { fits = k.fits; out = λ at. k.before (t, at) };
+  }
+  low_of (Some c) from last k =
+      let same = no_change z _ u _ t valid limits last.is.fits fits last.inside
+      (λ d is i. let l = last.nearest d is i.1 in omega linear) last.is.after h in
+      rw k (record {
+        low = c.at;
+        typed = (c.after, last.is.after);
+        since = last.inside;
+        later = λ v f since. (since, since);
+        begins = rw same at (out_before z c last.is);
+      })
 
-high_of : (z : Zone) (u : ℤ) (t : LocalType) (next : Option Change) (until : Option ℤ) → IsValid z → IsRuleOrNone z.rule → SFits w64 u → TypeAt z u t
-    → IsFirst (TypeAt z) (λ v. u <ℤ v) next → IsEndBy z next until → IsHigh z u t next until
-high_of z u t None None valid limits fits h next k =
-    record { high = pos 9_223_372_036_854_775_807; typed = k; before = tt; earlier = λ v f until. (omega linear, tt); ends = tt }
-high_of z u t None (Some x) valid limits fits h next k = record {
-  high = x -ℤ pos 1;
-  typed = k.typed;
-  before = by_lt_z u x (λ l. l) (λ m. absurd (k.after (typed_between z _ u x _ t valid (omega linear) m k.typed.1 h limits)));
-  earlier = λ v f until. (omega linear, tt);
-  ends = record { fits = k.fits; out = λ at. k.after (t, at) };
-}
-high_of z u t (Some c) until valid limits fits h next k = rw k (record {
-  high = c.at -ℤ pos 1;
-  typed = (c.before, next.is.before);
-  before = next.inside;
-  earlier = λ v f until. (omega linear, until);
-  ends = rw (← next_type z u t c valid limits fits h next) at (out_from z c next.is);
-})
-
-abbrev span_of : LocalType → Option ℤ → Option ℤ → Span
-span_of t from until = record { local_time_type = t; from = from; until = until }
+  high_of : (next : Option Change) (until : Option ℤ) → IsFirst (TypeAt z) (λ v. u <ℤ v) next → IsEndBy z next until → IsHigh z u t next until
+  high_of None None next k =
+      record { high = pos 9_223_372_036_854_775_807; typed = k; before = tt; earlier = λ v f until. (omega linear, tt); ends = tt }
+  high_of None (Some x) next k = record {
+    high = x -ℤ pos 1;
+    typed = k.typed;
+    before = by_lt_z u x (λ l. l) (λ m. absurd (k.after (typed_between z _ u x _ t valid (omega linear) m k.typed.1 h limits)));
+    earlier = λ v f until. (omega linear, tt);
+    ends = record { fits = k.fits; out = λ at. k.after (t, at) };
+  }
+  high_of (Some c) until next k =
+      let same = no_change z u _ t _ valid limits fits next.is.fits_before (omega linear)
+      (λ d is i. let l = next.nearest d is i.0 in omega linear) h next.is.before in
+      rw k (record {
+        high = c.at -ℤ pos 1;
+        typed = (c.before, next.is.before);
+        before = next.inside;
+        earlier = λ v f until. (omega linear, until);
+        ends = rw (← same) at (out_from z c next.is);
+      })
 
 pub span_between : (z : Zone) (u : ℤ) (t : LocalType) (last next : Option Change) (from until : Option ℤ) → IsValid z → IsRuleOrNone z.rule → SFits w64 u
     → TypeAt z u t
     → IsLast (TypeAt z) (λ v. v ≤ℤ u) last → IsFirst (TypeAt z) (λ v. u <ℤ v) next → IsBeginBy z last from → IsEndBy z next until
     → IsSpanAt (TypeAt z) u (record { local_time_type = t; from = from; until = until })
 span_between z u t _ _ from until valid limits fits h before after begin end =
-    let low = low_of z u t _ _ valid limits fits h before begin in
-    let high = high_of z u t _ _ valid limits fits h after end in
-    let inside : IsInSpan (span_of t from until) u = record { fits = fits; since = low.since; until = high.before } in record {
+    let low = low_of z u t valid limits fits h _ _ before begin in
+    let high = high_of z u t valid limits fits h _ _ after end in
+    let inside : IsInSpan (record { local_time_type = t; from = from; until = until }) u = record { fits = fits; since = low.since; until = high.before } in record {
       in_force_then = h;
       inside = inside;
       span = record {
@@ -222,12 +211,6 @@ since_more (Some from) u v h l = omega linear
 pub until_less : (until : Option ℤ) (u v : ℤ) → IsUntil until v → u ≤ℤ v → IsUntil until u
 until_less None u v h l = tt
 until_less (Some until) u v h l = omega linear
-
-same_parts : (s t : LocalType) (p q x y : Option ℤ) → s ≡ t → p ≡ q → x ≡ y → span_of s p x ≡ span_of t q y
-same_parts s t p q x y e f g = cc
-
-same_span : (a b : Span) → a.local_time_type ≡ b.local_time_type → a.from ≡ b.from → a.until ≡ b.until → a ≡ b
-same_span a b e f g = same_parts _ _ _ _ _ _ e f g
 
 -- between two seconds of a span no change comes
 pub no_change_within : (z : Zone) (s : Span) (d : Change) → IsSpan (TypeAt z) s → IsInSpan s (d.at -ℤ pos 1) → IsInSpan s d.at → IsChange (TypeAt z) d → ⊥
@@ -254,26 +237,21 @@ same_begin : (p q : Option ℤ) → ((x : ℤ) → p ≡ Some x → IsSince q (x
 same_begin None None h k = refl
 same_begin None (Some y) h k = absurd (k y refl tt)
 same_begin (Some x) None h k = absurd (h x refl tt)
-same_begin (Some x) (Some y) h k =
-    let l = by_lt_z y x (λ l. absurd (h x refl (omega linear))) (λ m. m) in
-    let m : y ≤ℤ x = by_lt_z x y (λ l. absurd (k y refl (omega linear))) (λ m. m) in
-    ap Some (omega linear)
+same_begin (Some x) (Some y) h k = ap Some (by_lt_z y x (λ l. absurd (h x refl (omega linear)))
+    (λ m. by_lt_z x y (λ l. absurd (k y refl (omega linear))) (λ n. omega linear)))
 
 same_end : (p q : Option ℤ) → ((x : ℤ) → p ≡ Some x → IsUntil q x → ⊥) → ((x : ℤ) → q ≡ Some x → IsUntil p x → ⊥) → p ≡ q
 same_end None None h k = refl
 same_end None (Some y) h k = absurd (k y refl tt)
 same_end (Some x) None h k = absurd (h x refl tt)
-same_end (Some x) (Some y) h k =
-    let l = by_lt_z x y (λ l. absurd (h x refl l)) (λ m. m) in
-    let m : x ≤ℤ y = by_lt_z y x (λ l. absurd (k y refl l)) (λ m. m) in
-    ap Some (omega linear)
+same_end (Some x) (Some y) h k = ap Some (by_lt_z x y (λ l. absurd (h x refl l)) (λ m. by_lt_z y x (λ l. absurd (k y refl l)) (λ n. omega linear)))
 
 pub span_once : (z : Zone) (a b : Span) (u : ℤ) → IsSpan (TypeAt z) a → IsSpan (TypeAt z) b → IsInSpan a u → IsInSpan b u → a ≡ b
 span_once z a b u h k i j =
     let same = type_once z u _ _ (h.each u i) (k.each u j) in
-    same_span a b same
-    (same_begin _ _ (λ x. begin_outside z a b u x same h k i j) (λ x. begin_outside z b a u x (sym same) k h j i))
-    (same_end _ _ (λ x. end_outside z a b u x same h k i j) (λ x. end_outside z b a u x (sym same) k h j i))
+    let from = same_begin _ _ (λ x. begin_outside z a b u x same h k i j) (λ x. begin_outside z b a u x (sym same) k h j i) in
+    let until = same_end _ _ (λ x. end_outside z a b u x same h k i j) (λ x. end_outside z b a u x (sym same) k h j i) in
+    λ n. record { local_time_type = same n; from = from n; until = until n }
 
 -- ---- at an end of a span clocks change, if the zone has a type beyond it
 pub begin_changes : (z : Zone) (s : Span) (u : ℤ) (t : LocalType) → IsSpan (TypeAt z) s → s.from ≡ Some u → TypeAt z (u -ℤ pos 1) t

@@ -2,17 +2,20 @@
 use Rattle.offset_core.specs.declared.local_result.LocalResult.TheVariants.{None as Never}
 use Rattle.tz_info.proofs.{
   AnswerLaws.{Parts, behind_answer, same_answer},
-  Candidates.{offset_of_rule},
+  Candidates.offset_of_rule,
   ExtremeLaws.{at_least_least, at_most_greatest},
   SegmentLaws.{between_of, later_segment, segment_at, segment_here, segment_is, segments_rise, type_from, type_in_from, within_of},
-  TableSearch.{Between},
+  TableSearch.Between,
   WallSegments.{leap_time_of, near_of, offset_here, rule_begun, type_of_table},
   Words.{AreRising, AreUtOffsets, Bool, Counts, IsNear, IsShownIn, IsStart, IsTried, IsValid, IsWallAnswer, IsWide, IsWindow, List, LocalResult, LocalType},
   Words.{None, Option, RoseByWalk, RoseWithin, RuleAt, Shows, Some, Transition, TransitionRule, TypeAt, TypeFrom, Zone, [], ap, arith, begin_of, cases_lt},
-  Words.{come_between, digits, filter, get_or, get_or_default, index_of, inl, inr, least_time, length, linear, reads_more, refl, segment_of, suc, sym},
-  Words.{table_count, true, zero, ℕ, ℤ, ⊎_elim, ◌+ℤ◌, ◌+◌, ◌-ℤ◌, ◌<ℤ◌, ◌<◌, ◌∙◌, ◌∷◌, ◌≡◌, ◌≤ℤ◌, ◌≤◌, ◌⊎◌},
+  Words.{come_between, digits, digits-le, filter, get_or, get_or_default, index_of, inl, inr, least_time, length, linear, reads_more, refl, segment_of, suc},
+  Words.{sym, table_count, true, zero, ℕ, ℤ, ⊎_elim, ◌+ℤ◌, ◌+◌, ◌-ℤ◌, ◌<ℤ◌, ◌<◌, ◌∙◌, ◌∷◌, ◌≡◌, ◌≤ℤ◌, ◌≤◌, ◌⊎◌},
 }
 use Rattle.tz_info.specs.Steps.Walk.{IsTimeWithin}
+
+-- a number has fewer digits than a list can have items
+pub ruleset room = digits-le
 
 -- ---- one segment more
 -- the next transition comes at `until`, or there is no next one
@@ -93,29 +96,29 @@ with_rule z rule _ l valid is begun wide offsets = record {
   near u t k e = let n = near_of l _ wide (offsets _ (offset_of_rule _ u t k)) in let g : l -ℤ t.offset ≡ u = omega linear in rw g at n
 
 -- ---- nothing lies outside
-pub none_before : (z : Zone) (l low high : ℤ) (n : ℕ) → IsValid z → IsWindow z l low high → Between z.transitions low n n → IsWallAnswer (IsShownIn z l n) Never
-none_before z l low _ n valid w b = λ u t k.
-    let o = at_most_greatest z u _ t w.is_greatest k.shows.type in
-    let g : (l -ℤ w.greatest) ≤ℤ u = omega linear in
-    let r = segments_rise z _ u valid.transitions.rising valid.leaps g in
-    let e = segment_is z _ n (rw w.is_low.sum at b) in grind arith
+-- a local time's window
+module _ (z : Zone) (l low high : ℤ) (n : ℕ) (valid : IsValid z) (w : IsWindow z l low high) where
+  pub none_before : Between z.transitions low n n → IsWallAnswer (IsShownIn z l n) Never
+  none_before b = λ u t k.
+      let o = at_most_greatest z u _ t w.is_greatest k.shows.type in
+      let g : (l -ℤ w.greatest) ≤ℤ u = omega linear in
+      let r = segments_rise z _ u valid.transitions.rising valid.leaps g in
+      let e = segment_is z _ n (rw w.is_low.sum at b) in grind arith
 
--- a second that shows the local time by the least offset or a greater one lies at or before a transition's segment that comes after the window
-pub window_most : (z : Zone) (l low high : ℤ) (n : ℕ) (d : Transition) (u o : ℤ) → IsValid z → (w : IsWindow z l low high) → n < length z.transitions
-    → high <ℤ (get_or z.transitions n d).unix_leap_time → w.least ≤ℤ o → u +ℤ o ≡ l → segment_of z u ≤ n
-window_most z l low _ n d u o valid w h later least e =
-    let r = segments_rise z u (l -ℤ w.least) valid.transitions.rising valid.leaps (omega linear) in grind (arith, segment_here)
+  -- a transition that comes after the window
+  module _ (d : Transition) (within : n < length z.transitions) (later : high <ℤ (get_or z.transitions n d).unix_leap_time) where
+    -- a second that shows the local time by the least offset or a greater one lies at or before its segment
+    pub window_most : (u o : ℤ) → w.least ≤ℤ o → u +ℤ o ≡ l → segment_of z u ≤ n
+    window_most u o least e =
+        let r = segments_rise z u (l -ℤ w.least) valid.transitions.rising valid.leaps (omega linear) in grind (arith, segment_here)
 
-pub none_behind : (z : Zone) (l low high : ℤ) (n : ℕ) (d : Transition) (answer : LocalResult LocalType) → IsValid z → IsWindow z l low high
-    → n < length z.transitions → high <ℤ (get_or z.transitions n d).unix_leap_time → IsWallAnswer (IsShownIn z l (n + 1)) answer
-    → IsWallAnswer (Shows (TypeAt z) l) answer
-none_behind z l low _ n d _ valid w h later s = same_answer _ _ _ (λ u t k. k.shows)
-    (λ u t k. record {
-      shows = k;
-      from = omega arith;
-      below = let most = window_most z l low _ n d u _ valid w h later
-          (at_least_least z u _ t w.is_least k.type) k.shown in omega arith;
-    }) s
+    pub none_behind : (answer : LocalResult LocalType) → IsWallAnswer (IsShownIn z l (n + 1)) answer → IsWallAnswer (Shows (TypeAt z) l) answer
+    none_behind _ s = same_answer _ _ _ (λ u t k. k.shows)
+        (λ u t k. record {
+          shows = k;
+          from = omega arith;
+          below = let most = window_most u _ (at_least_least z u _ t w.is_least k.type) k.shown in omega arith;
+        }) s
 
 window_least : {X : Type 0} (p : X → Bool) (xs : List X) (a b : ℕ) → b ≤ length xs → ((k : ℕ) (d : X) → a ≤ k → k < b → p (get_or xs k d) ≡ true)
     → b ≤ a + length (filter p xs)
@@ -168,14 +171,6 @@ rose_by_walk z l low high _ _ n a b c window split within w one r =
     record {
       window = length (come_between z.transitions low high);
       counted = record { low = low; high = high; window = window; count = refl };
-      most =
-          record {
-            reads_kept = omega arith;
-            reads_most = omega arith;
-            questions_kept = omega arith;
-            questions_most = omega arith;
-            pieces_same = r.pieces_same
-                ∙ w.pieces;
-          };
+      most = grind linear;
       least = λ h. omega arith;
     }

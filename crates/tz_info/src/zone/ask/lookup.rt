@@ -210,6 +210,7 @@ impl TimeZone {
     }
 
     // The leap time of a second that is near enough to have one.
+    #[tactic(auto, using(crate::proofs::LeapOrder::leap_times_answer))]
     pub(super) fn leap_time_near(&self, second: i64) -> i64
         requires { IsNear second }
         ensures { IsLeapTime self.now.leaps second result }
@@ -221,6 +222,7 @@ impl TimeZone {
     }
 
     // How many transitions come at or before the leap time.
+    #[tactic(auto, using(crate::proofs::WalkLaws::room))]
     pub(in crate::zone) fn passed_count(&self, leap_time: i64, probes: &mut Probes) -> usize
         requires { HasRoomFor (2 ^ 64) probes.old.reads }
         ensures within { result ≤ length self.now.transitions }

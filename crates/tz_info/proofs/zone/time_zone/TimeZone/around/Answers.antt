@@ -1,7 +1,10 @@
-use Rattle.tz_info.proofs.{Fits.fits, TableLaws.{gap_by_index, reach_of, rose_by_wall}}
-use Rattle.tz_info.proofs.Words.{HasReach, IsRuleOrNone, IsShownAmong, SFits, ap, arith, length, rules, top_of, w32, ◌≡◌}
+use Rattle.tz_info.proofs.{
+  Fits.fits,
+  TableLaws.{gap_by_index, reach_of, rose_by_wall},
+  Words.{IsShownAmong, SFits, ap, arith, length, rules, top_of, w32, ◌≡◌},
+  zone.time_zone.TimeZone.around.Goals.{After-answer-shown, After-answer_behind-season},
+}
 use Rattle.tz_info.specs.{Looks.RoseByWallClock, Steps.Entries.AreEntries}
-use Rattle.tz_info.proofs.zone.time_zone.TimeZone.around.Goals.{After-answer-shown, After-answer_behind-season}
 use Rattle.tz_info.proofs.zone.time_zone.TimeZone.around.Goals as goal
 
 -- what the index says, and the zone's entries
@@ -33,15 +36,10 @@ gap_at-requires-clause-jump c =
     let d = (goal.at.gap_at-requires-clause-jump c).After-answer-shown in
     let fg : SFits w32 c.self.inside.extremes.greatest = search rules in
     let fh : SFits w32 c.self.inside.extremes.least = search rules in
-    let reach : HasReach c.args.self.now c.args.local =
-    reach_of _ _ _ c.requires.local fg fh (rw (← c.self.view_is) c.self.invariant.extremes) in
-    let limits : IsRuleOrNone c.args.self.now.rule = rw (← c.self.view_is) c.self.invariant.limits in
-    simp fits (gap_by_index _ _ _ reach.0 reach.1 _ _ (rw c.self.view_is at c.self.invariant.valid) limits
-    (entries d) (rw c.in-None.is at (simp fits at c.answer_behind-season.ensures.found)) reach.2 (said d) (rw (
-      c.deref.ensures.value,
-      ap
-          (λ z. z.types) c.self.view_is,
-    ) at c.jump-jump.ensures.jump))
+    let reach = reach_of _ _ _ c.requires.local fg fh (rw (← c.self.view_is) c.self.invariant.extremes) in
+    simp fits (gap_by_index _ _ _ reach.0 reach.1 _ _ (rw c.self.view_is at c.self.invariant.valid) (rw (← c.self.view_is) c.self.invariant.limits)
+    (entries d) (rw c.in-None.is at (simp fits at c.answer_behind-season.ensures.found)) reach.2 (said d)
+    (rw (c.deref.ensures.value, ap (λ z. z.types) c.self.view_is) at c.jump-jump.ensures.jump))
 
 -- one search, and questions to the rule
 cost : (c : After-answer_behind-season) → RoseByWallClock c.args.self.now c.args.probes.now c.answer_behind-season.new.probes
@@ -50,18 +48,19 @@ cost c =
     rose_by_wall _ _ _ _ _ (omega arith) c.answer-shown.ensures.cost
     (λ some. c.answer-shown.ensures.looked (c.self.invariant.index.some (omega arith))) c.answer_behind-season.ensures.cost
 
-pub returns-in-None-clause-cost : goal.returns-in-None-clause-cost
-returns-in-None-clause-cost c = (_, cost (goal.at.returns-in-None-clause-cost c).After-answer_behind-season, c.jump-jump.ensures.cost)
+pub returns-in-None : goal.returns-in-None
+returns-in-None c =
+    let fl = c.ranges.local in
+    let same : c.answer-shown.new.probes.rule_questions ≡ c.args.probes.now.rule_questions = omega arith in
+    let after : c.jump-jump.new.probes.rule_questions ≡ c.answer_behind-season.new.probes.rule_questions = omega arith in
+    record {
+      found = search rules;
+      cost = (_, cost (goal.at.returns-in-None c).After-answer_behind-season, c.jump-jump.ensures.cost);
+      questions = rw after (rw same at (simp fits at c.answer_behind-season.ensures.counted));
+    }
 
 pub returns-in-Single-clause-cost : goal.returns-in-Single-clause-cost
 returns-in-Single-clause-cost c = (_, cost (goal.at.returns-in-Single-clause-cost c).After-answer_behind-season, search arith)
 
 pub returns-in-Ambiguous-clause-cost : goal.returns-in-Ambiguous-clause-cost
 returns-in-Ambiguous-clause-cost c = (_, cost (goal.at.returns-in-Ambiguous-clause-cost c).After-answer_behind-season, search arith)
-
-pub returns-in-None-clause-questions : goal.returns-in-None-clause-questions
-returns-in-None-clause-questions c =
-    let fl = c.ranges.local in
-    let same : c.answer-shown.new.probes.rule_questions ≡ c.args.probes.now.rule_questions = omega arith in
-    let after : c.jump-jump.new.probes.rule_questions ≡ c.answer_behind-season.new.probes.rule_questions = omega arith in
-    rw after (rw same at (simp fits at c.answer_behind-season.ensures.counted))

@@ -1,5 +1,9 @@
-use Rattle.tz_info.proofs.{ChangeSearch.{change_made, none_before, none_here}, Fits.fits, ZoneLaws.{type_not_refused, type_once}}
-use Rattle.tz_info.proofs.Words.{SFits, TypeAt, change_held, option_map, w64}
+use Rattle.tz_info.proofs.{
+  ChangeSearch.{change_made, none_before, none_here},
+  Fits.fits,
+  Words.{SFits, TypeAt, change_held, option_map, w64},
+  ZoneLaws.{type_not_refused, type_once},
+}
 use Rattle.tz_info.proofs.zone.time_zone.TimeZone.change_at.Goals as goal
 
 pub returns-in_default : goal.returns-in_default

@@ -1,58 +1,55 @@
-use Rattle.tz_info.proofs.{FoldLaws.{begins, begins_at, fold_at, goes_back}, Words.{SFits, by_lt_z, linear, pos, rules, to_z-of_z, w64, ◌+ℤ◌, ◌-ℤ◌, ◌<ℤ◌, ◌≤ℤ◌}}
+use Rattle.tz_info.proofs.{
+  Fits.fits,
+  FoldLaws.{begins, begins_at, fold_at, goes_back},
+  Words.{SFits, by_lt_z, linear, pos, rules, to_z, w64, ◌+ℤ◌, ◌-ℤ◌, ◌<ℤ◌, ◌≤ℤ◌},
+  zone.time_zone.TimeZone.change_back.Goals.{In-Some},
+}
 use Rattle.tz_info.proofs.zone.time_zone.TimeZone.change_back.Goals as goal
-use Rattle.tz_info.proofs.zone.time_zone.TimeZone.change_back.Goals.{After-has_reached}
 
 pub unreachable-requires : goal.unreachable-requires
 unreachable-requires c =
     let fl = c.ranges.local in let ff = c.ranges.first in let fe = c.ranges.last in
     begins _ _ _ _ _ _ c.requires.ends
-    (simp to_z-of_z at c.loop-at.invariant)
+    (simp fits at c.loop-at.invariant)
     c.near_span_at-span.ensures c.in_default.is
 
-pub type_at-before-requires : goal.type_at-before-requires
-type_at-before-requires c =
-    let fl = c.ranges.local in let ff = c.ranges.first in let fe = c.ranges.last in
-    let fa : SFits w64 c.in-Some.at = search rules in
-    let back = simp to_z-of_z at c.loop-at.invariant in
-    let begun = begins_at _ _ _ _ _ _ c.requires.ends back c.near_span_at-span.ensures
-    _ c.in-Some.is in
-    simp to_z-of_z (omega linear, omega linear)
-
 -- the second before the change, and that its type and its place are those of the code
-before : (c : After-has_reached)
+before : (c : In-Some)
     → SFits w64 c.args.local × SFits w64 c.args.first × SFits w64 c.args.last × SFits w64 c.in-Some.at × SFits w64 (c.in-Some.at -ℤ pos 1)
-    × (c.args.first <ℤ c.in-Some.at) × (c.in-Some.at ≤ℤ c.args.last)
+    × (c.args.first <ℤ c.in-Some.at) × (c.in-Some.at ≤ℤ to_z w64 c.loop-at.end-bits)
 before c =
     let fl = c.ranges.local in let ff = c.ranges.first in let fe = c.ranges.last in
     let fa : SFits w64 c.in-Some.at = search rules in
-    let back = simp to_z-of_z at c.loop-at.invariant in
+    let back = simp fits at c.loop-at.invariant in
     let begun = begins_at _ _ _ _ _ _ c.requires.ends back c.near_span_at-span.ensures
     _ c.in-Some.is in
-    (fl, ff, fe, fa, omega linear, begun.0, omega linear)
+    (fl, ff, fe, fa, omega linear, begun.0, begun.1)
+
+pub type_at-before-requires : goal.type_at-before-requires
+type_at-before-requires c =
+    let (fl, ff, fe, fa, fb, later, most) = before (goal.at.type_at-before-requires c).In-Some in
+    simp fits (omega linear, omega linear)
 
 pub returns-then-has_reached : goal.returns-then-has_reached
 returns-then-has_reached c =
-    let (fl, ff, fe, fa, fb, later, most) = before (goal.at.returns-then-has_reached c).After-has_reached in
-    let reached = simp to_z-of_z at (c.has_reached.ensures.0 c.if-has_reached.true) in
-    simp to_z-of_z (fold_at _ _ _ _ _ _ _
+    let (fl, ff, fe, fa, fb, later, most) = before (goal.at.returns-then-has_reached c).In-Some in
+    let reached = simp fits at (c.has_reached.ensures.0 c.if-has_reached.true) in
+    simp fits (fold_at _ _ _ _ _ _ _
     _
-    c.requires.ends (simp to_z-of_z at c.loop-at.invariant) c.near_span_at-span.ensures c.requires.near_first c.requires.near_last c.in-Some.is
-    (simp to_z-of_z at c.type_at-before.ensures) reached)
+    c.requires.ends (simp fits at c.loop-at.invariant) c.near_span_at-span.ensures c.requires.near_first c.requires.near_last c.in-Some.is
+    (simp fits at c.type_at-before.ensures) reached)
 
 pub loop-at-smaller : goal.loop-at-smaller
 loop-at-smaller c =
-    let (fl, ff, fe, fa, fb, later, most) = before (goal.at.loop-at-smaller c).After-has_reached in
-    let back = simp to_z-of_z at c.loop-at.invariant in
-    let begun = begins_at _ _ _ _ _ _ c.requires.ends back c.near_span_at-span.ensures
-    _ c.in-Some.is in
-    simp to_z-of_z (omega linear)
+    let (fl, ff, fe, fa, fb, later, most) = before (goal.at.loop-at-smaller c).In-Some in
+    simp fits (omega linear)
 
 pub loop-at-preserved : goal.loop-at-preserved
 loop-at-preserved c =
-    let (fl, ff, fe, fa, fb, later, most) = before (goal.at.loop-at-preserved c).After-has_reached in
+    let (fl, ff, fe, fa, fb, later, most) = before (goal.at.loop-at-preserved c).In-Some in
     let less = by_lt_z ((c.in-Some.at -ℤ pos 1) +ℤ c.type_at-before.result.now.offset) c.args.local (λ l. l)
-    (λ m. let t = (simp to_z-of_z at c.has_reached.ensures).1 m in cc) in
-    simp to_z-of_z (goes_back _ _ _ _ _ _ _
+    (λ m. let t = (simp fits at c.has_reached.ensures).1 m in cc) in
+    simp fits (goes_back _ _ _ _ _ _ _
     _
-    c.requires.ends (simp to_z-of_z at c.loop-at.invariant) c.near_span_at-span.ensures c.requires.near_first c.requires.near_last c.in-Some.is
-    (simp to_z-of_z at c.type_at-before.ensures) less)
+    c.requires.ends (simp fits at c.loop-at.invariant) c.near_span_at-span.ensures c.requires.near_first c.requires.near_last c.in-Some.is
+    (simp fits at c.type_at-before.ensures) less)

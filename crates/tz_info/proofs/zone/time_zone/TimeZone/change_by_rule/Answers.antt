@@ -1,4 +1,4 @@
-use Rattle.tz_info.proofs.{ZoneChanges.{none_begun, rule_found, steady}, Words.{SFits, arith, change_held, ints, option_map, rules, to_z-of_z, w128, w64}}
+use Rattle.tz_info.proofs.{Words.{SFits, arith, change_held, ints, option_map, rules, to_z-of_z, w128, w64}, ZoneChanges.{none_begun, rule_found, steady}}
 use Rattle.tz_info.proofs.zone.time_zone.TimeZone.change_by_rule.Goals as goal
 
 pub returns-in_err-turns : goal.returns-in_err-turns

@@ -1,6 +1,9 @@
-use Rattle.tz_info.proofs.{Fits.fits, ShownSecondLaws.{found_in_run, goes_on, leaves_less, none_left}}
-use Rattle.tz_info.proofs.Words.{SFits, arith, ints, rules, to_z-of_z, w64, ◌-ℤ◌, ◌≡◌}
-use Rattle.tz_info.proofs.zone.time_zone.TimeZone.end_within.Goals.{After-second_showing-before}
+use Rattle.tz_info.proofs.{
+  Fits.fits,
+  ShownSecondLaws.{found_in_run, goes_on, leaves_less, none_left},
+  Words.{SFits, arith, ints, rules, to_z-of_z, w64, ◌-ℤ◌, ◌≡◌},
+  zone.time_zone.TimeZone.end_within.Goals.{After-second_showing-before},
+}
 use Rattle.tz_info.proofs.zone.time_zone.TimeZone.end_within.Goals as goal
 
 -- the seconds between which a clock of the run's type shows a local time of the stretch
@@ -19,25 +22,22 @@ between c =
 
 pub loop-left-smaller : goal.loop-left-smaller
 loop-left-smaller c =
-    let l = c.loop-left.left in
     rw (c.without-left.ensures.low, c.without-left.ensures.high) (leaves_less _ _ _ _ _ (omega (arith, ints)) c.next_run.ensures.run)
 
 pub loop-left-preserved : goal.loop-left-preserved
 loop-left-preserved c =
     let (ff, fu, fs, fb, since, before) = between (goal.at.loop-left-preserved c).After-second_showing-before in
-    let l = c.loop-left.left in let run = c.next_run.result.0 in
     let none = rw (since, before) at (simp fits at c.in_default.ensures) in
-    simp fits (rw (c.without-left.ensures.low, c.without-left.ensures.high) (goes_on _ _ _ _ _ _
-    _ _ _ (simp fits at c.loop-left.invariant) c.next_run.ensures.run c.next_run.ensures.one_type none))
+    simp fits (rw (c.without-left.ensures.low, c.without-left.ensures.high) (goes_on _ _ _ _ _ _ _ _
+    (simp fits at c.loop-left.invariant) c.next_run.ensures.one_type _ c.next_run.ensures.run none))
 
 pub returns-in-Some : goal.returns-in-Some
 returns-in-Some c =
     let (ff, fu, fs, fb, since, before) = between (goal.at.returns-in-Some c).After-second_showing-before in
-    let l = c.loop-left.left in let run = c.next_run.result.0 in
     let fi : SFits w64 c.in-Some.at = search rules in
     let found = rw (since, before) at (simp fits at c.in-Some.ensures) in
-    simp fits (found_in_run _ _ _ _ _ _ _ _ _ _ fi
-    (simp fits at c.loop-left.invariant) c.next_run.ensures.run c.next_run.ensures.one_type found.0 found.1)
+    simp fits (found_in_run _ _ _ _ _ _ _ _
+    (simp fits at c.loop-left.invariant) c.next_run.ensures.one_type _ _ fi c.next_run.ensures.run found.0 found.1)
 
 pub returns : goal.returns
 returns c = grind (arith, ints, to_z-of_z, none_left)

@@ -1,30 +1,34 @@
-use Rattle.tz_info.proofs.{Fits.fits, PassedTransitions.{with_transitions, without_transitions}, QuestionLaws.{asked_at_time, asked_without}}
-use Rattle.tz_info.proofs.Words.{arith, by_leap_time, refl, ◌≡◌}
+use Rattle.tz_info.proofs.{
+  Fits.fits,
+  PassedTransitions.{with_transitions, without_transitions},
+  QuestionLaws.{asked_at_time, asked_without},
+  Words.{arith, by_leap_time, refl, rules, ◌≡◌},
+}
 use Rattle.tz_info.proofs.zone.time_zone.TimeZone.find_local_time_type_counted.Goals as goal
 
-pub returns-then-has_no_transition-clause-found : goal.returns-then-has_no_transition-clause-found
-returns-then-has_no_transition-clause-found c =
+pub returns-then-has_no_transition : goal.returns-then-has_no_transition
+returns-then-has_no_transition c =
     let fu = c.ranges.unix_time in
-    without_transitions (λ t. t.now) _ _ _
-    (c.has_no_transition.ensures.0 c.if-has_no_transition.true) (simp fits at c.rule_or_type.ensures.found)
+    let none = c.has_no_transition.ensures.0 c.if-has_no_transition.true in
+    let e = c.rule_or_type.ensures in
+    record {
+      found = without_transitions (λ t. t.now) _ _ _ none (simp fits at e.found);
+      cost = search rules;
+      looked = search rules;
+      questions = asked_without _ _ _ _ none e.asked e.unasked;
+    }
 
-pub returns-then-has_no_transition-clause-questions : goal.returns-then-has_no_transition-clause-questions
-returns-then-has_no_transition-clause-questions c =
-    asked_without _ _ _ _
-    (c.has_no_transition.ensures.0 c.if-has_no_transition.true) c.rule_or_type.ensures.asked c.rule_or_type.ensures.unasked
-
-pub returns-in-Some-clause-found : goal.returns-in-Some-clause-found
-returns-in-Some-clause-found c =
+pub returns-in-Some : goal.returns-in-Some
+returns-in-Some c =
     let fu = c.ranges.unix_time in
-    with_transitions (λ t. t.now) _ _ _ _ (simp fits at c.in-Some.ensures.come).of_second
-    (simp fits at c.type_after.ensures.found)
-
-pub returns-in-Some-clause-questions : goal.returns-in-Some-clause-questions
-returns-in-Some-clause-questions c =
-    let fu = c.ranges.unix_time in
-    let cost = c.come_at.ensures.cost in
-    let same : c.come_at.new.probes.rule_questions ≡ c.args.probes.now.rule_questions = omega arith in
-    asked_at_time _ _ _ _ _ (λ _. (simp fits at c.in-Some.ensures.come).of_second) (rw same at (simp fits at c.type_after.ensures.counted))
+    let time = (simp fits at c.in-Some.ensures.come).of_second in
+    let same : c.come_at.new.probes.rule_questions ≡ c.args.probes.now.rule_questions = let cost = c.come_at.ensures.cost in omega arith in
+    record {
+      found = with_transitions (λ t. t.now) _ _ _ _ time (simp fits at c.type_after.ensures.found);
+      cost = search rules;
+      looked = search rules;
+      questions = asked_at_time _ _ _ _ _ (λ _. time) (rw same at (simp fits at c.type_after.ensures.counted));
+    }
 
 pub returns-in-None-clause-found : goal.returns-in-None-clause-found
 returns-in-None-clause-found c =

@@ -1,13 +1,14 @@
 use Rattle.tz_info.proofs.{
-  DigitLaws.{digits-less},
+  DigitLaws.digits-less,
   EntryChanges.{rose_less, rose_then},
-  RuleSegments.{first_by_rule},
+  Fits.fits,
+  RuleSegments.first_by_rule,
   SegmentEndLaws.{begun_near, first_there},
   TableLaws.{reach_of, table_of, top_least},
-  Words.{HasReach, IsRuleOrNone, IsValid, SFits, Zone, ap, arith, cases_eq, digits, digits-more, inl, inr, rules, to_z-of_z, w32, w64, ℕ, ◌*◌, ◌+◌, ◌<◌, ◌≤◌},
+  Words.{HasReach, IsRuleOrNone, IsValid, SFits, Zone, ap, arith, cases_eq, digits, digits-more, inl, inr, linear, rules, w32, w64, ℕ, ◌*◌, ◌+◌, ◌<◌, ◌≤◌},
   zone.time_zone.TimeZone.first_at_or_after.Goals.{After-first_reaching-place},
 }
-use Rattle.tz_info.specs.Steps.{Entries.{AreEntries}, SegmentEnds.{IsFirstSegment}}
+use Rattle.tz_info.specs.{Steps.Entries.AreEntries, Steps.SegmentEnds.IsFirstSegment}
 use Rattle.tz_info.proofs.zone.time_zone.TimeZone.first_at_or_after.Goals as goal
 
 -- the zone's entries, and the first segment that ends later
@@ -26,24 +27,30 @@ reach c =
 first : (c : After-first_reaching-place) → IsFirstSegment c.args.self.now.types c.self.inside.changes.items c.args.local c.first_reaching-place.result
 first c =
     let fl = c.ranges.local in
-    rw (c.deref.ensures.value, ap (λ z. z.types) c.self.view_is) at (simp to_z-of_z at c.first_reaching-place.ensures.first)
+    rw (c.deref.ensures.value, ap (λ z. z.types) c.self.view_is) at (simp fits at c.first_reaching-place.ensures.first)
 
 -- the probes of the search are fewer than the bound, if there is an entry
 fewer : (n m : ℕ) → n ≤ m → digits n ≤ 2 * digits m × (0 < n → digits n + 1 ≤ 2 * digits m)
 fewer n m few =
     let more = digits-more n m few in (omega arith, λ some. let less = digits-less 0 n some (omega arith) in omega arith)
 
-pub returns-in_default-clause-found : goal.returns-in_default-clause-found
-returns-in_default-clause-found c =
-    let d = (goal.at.returns-in_default-clause-found c).After-first_reaching-place in
+pub returns-in_default : goal.returns-in_default
+returns-in_default c =
+    let d = (goal.at.returns-in_default c).After-first_reaching-place in
     let fl = c.ranges.local in
     let z = c.args.self.now in
     let limits : IsRuleOrNone z.rule = rw (← c.self.view_is) c.self.invariant.limits in
     let own = rw (ap (λ (z : Zone). z.rule) c.self.view_is) at c.in_default.ensures in
-    let is = rw (c.deref-in_default.ensures.value, ap (λ (z : Zone). z.types) c.self.view_is) at (simp to_z-of_z at c.first_of.ensures.first) in
-    first_there z _ _ _ _ (table_of z _ (valid d) (entries d)) c.requires.local
-    (first d) _
-    _ _ _ (valid d) limits own (reach d).2 is
+    let is = rw (c.deref-in_default.ensures.value, ap (λ (z : Zone). z.types) c.self.view_is) at (simp fits at c.first_of.ensures.first) in
+    let bound = fewer _ _ (entries d).few in
+    record {
+      found = first_there z _ _ _ _ (table_of z _ (valid d) (entries d)) c.requires.local (first d) _ _ _ _ (valid d) limits own (reach d).2 is;
+      cost = elim (cases_eq _ 0) [
+        | inl none ↦ rw (c.first_of.ensures.free none) (rose_less _ _ _ _ _ _ c.first_reaching-place.ensures.cost bound.0 (omega arith))
+        | inr some ↦ rose_less _ _ _ _ _ _ (rose_then _ _ _ _ _ _ _ c.first_reaching-place.ensures.cost c.first_of.ensures.cost)
+            (bound.1 (omega arith)) (omega arith)
+      ];
+    }
 
 pub first_since-requires-clause-near : goal.first_since-requires-clause-near
 first_since-requires-clause-near c =
@@ -51,38 +58,23 @@ first_since-requires-clause-near c =
     let fb : SFits w64 c.begin_of-begin.result.1 = search rules in
     let z = c.args.self.now in
     let limits : IsRuleOrNone z.rule = rw (← c.self.view_is) c.self.invariant.limits in
-    simp to_z-of_z (rw c.begin_of-begin.ensures.begin (begun_near z _ _
+    simp fits (rw c.begin_of-begin.ensures.begin (begun_near z _ _
     _ _ (table_of z _ (valid d) (entries d)) c.requires.local (first d) _ _
     (valid d) limits (let top = top_least z.rule c.self.inside.changes (entries d).more in omega arith) (reach d).2))
 
-pub returns-clause-found : goal.returns-clause-found
-returns-clause-found c =
-    let d = (goal.at.returns-clause-found c).After-first_reaching-place in
+pub returns : goal.returns
+returns c =
+    let d = (goal.at.returns c).After-first_reaching-place in
     let fl = c.ranges.local in
-    let fb : SFits w64 c.begin_of-begin.result.1 = search rules in
-    let z = c.args.self.now in
     let is = rw (ap (λ z. z.rule) c.self.view_is) at c.in-Some.ensures in
-    first_by_rule z c.self.inside.changes _ _ (valid d) (entries d) is.0 (first d).within is.1
-    c.args.local c.first_since.result.at _ c.requires.local (first d)
-    (rw c.begin_of-begin.ensures.begin at (simp to_z-of_z at c.first_since.ensures.first))
-
-pub returns-in_default-clause-cost : goal.returns-in_default-clause-cost
-returns-in_default-clause-cost c =
-    let d = (goal.at.returns-in_default-clause-cost c).After-first_reaching-place in
     let bound = fewer _ _ (entries d).few in
-    elim (cases_eq _ 0) [
-      | inl none ↦ rw (c.first_of.ensures.free none) (rose_less _ _ _ _ _ _ c.first_reaching-place.ensures.cost bound.0 (omega arith))
-      | inr some ↦ rose_less _ _ _ _ _ _ (rose_then _ _ _ _ _ _ _ c.first_reaching-place.ensures.cost c.first_of.ensures.cost)
-          (bound.1 (omega arith)) (omega arith)
-    ]
-
-pub returns-clause-cost : goal.returns-clause-cost
-returns-clause-cost c =
-    let d = (goal.at.returns-clause-cost c).After-first_reaching-place in
-    let bound = fewer _ _ (entries d).few in
-    elim (cases_eq _ 0) [
-      | inl none ↦ rose_less _ _ _ _ _ _ (rose_then _ _ _ _ _ _ _ c.first_reaching-place.ensures.cost
-          (rw (c.begin_of-begin.ensures.free none) at c.first_since.ensures.cost)) (omega arith) (omega arith)
-      | inr some ↦ rose_less _ _ _ _ _ _ (rose_then _ _ _ _ _ _ _ (rose_then _ _ _ _ _ _ _ c.first_reaching-place.ensures.cost c.begin_of-begin.ensures.cost)
-          c.first_since.ensures.cost) (omega arith) (omega arith)
-    ]
+    record {
+      found = first_by_rule c.args.self.now c.self.inside.changes _ _ (valid d) (entries d) is.0 (first d).within is.1
+          c.args.local c.first_since.result.at _ c.requires.local (first d)
+          (rw c.begin_of-begin.ensures.begin at (simp fits at c.first_since.ensures.first));
+      cost = elim (cases_eq _ 0) [
+        | inl none ↦ let free = c.begin_of-begin.ensures.free none in grind linear
+        | inr some ↦ rose_less _ _ _ _ _ _ (rose_then _ _ _ _ _ _ _ (rose_then _ _ _ _ _ _ _ c.first_reaching-place.ensures.cost
+            c.begin_of-begin.ensures.cost) c.first_since.ensures.cost) (omega arith) (omega arith)
+      ];
+    }

@@ -1,11 +1,15 @@
-use Rattle.tz_info.proofs.{ExtremeLaws.at_most_greatest, Fits.fits, GapLaws.{first_near, gap_at_first}}
-use Rattle.tz_info.proofs.Words.{IsNear, SFits, arith, ints, pos, rules, w64, ◌-ℤ◌, ◌≤ℤ◌}
-use Rattle.tz_info.proofs.zone.time_zone.TimeZone.gap_by_search.Goals.{After-first_at_or_after-first}
+use Rattle.tz_info.proofs.{
+  ExtremeLaws.at_most_greatest,
+  Fits.fits,
+  GapLaws.{first_near, gap_at_first},
+  Words.{IsNear, SFits, arith, ints, pos, rules, w64, ◌-ℤ◌, ◌≤ℤ◌},
+  zone.time_zone.TimeZone.gap_by_search.Goals.{After-first_at_or_after-first},
+}
 use Rattle.tz_info.proofs.zone.time_zone.TimeZone.gap_by_search.Goals as goal
 
 near : (c : After-first_at_or_after-first)
-    → SFits w64 c.first_at_or_after-first.result.at × (c.requires.reach.0 ≤ℤ c.first_at_or_after-first.result.at)
-    × (c.first_at_or_after-first.result.at ≤ℤ c.requires.reach.1) × IsNear (c.first_at_or_after-first.result.at -ℤ pos 1)
+    → SFits w64 c.first_at_or_after-first.result.at × SFits w64 (c.first_at_or_after-first.result.at -ℤ pos 1)
+    × (c.requires.reach.0 ≤ℤ c.first_at_or_after-first.result.at) × (c.first_at_or_after-first.result.at ≤ℤ c.requires.reach.1) × IsNear (c.first_at_or_after-first.result.at -ℤ pos 1)
 near c =
     let ff : SFits w64 c.first_at_or_after-first.result.at = search rules in
     let first = c.first_at_or_after-first.result in
@@ -15,25 +19,20 @@ near c =
     (rw (← c.self.view_is) c.self.invariant.extremes.greatest) found.shown.type in
     let near = first_near c.args.self.now c.args.local c.requires.reach.0 c.requires.reach.1 first.at first.local_time_type.now
     (rw (← c.self.view_is) c.self.invariant.valid) (rw (← c.self.view_is) c.self.invariant.limits) c.requires.reach.2 found in
-    (ff, near.0, near.1, (omega (arith, ints), omega (arith, ints)))
+    (ff, omega (arith, ints), near.0, near.1, (omega (arith, ints), omega (arith, ints)))
 
 pub overflow_sub-first : goal.overflow_sub-first
 overflow_sub-first c =
-    let (ff, low, high, near) = near (goal.at.overflow_sub-first c).After-first_at_or_after-first in
-    (omega (arith, ints))
+    let (ff, fb, low, high, near) = near (goal.at.overflow_sub-first c).After-first_at_or_after-first in
+    omega (arith, ints)
 
 pub type_at-requires : goal.type_at-requires
 type_at-requires c =
-    let (ff, low, high, near) = near (goal.at.type_at-requires c).After-first_at_or_after-first in
-    let fb : SFits w64 (c.first_at_or_after-first.result.at -ℤ pos 1) = omega (arith, ints) in
+    let (ff, fb, low, high, near) = near (goal.at.type_at-requires c).After-first_at_or_after-first in
     simp fits near
 
 pub returns : goal.returns
 returns c =
-    let (ff, low, high, near) = near (goal.at.returns c).After-first_at_or_after-first in
-    let fl = c.ranges.local in
-    let first = c.first_at_or_after-first.result in
-    let fb : SFits w64 (c.first_at_or_after-first.result.at -ℤ pos 1) = omega (arith, ints) in
-    let z = c.args.self.now in
-    simp fits (gap_at_first _ _ c.requires.reach.0 c.requires.reach.1 first.at first.local_time_type.now _
+    let (ff, fb, low, high, near) = near (goal.at.returns c).After-first_at_or_after-first in
+    simp fits (gap_at_first _ _ _ _ _ _ _
     c.requires.never c.requires.reach.2 low high (simp fits at c.first_at_or_after-first.ensures.found) (simp fits at c.type_at.ensures))

@@ -1,4 +1,4 @@
-use Rattle.tz_info.proofs.{Fits.fits, ZoneLaws.type_not_refused, Words.rules}
+use Rattle.tz_info.proofs.{Fits.fits, Words.rules, ZoneLaws.type_not_refused}
 use Rattle.tz_info.proofs.zone.time_zone.TimeZone.has_type.Goals as goal
 
 pub returns-in-Err : goal.returns-in-Err

@@ -1,4 +1,4 @@
-use Rattle.tz_info.proofs.{GapLaws.{near_type}, TypedLaws.{last_typed}, Words.{SFits, arith, linear, rules, to_z-of_z, w64}}
+use Rattle.tz_info.proofs.{GapLaws.near_type, TypedLaws.last_typed, Words.{SFits, arith, linear, rules, to_z-of_z, w64}}
 use Rattle.tz_info.proofs.zone.time_zone.TimeZone.last_typed.Goals as goal
 
 pub loop-known-init : goal.loop-known-init

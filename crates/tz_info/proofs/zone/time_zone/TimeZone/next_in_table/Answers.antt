@@ -1,7 +1,10 @@
-use Rattle.tz_info.proofs.{EntryChanges.{next_by_entry, next_by_last, next_none}, Fits.fits}
-use Rattle.tz_info.proofs.Words.{IsValid, ap, arith, change_held, length, option_map, passed, sym, ◌+◌, ◌<◌, ◌∙◌, ◌≡◌, ◌≤◌}
+use Rattle.tz_info.proofs.{
+  EntryChanges.{next_by_entry, next_by_last, next_none},
+  Fits.fits,
+  Words.{IsValid, ap, arith, change_held, length, option_map, passed, sym, ◌+◌, ◌<◌, ◌∙◌, ◌≡◌, ◌≤◌},
+  zone.time_zone.TimeZone.next_in_table.Goals.{After-count_near-place},
+}
 use Rattle.tz_info.specs.Steps.Entries.{AreEntries}
-use Rattle.tz_info.proofs.zone.time_zone.TimeZone.next_in_table.Goals.{After-count_near-place}
 use Rattle.tz_info.proofs.zone.time_zone.TimeZone.next_in_table.Goals as goal
 
 -- the zone is valid, these are its entries, and the count is of those that have come
@@ -12,14 +15,13 @@ given c = let fa = c.ranges.after in
 
 pub returns-then-place-len : goal.returns-then-place-len
 returns-then-place-len c =
-    let z = c.args.self.now in let (valid, list, n) = given (goal.at.returns-then-place-len c).After-count_near-place in
+    let (valid, list, n) = given (goal.at.returns-then-place-len c).After-count_near-place in
     next_none _ c.self.inside.changes _ valid list (sym n ∙ c.if-place-len.true ∙ c.len.ensures)
 
 pub returns-then-is_last : goal.returns-then-is_last
 returns-then-is_last c =
-    let z = c.args.self.now in let e = c.self.inside.changes in
+    let e = c.self.inside.changes in
     let (valid, list, n) = given (goal.at.returns-then-is_last c).After-count_near-place in
-    let fs = c.second.type_inv in
     let some : c.count_near-place.result < length e.items = grind arith in
     let last : e.all ≤ c.count_near-place.result + 1 = grind arith in
     next_by_last _ e _ _ (option_map change_held _) valid list (rw n at some) (rw n at last)
@@ -27,7 +29,7 @@ returns-then-is_last c =
 
 pub returns : goal.returns
 returns c =
-    let z = c.args.self.now in let e = c.self.inside.changes in
+    let e = c.self.inside.changes in
     let (valid, list, n) = given (goal.at.returns c).After-count_near-place in
     let some : c.count_near-place.result < length e.items = grind arith in
     let more : c.count_near-place.result + 1 < e.all = grind arith in

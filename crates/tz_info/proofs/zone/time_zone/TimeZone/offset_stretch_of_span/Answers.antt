@@ -1,30 +1,25 @@
-use Rattle.tz_info.proofs.Words.{SFits, arith, by_lt_z, inl, ints, pos, rules, to_z-of_z, w32, w64, ◌<ℤ◌}
+use Rattle.tz_info.proofs.{Fits.fits, Words.{arith, by_lt_z, inl, ints, pos, ◌<ℤ◌}}
 use Rattle.tz_info.proofs.zone.time_zone.TimeZone.offset_stretch_of_span.Goals as goal
 
 pub returns-in-Err-clause-at : goal.returns-in-Err-clause-at
 returns-in-Err-clause-at c =
     let fu = c.ranges.unix_time in
-    inl (simp to_z-of_z at c.in-Err.ensures).0
+    inl (simp fits at c.in-Err.ensures).0
 
-pub returns-in-Ok-clause-each : goal.returns-in-Ok-clause-each
-returns-in-Ok-clause-each c =
+pub returns-in-Ok : goal.returns-in-Ok
+returns-in-Ok c =
     let fu = c.ranges.unix_time in
-    let ff : SFits w64 c.start_by.result = search rules in
-    let fe : SFits w64 c.end_by.result = search rules in
-    let fo : SFits w32 c.offset.result = search rules in
-    simp to_z-of_z (λ u low high.
-    let since = (c.start_by.ensures u).0 low in (
-      c.in-Ok.span.local_time_type,
-      c.in-Ok.ensures.span.each u (record { fits = omega (arith, ints); since = since.1; until = ((c.end_by.ensures u).0 high).1 }),
-      c.offset.ensures.value,
-    ))
-
-pub returns-in-Ok-clause-at : goal.returns-in-Ok-clause-at
-returns-in-Ok-clause-at c =
-    let fu = c.ranges.unix_time in
-    let ff : SFits w64 c.start_by.result = search rules in
-    let fe : SFits w64 c.end_by.result = search rules in
-    let at = simp to_z-of_z at c.in-Ok.ensures in
+    let ff = c.start_by.type_inv in
+    let fe = c.end_by.type_inv in
+    let fo = c.offset.type_inv in
+    let at = simp fits at c.in-Ok.ensures in
     let u = c.args.unix_time in
     let below : u <ℤ pos 9_223_372_036_854_775_807 = by_lt_z u _ (λ q. q) (λ q. absurd (c.if-unix_time-eq9223372036854775807.false (omega (arith, ints)))) in
-    simp to_z-of_z ((c.start_by.ensures u).1 (omega (arith, ints), at.inside.since), (c.end_by.ensures u).1 (below, at.inside.until))
+    simp fits (record {
+      each = λ u low high. let since = (c.start_by.ensures u).0 low in (
+        c.in-Ok.span.local_time_type,
+        at.span.each u (record { fits = omega (arith, ints); since = since.1; until = ((c.end_by.ensures u).0 high).1 }),
+        c.offset.ensures.value,
+      );
+      at = ((c.start_by.ensures u).1 (omega (arith, ints), at.inside.since), (c.end_by.ensures u).1 (below, at.inside.until));
+    })

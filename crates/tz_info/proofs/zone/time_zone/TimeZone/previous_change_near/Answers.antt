@@ -1,4 +1,4 @@
-use Rattle.tz_info.proofs.{Fits.fits, ZoneChanges.{rule_is_last, table_is_last}, Words.{change_held, option_map, ◌≤ℤ◌}}
+use Rattle.tz_info.proofs.{Fits.fits, Words.{change_held, option_map, ◌≤ℤ◌}, ZoneChanges.{rule_is_last, table_is_last}}
 use Rattle.tz_info.proofs.zone.time_zone.TimeZone.previous_change_near.Goals as goal
 
 pub returns-in-Some : goal.returns-in-Some

@@ -1,10 +1,12 @@
-use Rattle.tz_info.proofs.{EntryChanges.{index_between, span_between}, Fits.fits}
-use Rattle.tz_info.proofs.Words.{SFits, Some, arith, length, rules, slice_get, slice_get_read, vec_len, w64, ◌≡◌}
+use Rattle.tz_info.proofs.{
+  EntryChanges.{index_between, span_between},
+  Fits.fits,
+  Words.{SFits, Some, arith, length, rules, slice_get, slice_get_read, vec_len, w64, ◌≡◌},
+}
 use Rattle.tz_info.proofs.zone.time_zone.TimeZone.span_by_place.Goals as goal
 
 pub index-requires : goal.index-requires
 index-requires c =
-    let fu = c.ranges.unix_time in
     let n : vec_len c.self.inside.local_types ≡ length _ = search rules in
     rw n (index_between _ _ _ _ c.self.invariant.valid c.self.invariant.list
     c.in-Some.ensures)

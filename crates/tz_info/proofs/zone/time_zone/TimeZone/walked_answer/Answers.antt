@@ -1,11 +1,12 @@
 use Rattle.tz_info.proofs.{
-  QuestionLaws.{asked_for_window},
+  Fits.fits,
+  QuestionLaws.asked_for_window,
   SegmentLaws.{begin_next, between_passed, index_next},
-  TableSearch.{Between},
+  TableSearch.Between,
   WalkLaws.{none_before, none_behind, one_look, rose_by_walk, tried_segment, walked_more},
-  WallSegments.{all_segments},
-  Words.{IsShownIn, IsValid, IsWallAnswer, IsWindow, SFits, Some, Zone, ap, arith, digits-le, inl, length, linear, map_of, rules, sym, table_count, to_z-of_z},
-  Words.{w32, w64, ◌+◌, ◌∙◌, ◌≡◌, ◌≤◌},
+  WallSegments.all_segments,
+  Words.{IsShownIn, IsWallAnswer, IsWindow, SFits, Some, Zone, ap, arith, digits-le, inl, length, linear, map_of, rules, sym, table_count, w32, w64, ◌+◌, ◌∙◌},
+  Words.{◌≡◌, ◌≤◌},
   zone.time_zone.TimeZone.walked_answer.Goals.{After-passed_count-first, After-try_until-answer},
 }
 use Rattle.tz_info.proofs.zone.time_zone.TimeZone.walked_answer.Goals as goal
@@ -15,45 +16,43 @@ table_most : (z : Zone) → length z.transitions ≤ table_count z
 table_most z = grind arith
 
 -- the window, and the first transitions, before it
-begun : (c : goal.After-passed_count-first) → IsWindow c.args.self.now c.args.local c.leap_time_near-low.result c.leap_time_near-high.result
+begun : (c : After-passed_count-first) → IsWindow c.args.self.now c.args.local c.leap_time_near-low.result c.leap_time_near-high.result
     × Between c.args.self.now.transitions c.leap_time_near-low.result c.passed_count-first.result c.passed_count-first.result
 begun c =
     let fl = c.ranges.local in
-    let valid : IsValid c.args.self.now = rw (← c.self.view_is) c.self.invariant.valid in
+    let valid = rw c.self.view_is at c.self.invariant.valid in
     let fg : SFits w32 c.self.inside.extremes.greatest = search rules in
     let fe : SFits w32 c.self.inside.extremes.least = search rules in
-    let low = simp to_z-of_z at c.second_showing.ensures.value in
-    let high = simp to_z-of_z at c.second_showing-2.ensures.value in
-    let ug : SFits w64 c.second_showing.result = omega arith in
-    let uh : SFits w64 c.second_showing-2.result = omega arith in
-    let fw : SFits w64 c.leap_time_near-low.result = search rules in (
+    let low = simp fits at c.second_showing.ensures.value in
+    let high = simp fits at c.second_showing-2.ensures.value in
+    let ug = c.second_showing.type_inv in
+    let uh = c.second_showing-2.type_inv in
+    let fw = c.leap_time_near-low.type_inv in (
       record {
         greatest = c.self.inside.extremes.greatest;
         least = c.self.inside.extremes.least;
         is_greatest = rw (← c.self.view_is) c.self.invariant.extremes.greatest;
         is_least = rw (← c.self.view_is) c.self.invariant.extremes.least;
-        is_low = rw low at (simp to_z-of_z at c.leap_time_near-low.ensures);
-        is_high = rw high at (simp to_z-of_z at c.leap_time_near-high.ensures);
+        is_low = rw low at (simp fits at c.leap_time_near-low.ensures);
+        is_high = rw high at (simp fits at c.leap_time_near-high.ensures);
       },
       between_passed _ _ _ valid.transitions.rising
-          c.passed_count-first.ensures.within (simp to_z-of_z at c.passed_count-first.ensures.passed),
+          c.passed_count-first.ensures.within (simp fits at c.passed_count-first.ensures.passed),
     )
 
 -- one segment more was tried, up to the next transition
-tried : (c : goal.After-try_until-answer)
+tried : (c : After-try_until-answer)
     → IsWallAnswer (IsShownIn c.args.self.now c.args.local (c.loop-place.place + 1)) (map_of (λ r. r.now) c.try_until-answer.result)
 tried c =
     let fl = c.ranges.local in
     let fn : SFits w64 c.transition-next.result.unix_leap_time = search rules in
-    let z = c.args.self.now in let i = c.loop-place.invariant in let own = table_most z in
-    let next = c.transition-next.ensures.item in
-    tried_segment z _ _ _ _ _ _ (rw (← c.self.view_is) c.self.invariant.valid) (omega arith)
-    (omega arith) i.begin
-    (inl (c.transition-next.result, omega arith, ap (λ t. Some t.unix_leap_time) next))
-    (rw i.index at (simp to_z-of_z at c.try_until-answer.ensures)) (simp to_z-of_z at i.found)
+    let i = c.loop-place.invariant in let own = table_most c.args.self.now in
+    tried_segment _ _ _ _ _ _ _ (rw c.self.view_is at c.self.invariant.valid) (omega arith) (omega arith) i.begin
+    (inl (c.transition-next.result, omega arith, ap (λ t. Some t.unix_leap_time) c.transition-next.ensures.item))
+    (rw i.index at (simp fits at c.try_until-answer.ensures)) (simp fits at i.found)
 
 pub latest-current-requires-clause-room : goal.latest-current-requires-clause-room
-latest-current-requires-clause-room c = omega (arith, digits-le (length c.args.self.now.transitions))
+latest-current-requires-clause-room c = grind (arith, digits-le)
 
 pub loop-place-init : goal.loop-place-init
 loop-place-init c =
@@ -61,9 +60,7 @@ loop-place-init c =
     let (window, split) = begun (goal.at.loop-place-init c).After-passed_count-first in
     let p = c.passed_count-first.ensures.cost in let q = c.latest-current.ensures.cost in
     record {
-      found =
-          simp to_z-of_z (none_before _ _ _ _ _
-          (rw (← c.self.view_is) c.self.invariant.valid) window split);
+      found = simp fits (none_before _ _ _ _ _ (rw (← c.self.view_is) c.self.invariant.valid) window split);
       begin = c.latest-current.ensures.begin;
       index = c.latest-current.ensures.index;
       listed = c.latest-current.ensures.listed;
@@ -78,22 +75,19 @@ loop-place-init c =
     }
 
 pub transition-next-requires-clause-room : goal.transition-next-requires-clause-room
-transition-next-requires-clause-room c = omega (arith, digits-le (length c.args.self.now.transitions))
+transition-next-requires-clause-room c = grind (arith, digits-le)
 
 pub returns-then-high-next : goal.returns-then-high-next
 returns-then-high-next c =
     let at = goal.at.returns-then-high-next c in
-    let fh : SFits w64 c.leap_time_near-high.result = search rules in
     let (window, split) = begun at.After-passed_count-first in
-    let z = c.args.self.now in let valid : IsValid z = rw (← c.self.view_is) c.self.invariant.valid in let walked = simp to_z-of_z at
-    c.loop-place.invariant.walked in
-    let time = ap (λ t. t.unix_leap_time) c.transition-next.ensures.item in
+    let valid = rw c.self.view_is at c.self.invariant.valid in
+    let walked = simp fits at c.loop-place.invariant.walked in
     record {
-      found = none_behind z c.args.local _ _ c.loop-place.place c.transition-next.result _ valid
-          window (omega arith) (omega linear) (tried at.After-try_until-answer);
-      cost = rose_by_walk z c.args.local _ _ _ _ 1 _ _ _
-          window split (omega arith) walked (omega arith) (one_look _ _ c.transition-next.ensures.cost);
-      counted = asked_for_window z _ _ c.leap_time_near-high.result c.loop-place.place c.transition-next.result _ _
+      found = none_behind _ _ _ _ c.loop-place.place valid window c.transition-next.result (omega arith) (omega linear) _
+          (tried at.After-try_until-answer);
+      cost = rose_by_walk _ _ _ _ _ _ 1 _ _ _ window split (omega arith) walked (omega arith) (one_look _ _ c.transition-next.ensures.cost);
+      counted = asked_for_window _ _ _ c.leap_time_near-high.result c.loop-place.place c.transition-next.result _ _
           valid window (omega arith) (omega linear)
           (ap (λ p. p.rule_questions) c.transition-next.ensures.cost ∙ walked.questions);
     }
@@ -101,16 +95,16 @@ returns-then-high-next c =
 pub loop-place-preserved : goal.loop-place-preserved
 loop-place-preserved c =
     let fl = c.ranges.local in
-    let fh : SFits w64 c.leap_time_near-high.result = search rules in
+    let fh = c.leap_time_near-high.type_inv in
     let ts = c.args.self.now.transitions in let place = c.loop-place.place in let item = c.transition-next.ensures.item in
     record {
-      found = simp to_z-of_z (tried (goal.at.loop-place-preserved c).After-try_until-answer);
+      found = simp fits (tried (goal.at.loop-place-preserved c).After-try_until-answer);
       begin = ap (λ t. t.unix_leap_time) item ∙ sym (begin_next ts place _ (omega arith));
       index = ap (λ t. t.type_index) item ∙ sym (index_next ts _ _ (omega arith));
       listed = c.transition-next.ensures.index;
       walked =
-          simp to_z-of_z (walked_more _ _ _ _ _ _ _ _ (omega arith)
-          (simp to_z-of_z at c.loop-place.invariant.walked) item (omega linear) c.transition-next.ensures.cost);
+          simp fits (walked_more _ _ _ _ _ _ _ _ (omega arith)
+          (simp fits at c.loop-place.invariant.walked) item (omega linear) c.transition-next.ensures.cost);
     }
 
 pub try_last-requires-clause-seen : goal.try_last-requires-clause-seen
@@ -120,13 +114,10 @@ try_last-requires-clause-seen c =
 
 pub returns : goal.returns
 returns c =
-    let fl = c.ranges.local in
-    let valid : IsValid c.args.self.now = rw (← c.self.view_is) c.self.invariant.valid in
-    let fh : SFits w64 c.leap_time_near-high.result = search rules in
+    let valid = rw c.self.view_is at c.self.invariant.valid in
     let (window, split) = begun (goal.at.returns c).After-passed_count-first in
     record {
-      found = all_segments _ _ _ valid.transitions.rising (simp to_z-of_z at c.try_last.ensures.found);
-      cost = rose_by_walk _ _ _ _ _
-          _ 0 _ _ _ window split (omega arith) (simp to_z-of_z at c.loop-place.invariant.walked) (omega arith) c.try_last.ensures.cost;
-      counted = rw c.loop-place.invariant.walked.questions at (simp to_z-of_z at c.try_last.ensures.counted);
+      found = all_segments _ _ _ valid.transitions.rising (simp fits at c.try_last.ensures.found);
+      cost = rose_by_walk _ _ _ _ _ _ 0 _ _ _ window split (omega arith) (simp fits at c.loop-place.invariant.walked) (omega arith) c.try_last.ensures.cost;
+      counted = rw c.loop-place.invariant.walked.questions at (simp fits at c.try_last.ensures.counted);
     }

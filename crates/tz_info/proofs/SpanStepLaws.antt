@@ -1,1 +1,0 @@
--- Steps from span to span end.
