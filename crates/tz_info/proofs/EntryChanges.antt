@@ -58,12 +58,8 @@ pub have_come : (z : Zone) (e : Entries) (u : ℤ) (c : Come) → IsValid z → 
     → IsCome e u c → HaveComeAt z u c
 have_come z e u c valid made fits l come =
     let last = made.come u (leap_time_at z u) fits l in
-    record {
-      of_second = l;
-      all = grind arith;
-      named = rw come.index (made.named u (leap_time_at z u) fits l);
-      below = rw come.index (last_index_below _ u 0 _ valid.some made.indexes);
-    }
+    let named = made.named u (leap_time_at z u) fits l in
+    record { of_second = l; all = grind arith; named = grind arith; below = rw come.index (last_index_below _ u 0 _ valid.some made.indexes) }
 
 pub not_last : (z : Zone) (u : ℤ) (c : Come) → HaveComeAt z u c → c.are_all ≡ false → IsBeforeLast z (leap_time_at z u)
 not_last z u c h not = grind (linear, before_or_from_last)
@@ -241,7 +237,6 @@ module _ (z : Zone) (e : Entries) (after : ℤ) where
   next_by_last second None valid made some last at none = λ d is inside.
       let (k, below, time) = table_change z e valid made d is inside.table in
       let r = come_by z e valid made k after below in
-      let more = made.more in
       let same : k ≡ count_at e after = grind linear in none d is (cc (at any))
   next_by_last second (Some c) valid made some last at h = next_found z e valid made after c some h.0 (h.1 ∙ at any)
 

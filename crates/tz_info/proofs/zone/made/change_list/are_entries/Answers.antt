@@ -13,10 +13,9 @@ loop-place-preserved c =
     let n = c.loop-place.place in
     let some = c.loop-place.auto.place in
     let here : n - 1 + 1 ≡ n = omega arith in
-    let at : slice_get types (index_of ts n) ≡ Some c.index-lists-type_index.result =
-    rw (rw here at (index_next ts (n - 1) c.index-lists-place.result (omega arith)), ← c.type_index.ensures, c.index-lists-type_index.is)
-    (slice_get-get_or types c.type_index.result c.index-lists-type_index.result
-    (rw c.type_index.ensures (c.requires.transitions.indexes (n - 1) c.index-lists-place.result (omega arith)))) in
+    let index = rw here at (index_next ts (n - 1) c.index-lists-place.result (omega arith)) in
+    let below = c.requires.transitions.indexes (n - 1) c.index-lists-place.result (omega arith) in
+    let at : slice_get types (index_of ts n) ≡ Some c.index-lists-type_index.result = grind (arith, slice_get-get_or) in
     let back : n + 1 - 1 ≡ n = omega arith in
     record {
       changes = one_change (zone_in c.args.lists) n (omega arith) c.loop-place.invariant.changes (λ e. let b = c.loop-place.invariant.before in

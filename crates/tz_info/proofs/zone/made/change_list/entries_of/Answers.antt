@@ -35,5 +35,4 @@ loop-place-preserved c =
 
 pub returns : goal.returns
 returns c =
-    let n : vec_len c.loop-place.entries ≡ length c.loop-place.entries.items = search rules in
-    all_come (zone_in c.args.lists) _ c.loop-place.place _ c.requires c.loop-place.invariant.made (omega arith) (omega (arith, c.len-all-2.ensures))
+    all_come (zone_in c.args.lists) _ c.loop-place.place _ c.requires c.loop-place.invariant.made (omega arith) (grind arith)
