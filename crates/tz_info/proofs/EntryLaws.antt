@@ -191,8 +191,9 @@ module _ (z : Zone) (old kept entries : List Transition) (k : ℕ) (s : ℤ) (t 
 module _ (z : Zone) (entries : List Transition) (k all : ℕ) (valid : IsValid z) (made : AreMadeOf z entries k) where
   pub all_come : k ≡ length z.transitions → all ≡ length entries → AreEntries z (record { items = entries; all = all; transitions = z.transitions })
   all_come e a =
-      let few = made.few in
-      let some = made.some in record {
+    let few = made.few in
+    let some = made.some in
+    record {
       listed = refl;
       rising = made.rising;
       indexes = made.indexes;
@@ -208,14 +209,16 @@ module _ (z : Zone) (entries : List Transition) (k all : ℕ) (valid : IsValid z
 
   pub never_come : (t : Transition) → k < length z.transitions → t ≡ get_or z.transitions k t → NeverComes z.leaps t.unix_leap_time
       → all ≡ length entries + 1 → AreEntries z (record { items = entries; all = all; transitions = z.transitions })
-  never_come t more item never a = record {
+  never_come t more item never a =
+    let few = made.few in
+    record {
       listed = refl;
       rising = made.rising;
       indexes = made.indexes;
-      few = let n = made.few in omega arith;
+      few = omega arith;
       more = omega arith;
       most = omega arith;
-      some = ((λ h. omega arith), (λ h. omega arith));
+      some = (λ h. omega arith, λ h. omega arith);
       named = λ u x f l. rw (passed_first z.transitions k x (λ i d low h.
           let late = never u x f l in
           let n = not_later z.transitions k i d valid.transitions.rising low h in grind (linear, get_or_default))) (made.named u x l);

@@ -23,13 +23,7 @@ returns-then-not-are_transitions g c =
     with_fault (Not_rising (grind (arith, nat_tests)) indexes (λ h. grind arith))
 
 pub returns-then-not-are_leap_seconds : goal.returns-then-not-are_leap_seconds
-returns-then-not-are_leap_seconds g c =
-    with_fault (Other_leaps (grind (arith, nat_tests))
-    (grind arith)
-    (λ h. grind arith))
+returns-then-not-are_leap_seconds g c = with_fault (Other_leaps (grind (arith, nat_tests)) (grind arith) (λ h. grind arith))
 
 pub returns-then-not-rule_agrees : goal.returns-then-not-rule_agrees
-returns-then-not-rule_agrees g c =
-    with_fault (Other_rule (grind (arith, nat_tests))
-    (grind arith) (grind arith)
-    (λ h. grind arith))
+returns-then-not-rule_agrees g c = with_fault (Other_rule (grind (arith, nat_tests)) (grind arith) (grind arith) (λ h. grind arith))

@@ -6,7 +6,7 @@ stands_if : (types : ℕ) (ts : List Transition) (place : ℕ) (before here : Tr
     → ((here.type_index < types) × (before.unix_leap_time <ℤ here.unix_leap_time)) ↔ Stands types ts place
 stands_if _ ts _ _ here some b h = (
   λ s. record { index = λ d. rw (h d) s.0; later = λ d _. rw (b d, h d) s.1 },
-  λ s. let l = s.later here some in let i = s.index here in let e = b here in let f = h here in grind arith,
+  λ s. let l = s.later here some in let i = s.index here in grind arith,
 )
 
 pub returns : goal.returns

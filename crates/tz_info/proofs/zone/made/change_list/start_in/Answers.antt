@@ -15,11 +15,9 @@ returns-then-has_leap_time c =
     let low = c.first_second-start.ensures.bound in
     let high = simp fits at c.if-start.false in
     let f2 : SFits w64 c.first_second-start.result = omega (arith, ints) in
-    simp fits
-    (record {
+    simp fits (record {
       leap_time = (_, simp fits at (c.has_leap_time.ensures.yes c.if-has_leap_time.true));
-      reached = rw c.entries.ensures.entries
-          at (simp fits at c.first_second-start.ensures.reached);
+      reached = rw c.entries.ensures.entries at (simp fits at c.first_second-start.ensures.reached);
     })
 
 pub returns-else-has_leap_time : goal.returns-else-has_leap_time
