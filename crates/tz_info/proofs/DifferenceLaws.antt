@@ -1,9 +1,9 @@
 -- The differences of two zones, from one pair of types to the next.
 use Rattle.tz_info.proofs.{
   ChangeSearch.{InForce},
-  Words.{AreDifferences, AreListedTo, Contains, Contains-append_left, Contains-get_or, Contains-push, Contains-push_cases, Difference, IsDifference},
-  Words.{IsInDifference, IsListedIf, IsPairUntil, IsRunUntil, List, LocalType, TypeAt, Zone, [], all_pairs_push, by_lt_z, get_or, inl, inr, linear, pos, subst},
-  Words.{sym, ℤ, ◌-ℤ◌, ◌<ℤ◌, ◌∙◌, ◌∷◌, ◌≡◌, ◌≢◌, ◌≤ℤ◌},
+  Words.{AreDifferences, AreListedTo, Contains-append_left, Contains-get_or, Contains-push, Contains-push_cases, Difference, IsDifference, IsInDifference},
+  Words.{IsListedIf, IsPairUntil, IsRunUntil, List, LocalType, TypeAt, Zone, [], all_pairs_push, by_lt_z, get_or, inl, inr, linear, pos, sym, ℤ, ◌-ℤ◌, ◌<ℤ◌},
+  Words.{◌∙◌, ◌∷◌, ◌≡◌, ◌≢◌, ◌≤ℤ◌},
   ZoneLaws.{type_once},
 }
 
@@ -106,8 +106,7 @@ all_listed z w _ _ at ds h over = record {
         let some = is.some in let high = is.high in
         let types = is.each d.from (omega linear) some in
         let found = h.covered d.from d.old d.new is.low (omega linear) types.0 types.1 is.differ in
-        let same = one_difference z w _ _ _ _ d (h.each found.0 found.1).0 is found.2 (omega linear, some) in
-        subst (Contains ds) same found.1,
+        rw (← one_difference z w _ _ _ _ d (h.each found.0 found.1).0 is found.2 (omega linear, some)) found.1,
   );
   covered = λ u s t low high. h.covered u s t low (omega linear);
 }

@@ -1,4 +1,4 @@
-use Rattle.tz_info.proofs.{Fits.fits, EntryLaws.{never_refused, never_then}, Words.{arith, ints, SFits, w64}}
+use Rattle.tz_info.proofs.{EntryLaws.{never_refused, never_then}, Fits.fits, Words.{arith, ints, SFits, w64}}
 use Rattle.tz_info.proofs.zone.made.change_list.start_in.Goals as goal
 
 pub returns-then-start : goal.returns-then-start
