@@ -20,10 +20,10 @@ then_here : (f : InForce) (from last : ℤ) (c : Change) (cs : List Change) → 
     → AreChanges f from (last +ℤ pos 1) (cs ++ c ∷ [])
 then_here f from last c cs once is at low h = record {
   rising = all_pairs_push (λ a b. a.at <ℤ b.at) cs c h.rising (λ k d below. rw at ((h.each (get_or cs k d)).0 (Contains-get_or cs k d below)).1.1);
-  each = λ d. (
-    λ inside. elim (Contains-push_cases cs c d inside) [ inl earlier ↦ let k = (h.each d).0 earlier in grind linear | inr same ↦ grind linear ],
+  each = λ d. let e = h.each d in (
+    λ inside. elim (Contains-push_cases cs c d inside) [ inl earlier ↦ grind linear | inr same ↦ grind linear ],
     λ k. by_lt_z d.at last
-        (λ less. Contains-append_left cs (c ∷ []) d ((h.each d).1 (grind linear)))
+        (λ less. Contains-append_left cs (c ∷ []) d (e.1 (grind linear)))
         (λ more. let l = k.1.1 in rw (← apart f once c d is k.0 (omega linear)) (Contains-push cs c)),
   );
 }

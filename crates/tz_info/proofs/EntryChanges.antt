@@ -18,6 +18,7 @@ use Rattle.tz_info.specs.{
   declared.zone.made.change_table.{Between.{Between}, Come.{Come}},
 }
 
+-- a number has few binary digits
 pub ruleset few_digits = digits-le
 
 abbrev count_at : Entries → ℤ → ℕ
@@ -70,7 +71,7 @@ pub is_come : (e : Entries) (u : ℤ) (n : ℕ) (latest : Option Transition) (c 
     → MatchOption latest (c.index ≡ 0) (λ t. c.index ≡ t.type_index) → c.are_all ≡ (n == e.all) → IsCome e u c
 is_come e u n _ c within come last index all =
     let many : length (passed e.items u) ≡ n = ap length come ∙ (simp length-take (omega arith)) in
-    record { all = rw (many, all) ((λ t. grind arith), (λ q. grind arith)); index = rw come (named_by _ n _ _ within last index) }
+    record { all = rw (many, all) (λ t. grind arith, λ q. grind arith); index = rw come (named_by _ n _ _ within last index) }
   where
     named_by : (ts : List Transition) (n : ℕ) (latest : Option Transition) (i : ℕ) → n ≤ length ts → IsLastOf ts n latest
         → MatchOption latest (i ≡ 0) (λ t. i ≡ t.type_index)
@@ -116,7 +117,7 @@ module _ (z : Zone) (e : Entries) (valid : IsValid z) (made : AreEntries z e) wh
   type_here u x n fits l count = let named = made.named u x fits l in let index = index_there e u made.rising in grind arith
 
   type_amid : (u x : ℤ) (n : ℕ) (t : LocalType) → SFits w64 u → IsLeapTime z.leaps u x → count_at e u ≡ n → n < e.all
-      → slice_get z.types (index_of e.items n) ≡ Some t → TypeAt z u t
+      → HasType z (index_of e.items n) t → TypeAt z u t
   type_amid u x n t fits l count more has = record {
     leap_time = x;
     of_second = λ _. l;
@@ -127,7 +128,7 @@ module _ (z : Zone) (e : Entries) (valid : IsValid z) (made : AreEntries z e) wh
   }
 
   amid_type : (u : ℤ) (n : ℕ) (t : LocalType) → SFits w64 u → 0 < length z.transitions → count_at e u ≡ n → n < e.all → TypeAt z u t
-      → slice_get z.types (index_of e.items n) ≡ Some t
+      → HasType z (index_of e.items n) t
   amid_type u n t fits some count more h =
       let l = time_of z u t some h in
       let last = made.come u h.leap_time fits l in
@@ -305,7 +306,7 @@ span_between z e u b t valid made h is fits low high has =
     let (some, not_least, more) = h.span is in
     let k = h.place in
     let same : (k - 1) + 1 ≡ k = omega arith in
-    let own : slice_get z.types (index_of e.items k) ≡ Some t = rw h.index at has in
+    let own : HasType z (index_of e.items k) t = rw h.index at has in
     let (since, before) = inside_between z e u b made h fits in
     let (r, has_r) = inside_listed _ _ (index_below z e (k - 1) valid made (omega arith)) in
     let (s, has_s) = inside_listed _ _ (index_below z e (k + 1) valid made (omega arith)) in
