@@ -19,11 +19,10 @@ covers : (z w : Zone) (from until u : ℤ) (d e : Difference) → IsDifference (
     → d.old ≡ e.old → d.new ≡ e.new → IsInDifference u d → IsInDifference u e → (d.from ≤ℤ e.from) × (e.until ≤ℤ d.until)
 covers z w from until u d e h k old new i j = (
   by_lt_z e.from d.from
-      (λ less. let types = k.each (d.from -ℤ pos 1) (omega linear) (omega linear) in
-      absurd (h.begins (omega linear) (rw (← old) at types.0) (rw (← new) at types.1)))
+      (λ less. let types = k.each (d.from -ℤ pos 1) (omega linear) (omega linear) in let b = h.begins (omega linear) in absurd (grind linear))
       (λ m. m),
   by_lt_z d.until e.until
-      (λ less. let types = k.each d.until (omega linear) less in absurd (h.ends (omega linear) (rw (← old) at types.0) (rw (← new) at types.1)))
+      (λ less. let types = k.each d.until (omega linear) less in let b = h.ends (omega linear) in absurd (grind linear))
       (λ m. m),
 )
 

@@ -257,15 +257,12 @@ own_entries z valid none differ =
     }
 
 -- ---- the second at which a transition comes
-pub never_then : (leaps : List LeapSecond) (x start : ℤ) → ((u y : ℤ) → IsLeapTime leaps u y → (x ≤ℤ y) ↔ (start ≤ℤ u))
-    → pos 9_223_372_036_854_775_807 <ℤ start → NeverComes leaps x
-never_then leaps x start reached late u y f l = let a = reached u y l in grind linear
+module _ (leaps : List LeapSecond) (x start : ℤ) (reached : (u y : ℤ) → IsLeapTime leaps u y → (x ≤ℤ y) ↔ (start ≤ℤ u)) where
+  pub never_then : pos 9_223_372_036_854_775_807 <ℤ start → NeverComes leaps x
+  never_then late u y f l = let a = reached u y l in grind linear
 
-pub never_refused : (leaps : List LeapSecond) (x start : ℤ) → AreLeapSeconds leaps → ((u y : ℤ) → IsLeapTime leaps u y → (x ≤ℤ y) ↔ (start ≤ℤ u))
-    → IsLeapTimeRefused leaps start
-    → NeverComes leaps x
-never_refused leaps x start valid reached refused u y f l =
-    by_lt_z y x (λ h. h) (λ h. absurd (refused_on leaps start u y valid ((reached u y l).0 h) refused l))
+  pub never_refused : AreLeapSeconds leaps → IsLeapTimeRefused leaps start → NeverComes leaps x
+  never_refused valid refused u y f l = by_lt_z y x (λ h. h) (λ h. absurd (refused_on leaps start u y valid ((reached u y l).0 h) refused l))
 
 -- ---- one entry less
 pub popped : (entries kept : List Transition) (r : Option Transition) (second : ℤ) → EndsAt entries second → entries ≡ kept ++ option_to_list r

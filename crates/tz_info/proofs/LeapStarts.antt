@@ -4,9 +4,9 @@ use Rattle.tz_info.proofs.{
   LeapEntries.{follow, threshold_at, threshold_count, times_rise},
   LeapOrder.{split},
   Prefixes.{last_taken},
-  Words.{AreLeapSeconds, HaveCome, IsLeapTime, IsNear, IsOneStep, LeapSecond, List, [], arith, by_lt_z, cases_lt, corrections, count_by-le-length, get_or, inl},
-  Words.{inr, int_le, last_else, length, linear, passed_count, pos, saturate_signed, suc, take, thresholds, w64, zero, ℕ, ℤ, ◌+ℤ◌, ◌-ℤ◌, ◌-◌, ◌<ℤ◌, ◌<◌, ◌↔◌},
-  Words.{◌∷◌, ◌≡◌, ◌≤ℤ◌, ◌≤◌},
+  Words.{AreLeapSeconds, HaveCome, IsLeapTime, IsNear, IsOneStep, LeapSecond, List, [], arith, cases_lt, corrections, count_by-le-length, get_or, inl, inr},
+  Words.{int_le, last_else, length, linear, passed_count, pos, saturate_signed, suc, take, thresholds, w64, zero, ℕ, ℤ, ◌+ℤ◌, ◌-ℤ◌, ◌-◌, ◌<ℤ◌, ◌<◌, ◌↔◌, ◌∷◌},
+  Words.{◌≡◌, ◌≤ℤ◌, ◌≤◌},
 }
 
 -- the correction in force after the first k entries

@@ -46,7 +46,9 @@ module _ (z : Zone) (after reached : ℤ) (order : after ≤ℤ reached) (kept :
 
   pub goes_on : (c : Change) → IsFirstChange (TypeAt z) (λ u. reached <ℤ u) c → c.before.offset ≡ c.after.offset
       → KeepsOffset (TypeAt z) (λ u. (after <ℤ u) × (u ≤ℤ c.at))
-  goes_on c next same d is inside = by_lt_z reached d.at (λ l. let least = next.nearest d is.is l in kept_one z c d is next.is (grind linear) same) (λ m. kept d is (inside.0, m))
+  goes_on c next same d is inside = by_lt_z reached d.at
+      (λ l. let least = next.nearest d is.is l in kept_one z c d is next.is (grind linear) same)
+      (λ m. kept d is (inside.0, m))
 
 module _ (z : Zone) (last reached : ℤ) (order : reached ≤ℤ last) (kept : KeepsOffset (TypeAt z) (λ u. (reached <ℤ u) × (u ≤ℤ last))) where
   -- ---- back from the second `last`
@@ -56,4 +58,6 @@ module _ (z : Zone) (last reached : ℤ) (order : reached ≤ℤ last) (kept : K
 
   pub goes_back : (c : Change) → IsLastChange (TypeAt z) (λ u. u ≤ℤ reached) c → c.before.offset ≡ c.after.offset
       → KeepsOffset (TypeAt z) (λ u. ((c.at -ℤ pos 1) <ℤ u) × (u ≤ℤ last))
-  goes_back c next same d is inside = by_lt_z reached d.at (λ l. kept d is (l, inside.1)) (λ m. let most = next.nearest d is.is m in kept_one z c d is next.is (grind linear) same)
+  goes_back c next same d is inside = by_lt_z reached d.at
+      (λ l. kept d is (l, inside.1))
+      (λ m. let most = next.nearest d is.is m in kept_one z c d is next.is (grind linear) same)

@@ -79,16 +79,9 @@ by_rule z a begin d valid rule h = (
   λ k.
       let is = k.0 in let b = begun z _ _ _ valid h is.fits_before is.before k.1 in grind (arith, to_rule, last_too),
   λ k.
-      let is = k.0 in let e = begins z _ (d.at -ℤ pos 1) valid h (rule_second a (d.at -ℤ pos 1) _ is.before) (omega linear) in (
-        record {
-          fits = is.fits;
-          fits_before = is.fits_before;
-          before = from_rule z a _ _ rule valid e is.before;
-          after = from_rule z a _ _ rule valid (last_too z _ valid e) is.after;
-          differ = is.differ;
-        },
-        e,
-      ),
+      let is = k.0 in let e = begins z _ (d.at -ℤ pos 1) valid h (rule_second a (d.at -ℤ pos 1) _ is.before) (omega linear) in
+      let before = from_rule z a _ _ rule valid e is.before in
+      let after = from_rule z a _ _ rule valid (last_too z _ valid e) is.after in grind arith,
 )
 
 pub rule_found : (z : Zone) (a : AlternateRule) (w : Bool) (s begin : ℤ) (found : Option Change) → IsValid z → z.rule ≡ Some (Alternate a) → IsBegin z begin

@@ -27,6 +27,5 @@ returns-else-has_leap_time c =
     let low = c.first_second-start.ensures.bound in
     let high = simp fits at c.if-start.false in
     let f2 : SFits w64 c.first_second-start.result = omega (arith, ints) in
-    never_refused _ _ _ c.entries.ensures.valid
-    (rw c.entries.ensures.entries at (simp fits at c.first_second-start.ensures.reached))
+    never_refused _ _ _ (rw c.entries.ensures.entries at (simp fits at c.first_second-start.ensures.reached)) c.entries.ensures.valid
     (simp fits at (c.has_leap_time.ensures.no c.if-has_leap_time.false))
