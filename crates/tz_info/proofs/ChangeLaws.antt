@@ -67,11 +67,7 @@ pub front_is_first : (z : Zone) (from until : ℤ) (c : Change) (cs : List Chang
     → IsFirst (TypeAt z) (λ u. (from -ℤ pos 1) <ℤ u) (Some c)
 front_is_first z _ until c cs h =
     let here = (h.each c).0 (at_front c cs) in
-    record {
-      is = here.0;
-      inside = grind linear;
-      nearest = λ d is inside. let m = not_before c d cs h.rising in let e = h.each d in grind linear;
-    }
+    record { is = here.0; inside = grind linear; nearest = λ d is inside. let m = not_before c d cs h.rising in let e = h.each d in grind linear }
 
 -- ---- the type before a gap
 pub one_type_before_gap : (z : Zone) (l : ℤ) (s t : LocalType) → IsTypeBeforeGap (TypeAt z) l s → IsTypeBeforeGap (TypeAt z) l t → s ≡ t

@@ -20,10 +20,10 @@ then_here : (f : InForce) (from last : ℤ) (c : Change) (cs : List Change) → 
     → AreChanges f from (last +ℤ pos 1) (cs ++ c ∷ [])
 then_here f from last c cs once is at low h = record {
   rising = all_pairs_push (λ a b. a.at <ℤ b.at) cs c h.rising (λ k d below. rw at ((h.each (get_or cs k d)).0 (Contains-get_or cs k d below)).1.1);
-  each = λ d. (
-    λ inside. elim (Contains-push_cases cs c d inside) [ inl earlier ↦ let k = (h.each d).0 earlier in grind linear | inr same ↦ grind linear ],
+  each = λ d. let e = h.each d in (
+    λ inside. elim (Contains-push_cases cs c d inside) [ inl earlier ↦ grind linear | inr same ↦ grind linear ],
     λ k. by_lt_z d.at last
-        (λ less. Contains-append_left cs (c ∷ []) d ((h.each d).1 (grind linear)))
+        (λ less. Contains-append_left cs (c ∷ []) d (e.1 (grind linear)))
         (λ more. let l = k.1.1 in rw (← apart f once c d is k.0 (omega linear)) (Contains-push cs c)),
   );
 }
@@ -74,7 +74,7 @@ module _ (z : Zone) (valid : IsValid z) (limits : IsRuleOrNone z.rule) (from unt
       (λ late. rw (none_between _ _ late) (grind linear))
 
   none_left : HasNoChange (TypeAt z) (IsFromUntil from until) → changes_of z from until ≡ []
-  none_left none = empty _ (λ c inside. let k = (changes_are.each c).0 inside in none c k.0 k.1)
+  none_left none = empty _ (λ c inside. let k = changes_are.each c in grind arith)
 
   -- a change, those before it and those after it
   around : (c : Change) → IsChange (TypeAt z) c → IsFromUntil from until c.at
@@ -99,8 +99,7 @@ pub steps_first : (s t : Changes) (c : Change) → IsValid s.zone.now → IsRule
     → t.zone ≡ s.zone → t.after ≡ c.at → t.last ≡ s.last → changes_left s ≡ c ∷ changes_left t
 unfolding changes_left
 steps_first s t c valid limits h zone after last =
-    let none = none_left _ valid limits (s.after +ℤ pos 1) c.at
-    (λ d is k. let m = h.nearest d is (omega linear, omega linear) in omega linear) in
+    let none = none_left _ valid limits (s.after +ℤ pos 1) c.at (λ d is k. let m = h.nearest d is in grind linear) in
     rw (zone, after, last) (rw none at (around _ valid limits (s.after +ℤ pos 1) (s.last +ℤ pos 1) c h.is (omega linear, omega linear)))
 
 pub steps_last : (s t : Changes) (c : Change) → IsValid s.zone.now → IsRuleOrNone s.zone.now.rule
@@ -108,11 +107,9 @@ pub steps_last : (s t : Changes) (c : Change) → IsValid s.zone.now → IsRuleO
     → t.zone ≡ s.zone → t.after ≡ s.after → t.last ≡ c.at -ℤ pos 1 → changes_left s ≡ changes_left t ++ c ∷ []
 unfolding changes_left
 steps_last s t c valid limits h zone after last =
-    let none = none_left _ valid limits (c.at +ℤ pos 1) (s.last +ℤ pos 1)
-    (λ d is k. let m = h.nearest d is (omega linear, omega linear) in omega linear) in
+    let none = none_left _ valid limits (c.at +ℤ pos 1) (s.last +ℤ pos 1) (λ d is k. let m = h.nearest d is in grind linear) in
     let until : (c.at -ℤ pos 1) +ℤ pos 1 ≡ c.at = omega linear in
-    rw (zone, after, last, until)
-    (rw none at (around _ valid limits (s.after +ℤ pos 1) (s.last +ℤ pos 1) c h.is (omega linear, omega linear)))
+    rw (zone, after, last, until) (rw none at (around _ valid limits (s.after +ℤ pos 1) (s.last +ℤ pos 1) c h.is (omega linear, omega linear)))
 
 pub steps_none : (s : Changes) → IsValid s.zone.now → IsRuleOrNone s.zone.now.rule → HasNoChange (TypeAt s.zone.now) (IsInStretch s.after s.last)
     → changes_left s ≡ []

@@ -1,9 +1,9 @@
 -- The differences of two zones, from one pair of types to the next.
 use Rattle.tz_info.proofs.{
   ChangeSearch.{InForce},
-  Words.{AreDifferences, AreListedTo, Contains, Contains-append_left, Contains-get_or, Contains-push, Contains-push_cases, Difference, IsDifference},
-  Words.{IsInDifference, IsListedIf, IsPairUntil, IsRunUntil, List, LocalType, TypeAt, Zone, [], all_pairs_push, by_lt_z, get_or, inl, inr, linear, pos, subst},
-  Words.{sym, ℤ, ◌-ℤ◌, ◌<ℤ◌, ◌∙◌, ◌∷◌, ◌≡◌, ◌≢◌, ◌≤ℤ◌},
+  Words.{AreDifferences, AreListedTo, Contains-append_left, Contains-get_or, Contains-push, Contains-push_cases, Difference, IsDifference, IsInDifference},
+  Words.{IsListedIf, IsPairUntil, IsRunUntil, List, LocalType, TypeAt, Zone, [], all_pairs_push, by_lt_z, get_or, inl, inr, linear, pos, sym, ℤ, ◌-ℤ◌, ◌<ℤ◌},
+  Words.{◌∙◌, ◌∷◌, ◌≡◌, ◌≢◌, ◌≤ℤ◌},
   ZoneLaws.{type_once},
 }
 
@@ -19,11 +19,10 @@ covers : (z w : Zone) (from until u : ℤ) (d e : Difference) → IsDifference (
     → d.old ≡ e.old → d.new ≡ e.new → IsInDifference u d → IsInDifference u e → (d.from ≤ℤ e.from) × (e.until ≤ℤ d.until)
 covers z w from until u d e h k old new i j = (
   by_lt_z e.from d.from
-      (λ less. let types = k.each (d.from -ℤ pos 1) (omega linear) (omega linear) in
-      absurd (h.begins (omega linear) (rw (← old) at types.0) (rw (← new) at types.1)))
+      (λ less. let types = k.each (d.from -ℤ pos 1) (omega linear) (omega linear) in let b = h.begins (omega linear) in absurd (grind linear))
       (λ m. m),
   by_lt_z d.until e.until
-      (λ less. let types = k.each d.until (omega linear) less in absurd (h.ends (omega linear) (rw (← old) at types.0) (rw (← new) at types.1)))
+      (λ less. let types = k.each d.until (omega linear) less in let b = h.ends (omega linear) in absurd (grind linear))
       (λ m. m),
 )
 
@@ -106,8 +105,7 @@ all_listed z w _ _ at ds h over = record {
         let some = is.some in let high = is.high in
         let types = is.each d.from (omega linear) some in
         let found = h.covered d.from d.old d.new is.low (omega linear) types.0 types.1 is.differ in
-        let same = one_difference z w _ _ _ _ d (h.each found.0 found.1).0 is found.2 (omega linear, some) in
-        subst (Contains ds) same found.1,
+        rw (← one_difference z w _ _ _ _ d (h.each found.0 found.1).0 is found.2 (omega linear, some)) found.1,
   );
   covered = λ u s t low high. h.covered u s t low (omega linear);
 }

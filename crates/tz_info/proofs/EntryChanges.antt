@@ -5,11 +5,11 @@ use Rattle.tz_info.proofs.{
   SegmentLaws.{begin_first, begin_next, come_at_time, come_by_time, come_from, not_later, place_before, place_begin, place_most, places_rise, segment_most},
   SegmentLaws.{split_at, split_count},
   TableSearch.{search_found},
-  Words.{AreLeapSeconds, AreRising, Bool, Change, Counts, HasNoChange, HasType, IsBeforeLast, IsChange, IsFirst, IsFirstChange, IsInTable, IsAhead, IsLast},
-  Words.{IsLastChange, IsLastOf, IsNearestChange, Precedes, IsLeapTime, IsNear, IsSpanAt, IsTrue, IsValid, LeapSecond, List, LocalType, MatchOption, None},
-  Words.{Option, RoseWithin, SFits, Some, Transition, TypeAt, Zone, ap, arith, begin_of, true, index_at, cases_lt, correction_at, digits, digits-le},
-  Words.{digits-more, false, get_or, index_of, inl, inr, leap_time_at, length, length-take, linear, passed, pos, refl, segment_of, slice_get, suc, sym, take},
-  Words.{w64, zero, ℕ, ℤ, ◌+ℤ◌, ◌+◌, ◌-ℤ◌, ◌-◌, ◌<ℤ◌, ◌<◌, ◌==◌, ◌↔◌, ◌∙◌, ◌≡◌, ◌≤ℤ◌, ◌≤◌},
+  Words.{AreLeapSeconds, AreRising, Bool, Change, Counts, HasNoChange, HasType, IsAhead, IsBeforeLast, IsChange, IsFirst, IsFirstChange, IsInTable, IsLast},
+  Words.{IsLastChange, IsLastOf, IsLeapTime, IsNear, IsNearestChange, IsSpanAt, IsTrue, IsValid, LeapSecond, List, LocalType, MatchOption, None, Option},
+  Words.{Precedes, RoseWithin, SFits, Some, Transition, TypeAt, Zone, ap, arith, begin_of, cases_lt, correction_at, digits, digits-le, digits-more, false},
+  Words.{get_or, index_at, index_of, inl, inr, leap_time_at, length, length-take, linear, passed, pos, refl, segment_of, slice_get, suc, sym, take, true, w64},
+  Words.{zero, ℕ, ℤ, ◌+ℤ◌, ◌+◌, ◌-ℤ◌, ◌-◌, ◌<ℤ◌, ◌<◌, ◌==◌, ◌↔◌, ◌∙◌, ◌≡◌, ◌≤ℤ◌, ◌≤◌},
   ZoneChanges.{out_before, out_from, refused_on, time_of},
   ZoneLaws.{before_or_from_last, inside_listed, last_index_below, leap_time_decided},
 }
@@ -18,6 +18,7 @@ use Rattle.tz_info.specs.{
   declared.zone.made.change_table.{Between.{Between}, Come.{Come}},
 }
 
+-- a number has few binary digits
 pub ruleset few_digits = digits-le
 
 abbrev count_at : Entries → ℤ → ℕ
@@ -58,12 +59,8 @@ pub have_come : (z : Zone) (e : Entries) (u : ℤ) (c : Come) → IsValid z → 
     → IsCome e u c → HaveComeAt z u c
 have_come z e u c valid made fits l come =
     let last = made.come u (leap_time_at z u) fits l in
-    record {
-      of_second = l;
-      all = grind arith;
-      named = rw come.index (made.named u (leap_time_at z u) fits l);
-      below = rw come.index (last_index_below _ u 0 _ valid.some made.indexes);
-    }
+    let named = made.named u (leap_time_at z u) fits l in
+    record { of_second = l; all = grind arith; named = grind arith; below = rw come.index (last_index_below _ u 0 _ valid.some made.indexes) }
 
 pub not_last : (z : Zone) (u : ℤ) (c : Come) → HaveComeAt z u c → c.are_all ≡ false → IsBeforeLast z (leap_time_at z u)
 not_last z u c h not = grind (linear, before_or_from_last)
@@ -74,7 +71,7 @@ pub is_come : (e : Entries) (u : ℤ) (n : ℕ) (latest : Option Transition) (c 
     → MatchOption latest (c.index ≡ 0) (λ t. c.index ≡ t.type_index) → c.are_all ≡ (n == e.all) → IsCome e u c
 is_come e u n _ c within come last index all =
     let many : length (passed e.items u) ≡ n = ap length come ∙ (simp length-take (omega arith)) in
-    record { all = rw (many, all) ((λ t. grind arith), (λ q. grind arith)); index = rw come (named_by _ n _ _ within last index) }
+    record { all = rw (many, all) (λ t. grind arith, λ q. grind arith); index = rw come (named_by _ n _ _ within last index) }
   where
     named_by : (ts : List Transition) (n : ℕ) (latest : Option Transition) (i : ℕ) → n ≤ length ts → IsLastOf ts n latest
         → MatchOption latest (i ≡ 0) (λ t. i ≡ t.type_index)
@@ -120,7 +117,7 @@ module _ (z : Zone) (e : Entries) (valid : IsValid z) (made : AreEntries z e) wh
   type_here u x n fits l count = let named = made.named u x fits l in let index = index_there e u made.rising in grind arith
 
   type_amid : (u x : ℤ) (n : ℕ) (t : LocalType) → SFits w64 u → IsLeapTime z.leaps u x → count_at e u ≡ n → n < e.all
-      → slice_get z.types (index_of e.items n) ≡ Some t → TypeAt z u t
+      → HasType z (index_of e.items n) t → TypeAt z u t
   type_amid u x n t fits l count more has = record {
     leap_time = x;
     of_second = λ _. l;
@@ -131,7 +128,7 @@ module _ (z : Zone) (e : Entries) (valid : IsValid z) (made : AreEntries z e) wh
   }
 
   amid_type : (u : ℤ) (n : ℕ) (t : LocalType) → SFits w64 u → 0 < length z.transitions → count_at e u ≡ n → n < e.all → TypeAt z u t
-      → slice_get z.types (index_of e.items n) ≡ Some t
+      → HasType z (index_of e.items n) t
   amid_type u n t fits some count more h =
       let l = time_of z u t some h in
       let last = made.come u h.leap_time fits l in
@@ -241,7 +238,6 @@ module _ (z : Zone) (e : Entries) (after : ℤ) where
   next_by_last second None valid made some last at none = λ d is inside.
       let (k, below, time) = table_change z e valid made d is inside.table in
       let r = come_by z e valid made k after below in
-      let more = made.more in
       let same : k ≡ count_at e after = grind linear in none d is (cc (at any))
   next_by_last second (Some c) valid made some last at h = next_found z e valid made after c some h.0 (h.1 ∙ at any)
 
@@ -310,7 +306,7 @@ span_between z e u b t valid made h is fits low high has =
     let (some, not_least, more) = h.span is in
     let k = h.place in
     let same : (k - 1) + 1 ≡ k = omega arith in
-    let own : slice_get z.types (index_of e.items k) ≡ Some t = rw h.index at has in
+    let own : HasType z (index_of e.items k) t = rw h.index at has in
     let (since, before) = inside_between z e u b made h fits in
     let (r, has_r) = inside_listed _ _ (index_below z e (k - 1) valid made (omega arith)) in
     let (s, has_s) = inside_listed _ _ (index_below z e (k + 1) valid made (omega arith)) in

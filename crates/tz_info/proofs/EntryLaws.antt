@@ -15,14 +15,14 @@ use Rattle.tz_info.specs.Transitions.{NameTypes}
 use Rattle.tz_info.specs.Steps.Entries.{AreBefore, AreEntries, EndsAt, IsAdded, IsStartIn, NeverComes, added, idle, last_index, none_there, one_there}
 
 -- ---- lists with one item more
-last_more : (ts : List Transition) (t : Transition) (i : ℕ) → last_else i (map (λ (s : Transition). s.type_index) (ts ++ (t ∷ []))) ≡ t.type_index
+last_more : (ts : List Transition) (t : Transition) (i : ℕ) → last_else i (map (λ (s : Transition). s.type_index) (ts ++ t ∷ [])) ≡ t.type_index
 last_more [] t i = refl
 last_more (s ∷ ts) t i = last_more ts t s.type_index
 
-passed_in : (ts : List Transition) (t : Transition) (x : ℤ) → t.unix_leap_time ≤ℤ x → passed (ts ++ (t ∷ [])) x ≡ passed ts x ++ (t ∷ [])
+passed_in : (ts : List Transition) (t : Transition) (x : ℤ) → t.unix_leap_time ≤ℤ x → passed (ts ++ t ∷ []) x ≡ passed ts x ++ t ∷ []
 passed_in ts t x h = rw (filter-append, le_true t.unix_leap_time x h) refl
 
-passed_out : (ts : List Transition) (t : Transition) (x : ℤ) → x <ℤ t.unix_leap_time → passed (ts ++ (t ∷ [])) x ≡ passed ts x
+passed_out : (ts : List Transition) (t : Transition) (x : ℤ) → x <ℤ t.unix_leap_time → passed (ts ++ t ∷ []) x ≡ passed ts x
 passed_out ts t x h = rw (filter-append, le_false t.unix_leap_time x h) (append-nil (passed ts x))
 
 passed_all : (ts : List Transition) (x : ℤ) → All (λ t. t.unix_leap_time ≤ℤ x) ts → passed ts x ≡ ts
@@ -75,8 +75,8 @@ kept_of : (entries kept : List Transition) (s : ℤ) → AreBefore entries s kep
 kept_of entries kept s (none_there e other) = rw e (record { few = omega arith; item = λ j d h. refl; index = λ j h. refl; same = λ u h. refl })
 kept_of entries kept s (one_there t e at) = rw e (record {
   few = grind (arith, length_push);
-  item = λ j d h. sym (get_or_append_left kept (t ∷ []) d j h);
-  index = λ j h. sym (index_left kept (t ∷ []) j h);
+  item = λ j d h. sym (get_or_append_left kept _ d j h);
+  index = λ j h. sym (index_left kept _ j h);
   same = λ u h. sym (passed_out kept t u (omega linear));
 })
 
@@ -118,7 +118,7 @@ module _ (z : Zone) (old kept entries : List Transition) (k : ℕ) (s : ℤ) (t 
   keep : AreKept old kept s
   keep = kept_of old kept s h.before
 
-  taken : take (k + 1) z.transitions ≡ take k z.transitions ++ (t ∷ [])
+  taken : take (k + 1) z.transitions ≡ take k z.transitions ++ t ∷ []
   taken = rw (← h.item) at (take_more z.transitions k t h.more)
 
   -- before the second nothing is new
@@ -129,7 +129,7 @@ module _ (z : Zone) (old kept entries : List Transition) (k : ℕ) (s : ℤ) (t 
       rw (taken, passed_out (take k z.transitions) t x (grind linear), keep.same u early) (h.made.named u x l)
 
   named_from : (u x : ℤ) → IsLeapTime z.leaps u x → s ≤ℤ u → last_index (passed (take (k + 1) z.transitions) x) ≡ t.type_index
-  named_from u x l late = rw (taken, passed_in (take k z.transitions) t x ((h.start.reached u x l).1 late)) (last_more (passed (take k z.transitions) x) t 0)
+  named_from u x l late = rw (taken, passed_in (take k z.transitions) t x ((h.start.reached u x l).1 late), last_more) refl
 
   pub turned : AreMadeOf z entries (k + 1)
   turned =
@@ -156,7 +156,7 @@ module _ (z : Zone) (old kept entries : List Transition) (k : ℕ) (s : ℤ) (t 
         | added e why ↦
             let entry : Transition = record t { unix_leap_time = s } in
             let n = length_push kept entry in
-            let full = kept ++ (entry ∷ []) in
+            let full = kept ++ entry ∷ [] in
             let own_last = get_or_push kept entry t (length kept) refl in
             let longer : AreRising full =
             all_pairs_push (λ (a b : Transition). a.unix_leap_time <ℤ b.unix_leap_time) kept entry rising earlier in
@@ -191,8 +191,9 @@ module _ (z : Zone) (old kept entries : List Transition) (k : ℕ) (s : ℤ) (t 
 module _ (z : Zone) (entries : List Transition) (k all : ℕ) (valid : IsValid z) (made : AreMadeOf z entries k) where
   pub all_come : k ≡ length z.transitions → all ≡ length entries → AreEntries z (record { items = entries; all = all; transitions = z.transitions })
   all_come e a =
-      let few = made.few in
-      let some = made.some in record {
+    let few = made.few in
+    let some = made.some in
+    record {
       listed = refl;
       rising = made.rising;
       indexes = made.indexes;
@@ -208,14 +209,16 @@ module _ (z : Zone) (entries : List Transition) (k all : ℕ) (valid : IsValid z
 
   pub never_come : (t : Transition) → k < length z.transitions → t ≡ get_or z.transitions k t → NeverComes z.leaps t.unix_leap_time
       → all ≡ length entries + 1 → AreEntries z (record { items = entries; all = all; transitions = z.transitions })
-  never_come t more item never a = record {
+  never_come t more item never a =
+    let few = made.few in
+    record {
       listed = refl;
       rising = made.rising;
       indexes = made.indexes;
-      few = let n = made.few in omega arith;
+      few = omega arith;
       more = omega arith;
       most = omega arith;
-      some = ((λ h. omega arith), (λ h. omega arith));
+      some = (λ h. omega arith, λ h. omega arith);
       named = λ u x f l. rw (passed_first z.transitions k x (λ i d low h.
           let late = never u x f l in
           let n = not_later z.transitions k i d valid.transitions.rising low h in grind (linear, get_or_default))) (made.named u x l);
@@ -246,23 +249,20 @@ own_entries z valid none differ =
       few = omega arith;
       more = omega arith;
       most = omega arith;
-      some = ((λ h. h), (λ h. h));
+      some = (λ h. h, λ h. h);
       named = λ u x f l. rw (same u x l) refl;
-      come = λ u x f l. rw (same u x l) ((λ h. h), (λ h. h));
+      come = λ u x f l. rw (same u x l) (λ h. h, λ h. h);
       leap_time = λ k d h. (_, own_leap_time z.leaps _ none);
       differ = λ k h more. differ k more;
     }
 
 -- ---- the second at which a transition comes
-pub never_then : (leaps : List LeapSecond) (x start : ℤ) → ((u y : ℤ) → IsLeapTime leaps u y → (x ≤ℤ y) ↔ (start ≤ℤ u))
-    → pos 9_223_372_036_854_775_807 <ℤ start → NeverComes leaps x
-never_then leaps x start reached late u y f l = let a = reached u y l in grind linear
+module _ (leaps : List LeapSecond) (x start : ℤ) (reached : (u y : ℤ) → IsLeapTime leaps u y → (x ≤ℤ y) ↔ (start ≤ℤ u)) where
+  pub never_then : pos 9_223_372_036_854_775_807 <ℤ start → NeverComes leaps x
+  never_then late u y f l = let a = reached u y l in grind linear
 
-pub never_refused : (leaps : List LeapSecond) (x start : ℤ) → AreLeapSeconds leaps → ((u y : ℤ) → IsLeapTime leaps u y → (x ≤ℤ y) ↔ (start ≤ℤ u))
-    → IsLeapTimeRefused leaps start
-    → NeverComes leaps x
-never_refused leaps x start valid reached refused u y f l =
-    by_lt_z y x (λ h. h) (λ h. absurd (refused_on leaps start u y valid ((reached u y l).0 h) refused l))
+  pub never_refused : AreLeapSeconds leaps → IsLeapTimeRefused leaps start → NeverComes leaps x
+  never_refused valid refused u y f l = by_lt_z y x (λ h. h) (λ h. absurd (refused_on leaps start u y valid ((reached u y l).0 h) refused l))
 
 -- ---- one entry less
 pub popped : (entries kept : List Transition) (r : Option Transition) (second : ℤ) → EndsAt entries second → entries ≡ kept ++ option_to_list r

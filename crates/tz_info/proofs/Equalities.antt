@@ -21,8 +21,8 @@ list_exact E exact xs ys = slice_eq-Decides exact xs ys (pointwise E xs ys) refl
 
 option_exact : {X : Type 0} (E : X → X → Bool) → IsExact E → IsExact (option_eq E)
 option_exact E exact None None = (λ h. refl, λ e. refl)
-option_exact E exact None (Some y) = (λ h. cc, λ e. cc)
-option_exact E exact (Some x) None = (λ h. cc, λ e. cc)
+option_exact E exact None (Some y) = grind arith
+option_exact E exact (Some x) None = grind arith
 option_exact E exact (Some x) (Some y) = let e = exact x y in grind arith
 
 -- ---- records, as pairs of their fields
@@ -48,10 +48,10 @@ pub alternate_exact : (a b : AlternateRule)
 alternate_exact = grind (arith, type_exact, day_time_exact)
 
 pub rule_exact : (a b : TransitionRule) → IsTrue (rule_eq.it a b) ↔ (a ≡ b)
-rule_exact (Fixed s) (Fixed t) = (λ h. ap Fixed ((type_exact s t).0 h), λ e. (type_exact s t).1 (cc))
-rule_exact (Fixed s) (Alternate b) = (λ h. cc, λ e. cc)
-rule_exact (Alternate a) (Fixed t) = (λ h. cc, λ e. cc)
-rule_exact (Alternate a) (Alternate b) = (λ h. ap Alternate ((alternate_exact a b).0 h), λ e. (alternate_exact a b).1 (cc))
+rule_exact (Fixed s) (Fixed t) = let e = type_exact s t in grind arith
+rule_exact (Fixed s) (Alternate b) = grind arith
+rule_exact (Alternate a) (Fixed t) = grind arith
+rule_exact (Alternate a) (Alternate b) = let e = alternate_exact a b in grind arith
 
 -- ---- zones
 transition_exact : IsExact transition_eq.it

@@ -51,8 +51,7 @@ module _ (es : List LeapSecond) (d : LeapSecond) (valid : AreLeapSeconds es) whe
   before_found i x v h p stops =
       rw (filter_first (λ e. int_lt e.unix_leap_time x) es i h
       (λ k f l. lt_true _ x (p.before k f l))
-      (λ k f l m.
-      let r = times_rise i k l m in lt_false _ x (grind (linear, get_or_default)))) p.value
+      (λ k f l m. let r = times_rise i k l m in lt_false _ x (grind (linear, get_or_default)))) p.value
 
   -- the correction before the first entry's own time, and before a later one's
   pub before_first : 0 < length es → correction_before es (get_or es 0 d).unix_leap_time ≡ pos 0

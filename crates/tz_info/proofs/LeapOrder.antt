@@ -99,14 +99,12 @@ leap_times_answer es u valid low high r =
 pub split : (p u : ℤ) (es : List LeapSecond) (k : ℕ) → Follow p es → k < length es → (k < counted_from p es u) ↔ (get_or (thresholds p es) k (pos 0) ≤ℤ u)
 split p u [] k f h = absurd (omega arith)
 split p u (e ∷ es) zero f h = by_lt_z u (e.unix_leap_time -ℤ p)
-    (λ below. let z = none_counted p u _ f (λ d m. below) in (λ l. absurd (omega arith), λ l. absurd (omega linear)))
-    (λ above. let c = counted p e es u above in (λ l. above, λ l. omega arith))
+    (λ below. let z = none_counted p u _ f (λ d m. below) in grind linear)
+    (λ above. let c = counted p e es u above in grind linear)
 split p u (e ∷ es) (suc k) f h =
     let r = split _ u es k (follow_tail p e es f) (omega arith) in
     by_lt_z u (e.unix_leap_time -ℤ p)
-    (λ below.
-    let c = not_counted p e es u below in let z = none_counted p u _ f (λ d m. below) in
-    (λ l. absurd (omega arith), λ l. let q = r.1 l in absurd (omega arith)))
+    (λ below. let c = not_counted p e es u below in let z = none_counted p u _ f (λ d m. below) in grind linear)
     (λ above. grind (arith, counted))
 
 -- the correction of the last of the first k entries is k

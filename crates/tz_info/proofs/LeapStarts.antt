@@ -4,9 +4,9 @@ use Rattle.tz_info.proofs.{
   LeapEntries.{follow, threshold_at, threshold_count, times_rise},
   LeapOrder.{split},
   Prefixes.{last_taken},
-  Words.{AreLeapSeconds, HaveCome, IsLeapTime, IsNear, IsOneStep, LeapSecond, List, [], arith, by_lt_z, cases_lt, corrections, count_by-le-length, get_or, inl},
-  Words.{inr, int_le, last_else, length, linear, passed_count, pos, saturate_signed, suc, take, thresholds, w64, zero, ℕ, ℤ, ◌+ℤ◌, ◌-ℤ◌, ◌-◌, ◌<ℤ◌, ◌<◌, ◌↔◌},
-  Words.{◌∷◌, ◌≡◌, ◌≤ℤ◌, ◌≤◌},
+  Words.{AreLeapSeconds, HaveCome, IsLeapTime, IsNear, IsOneStep, LeapSecond, List, [], arith, cases_lt, corrections, count_by-le-length, get_or, inl, inr},
+  Words.{int_le, last_else, length, linear, passed_count, pos, saturate_signed, suc, take, thresholds, w64, zero, ℕ, ℤ, ◌+ℤ◌, ◌-ℤ◌, ◌-◌, ◌<ℤ◌, ◌<◌, ◌↔◌, ◌∷◌},
+  Words.{◌≡◌, ◌≤ℤ◌, ◌≤◌},
 }
 
 -- the correction in force after the first k entries
@@ -50,9 +50,9 @@ module _ (es : List LeapSecond) (d : LeapSecond) (valid : AreLeapSeconds es) whe
   above_law x u y n c h l is more =
       let m = passed_at_most es u in
       let s = (passed_when u c (omega arith)).0 (omega arith) in
-      let a : x <ℤ (get_or es c d).unix_leap_time = by_lt_z x (get_or es c d).unix_leap_time (λ k. k) (λ k. absurd (h.after c d more (omega arith) k)) in
+      let a = h.after c d more (omega arith) in
       let e : y ≡ u +ℤ correction_behind es (suc c) = rw is at l.sum in
-      elim (one_step c (omega arith)) [ inl k ↦ omega linear | inr k ↦ omega linear ]
+      elim (one_step c (omega arith)) [ inl k ↦ grind linear | inr k ↦ grind linear ]
 
   -- and then x less the correction in force at x comes before u
   above_start : (x u : ℤ) (n : ℕ) → HaveCome es x n → n < passed_count es u → (x -ℤ correction_behind es n) ≤ℤ u
@@ -75,8 +75,8 @@ reached_first es x u y valid h l = elim (cases_lt 0 (passed_count es u)) [
   | inl more ↦
       let m = passed_at_most es u in
       let d = no_first es 0 (omega arith) in
-      let a = above_law es d valid x u y 0 (passed_count es u - 1) h l (omega arith) (omega arith) in
-      let b = above_start es d valid x u 0 h more in grind linear
+      let a = above_law es d valid x u y 0 (passed_count es u - 1) h l in
+      let b = above_start es d valid x u 0 h in grind linear
   | inr none ↦ grind arith
 ]
 

@@ -40,9 +40,10 @@ pub run_until : (z : Zone) (s : Span) (at limit end : ℤ) → IsNear at → IsN
     → IsRunUntil (TypeAt z) at limit end
 run_until z s at limit end near near_limit ahead here ends =
     let its : (t : LocalType) → TypeAt z at t → s.local_time_type ≡ t = λ t k. type_once z at _ t here.in_force_then k in
+    let most = ends (end -ℤ pos 1) in
     record {
       later = (ends at).1 (ahead, here.inside.until);
-      most = by_lt_z limit end (λ l. let before = ((ends _).0 l).0 in omega linear) (λ l. l);
+      most = grind linear;
       same = λ u from until t k.
           let (before, within) = (ends u).0 until in
           rw (← its t k) (here.span.each u (record { fits = omega linear; since = since_more _ at u here.inside.since from; until = within }));

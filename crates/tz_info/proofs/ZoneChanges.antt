@@ -58,13 +58,10 @@ module _ (z : Zone) (a : AlternateRule) (u : ℤ) (t : LocalType) (rule : z.rule
   to_rule valid e k = rw rule at (type_from z u t valid.transitions.rising (record { type = k; segment = e }))
 
   pub from_rule : IsValid z → segment_of z u ≡ length z.transitions → AlternateAt a u t → TypeAt z u t
-  from_rule valid e k = elim (cases_lt 0 (length z.transitions)) [
-    | inl some ↦
-        let x = rule_leap_time _ u valid.leaps (rule_second a u t k) in
-        let b = segment_at z u _ valid.transitions.rising e in
-        (type_in_from z u x.0 t x.1 (rw (← x.1.sum) at b) (rw rule k)).type
-    | inr none ↦ grind arith
-  ]
+  from_rule valid e k =
+      let x = rule_leap_time _ u valid.leaps (rule_second a u t k) in
+      let b = segment_at z u _ valid.transitions.rising e in
+      (type_in_from z u x.0 t x.1 (rw (← x.1.sum) at b) (rw rule k)).type
 
 -- `begin` comes no later than a second with a type at which all have come
 pub begun : (z : Zone) (begin u : ℤ) (t : LocalType) → IsValid z → IsBegin z begin → SFits w64 u → TypeAt z u t → segment_of z u ≡ length z.transitions
@@ -73,13 +70,7 @@ begun z _ u t valid h fits k e = grind (linear, time_of, come_at_time)
 
 pub begins : (z : Zone) (begin u : ℤ) → IsValid z → IsBegin z begin → IsRuleTime u → begin ≤ℤ u → segment_of z u ≡ length z.transitions
 begins z _ u valid h within from =
-    let m = segment_most z u valid.transitions.rising in
-    elim (cases_lt 0 (length z.transitions)) [
-      | inl some ↦
-          let x = rule_leap_time _ u valid.leaps within in
-          sym (come_at_time z u x.0 x.1) ∙ (h.comes u x.0 (omega linear) x.1).1 from
-      | inr none ↦ omega arith
-    ]
+    let (x, l) = rule_leap_time _ u valid.leaps within in sym (come_at_time z u x l) ∙ (h.comes u x (omega linear) l).1 from
 
 -- the changes of the zone there are those of the rule after `begin`
 by_rule : (z : Zone) (a : AlternateRule) (begin : ℤ) (d : Change) → IsValid z → z.rule ≡ Some (Alternate a) → IsBegin z begin
@@ -88,16 +79,9 @@ by_rule z a begin d valid rule h = (
   λ k.
       let is = k.0 in let b = begun z _ _ _ valid h is.fits_before is.before k.1 in grind (arith, to_rule, last_too),
   λ k.
-      let is = k.0 in let e = begins z _ (d.at -ℤ pos 1) valid h (rule_second a (d.at -ℤ pos 1) _ is.before) (omega linear) in (
-        record {
-          fits = is.fits;
-          fits_before = is.fits_before;
-          before = from_rule z a _ _ rule valid e is.before;
-          after = from_rule z a _ _ rule valid (last_too z _ valid e) is.after;
-          differ = is.differ;
-        },
-        e,
-      ),
+      let is = k.0 in let e = begins z _ (d.at -ℤ pos 1) valid h (rule_second a (d.at -ℤ pos 1) _ is.before) (omega linear) in
+      let before = from_rule z a _ _ rule valid e is.before in
+      let after = from_rule z a _ _ rule valid (last_too z _ valid e) is.after in grind arith,
 )
 
 pub rule_found : (z : Zone) (a : AlternateRule) (w : Bool) (s begin : ℤ) (found : Option Change) → IsValid z → z.rule ≡ Some (Alternate a) → IsBegin z begin

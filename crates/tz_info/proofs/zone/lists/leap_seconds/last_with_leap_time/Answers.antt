@@ -7,11 +7,10 @@ loop-entry-preserved c =
     let fc : SFits w32 (get_or c.args.entries.now c.loop-entry.entry-index any_leap).correction = search rules in
     let fb = c.refused_by.type_inv in
     let fm = c.min-refused.type_inv in
-    let more = refused_more _ _ _ _ _ c.loop-entry.invariant.refused c.refused_by.ensures.late
-    (λ u. refuses_by_entry _ _ any_leap _ _ u c.loop-entry-test.true c.loop-entry.invariant.before
-    (c.refused_by.ensures.first u)) (simp fits at c.min-refused.ensures.value) in
     simp fits (record {
-      refused = more;
+      refused = refused_more _ _ _ _ _ c.loop-entry.invariant.refused c.refused_by.ensures.late
+          (λ u. refuses_by_entry _ _ any_leap _ _ u c.loop-entry-test.true c.loop-entry.invariant.before
+          (c.refused_by.ensures.first u)) (simp fits at c.min-refused.ensures.value);
       before = sym (rw add-one (last_taken (λ e. e.correction) _ _ _ any_leap c.loop-entry-test.true));
     })
 

@@ -1,4 +1,4 @@
-use Rattle.tz_info.proofs.{Prefixes.any_leap, Fits.fits, LeapSearch.{by_saturated, passed_here, since_epoch}, Words.{SFits, arith, get_or, rules, w64}}
+use Rattle.tz_info.proofs.{Fits.fits, LeapSearch.{by_saturated, passed_here, since_epoch}, Prefixes.any_leap, Words.{SFits, arith, get_or, rules, w64}}
 use Rattle.tz_info.proofs.zone.lists.leap_time.is_passed.Goals as goal
 
 pub returns : goal.returns
@@ -8,7 +8,5 @@ returns c =
     let fd : SFits w64 c.correction_after-correction.result = omega arith in
     let fs = c.saturating_add.type_inv in
     let ft : SFits w64 (get_or c.args.entries.now c.args.place any_leap).unix_leap_time = search rules in
-    let here = passed_here _ _ _ _ _ c.requires.leaps c.requires.place
-    c.correction_after-correction.ensures in
-    simp fits (by_saturated _ _ _ ft
-    (since_epoch _ _ _ c.requires.leaps c.requires.place) (simp fits at c.saturating_add.ensures) here)
+    simp fits (by_saturated _ _ _ ft (since_epoch _ _ _ c.requires.leaps c.requires.place) (simp fits at c.saturating_add.ensures)
+    (passed_here _ _ _ _ _ c.requires.leaps c.requires.place c.correction_after-correction.ensures))

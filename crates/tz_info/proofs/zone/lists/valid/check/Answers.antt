@@ -14,25 +14,16 @@ returns-then-is_empty g c = with_fault (No_type (grind (arith, nat_tests)))
 pub returns-then-not-name_types : goal.returns-then-not-name_types
 returns-then-not-name_types g c =
     with_fault (Other_index (grind (arith, nat_tests))
-    (λ h. let t = c.name_types.ensures.1
-    (all_of_map (λ t. t.type_index < length c.args.types.now) _ _ h) in
-    cc))
+    (λ h. let all = all_of_map (λ t. t.type_index < length c.args.types.now) _ _ h in grind arith))
 
 pub returns-then-not-are_transitions : goal.returns-then-not-are_transitions
 returns-then-not-are_transitions g c =
     let indexes = All-map (λ t. t.type_index < length c.args.types.now) g.T.AsTransition.transition _
     (c.name_types.ensures.0 c.if-not-name_types.false) in
-    with_fault (Not_rising (grind (arith, nat_tests)) indexes
-    (λ h. let t = c.are_transitions.ensures.1 (record { indexes = indexes; rising = h }) in cc))
+    with_fault (Not_rising (grind (arith, nat_tests)) indexes (λ h. grind arith))
 
 pub returns-then-not-are_leap_seconds : goal.returns-then-not-are_leap_seconds
-returns-then-not-are_leap_seconds g c =
-    with_fault (Other_leaps (grind (arith, nat_tests))
-    (grind arith)
-    (λ h. grind arith))
+returns-then-not-are_leap_seconds g c = with_fault (Other_leaps (grind (arith, nat_tests)) (grind arith) (λ h. grind arith))
 
 pub returns-then-not-rule_agrees : goal.returns-then-not-rule_agrees
-returns-then-not-rule_agrees g c =
-    with_fault (Other_rule (grind (arith, nat_tests))
-    (grind arith) (grind arith)
-    (λ h. grind arith))
+returns-then-not-rule_agrees g c = with_fault (Other_rule (grind (arith, nat_tests)) (grind arith) (grind arith) (λ h. grind arith))

@@ -6,7 +6,7 @@ stands_if : (types : ℕ) (ts : List Transition) (place : ℕ) (before here : Tr
     → ((here.type_index < types) × (before.unix_leap_time <ℤ here.unix_leap_time)) ↔ Stands types ts place
 stands_if _ ts _ _ here some b h = (
   λ s. record { index = λ d. rw (h d) s.0; later = λ d _. rw (b d, h d) s.1 },
-  λ s. let l = s.later here some in let i = s.index here in let e = b here in let f = h here in grind arith,
+  λ s. let l = s.later here some in let i = s.index here in grind arith,
 )
 
 pub returns : goal.returns
@@ -15,8 +15,5 @@ returns g c =
     let b : SFits w64 c.transition-before.result.unix_leap_time = search rules in
     let h : SFits w64 c.transition-here.result.unix_leap_time = search rules in
     let iff = stands_if c.args.type_count (map f c.args.transitions.now) _ c.transition-before.result c.transition-here.result c.requires.some
-    (λ d. rw (c.transition-before.ensures, c.index-transitions-place.is)
-    (get_or-map f c.args.transitions.now (c.args.place - 1) c.index-transitions-place.result d (omega arith)))
-    (λ d. rw (c.transition-here.ensures, c.index-transitions-place-2.is)
-    (get_or-map f c.args.transitions.now c.args.place c.index-transitions-place-2.result d (omega arith))) in
+    (λ d. grind (arith, get_or-map)) (λ d. grind (arith, get_or-map)) in
     simp to_z-of_z (grind arith)

@@ -1,14 +1,12 @@
-use Rattle.tz_info.proofs.Fits.{fits}
-use Rattle.tz_info.proofs.EntryLaws.{all_come, kept_all, never_come, turned}
-use Rattle.tz_info.proofs.Words.{SFits, arith, length, rules, vec_len, w64, zone_in, ◌<◌, ◌≡◌}
+use Rattle.tz_info.proofs.{EntryLaws.{all_come, kept_all, never_come, turned}, Fits.fits}
+use Rattle.tz_info.proofs.Words.{SFits, arith, length, rules, w64, zone_in, ◌<◌}
 use Rattle.tz_info.proofs.zone.made.change_list.entries_of.Goals as goal
 
 pub returns-in_default : goal.returns-in_default
 returns-in_default c =
     let fs = c.second.type_inv in
-    let n : vec_len c.loop-place.entries ≡ length c.loop-place.entries.items = search rules in
     never_come (zone_in c.args.lists) _ _ _ c.requires c.loop-place.invariant.made c.index-lists-place.result (omega arith) c.index-lists-place.is
-    (rw (c.second.ensures, ← c.index-lists-place.is) at (simp fits at c.in_default.ensures)) (omega (arith, c.len-all.ensures))
+    (rw (c.second.ensures, ← c.index-lists-place.is) at (simp fits at c.in_default.ensures)) (grind arith)
 
 pub add-requires-clause-named : goal.add-requires-clause-named
 add-requires-clause-named c = kept_all (λ t. t.type_index < length c.args.lists.types.now) _ _ _ c.drop_at.ensures.before c.loop-place.invariant.made.indexes
@@ -29,11 +27,10 @@ loop-place-preserved c =
             before = simp fits at c.drop_at.ensures.before;
             change = rw at at c.add.ensures.added;
           });
-      count = omega (arith, c.add.ensures.len, c.drop_at.ensures.len, c.loop-place.invariant.count);
+      count = grind arith;
       room = grind arith;
     }
 
 pub returns : goal.returns
 returns c =
-    let n : vec_len c.loop-place.entries ≡ length c.loop-place.entries.items = search rules in
-    all_come (zone_in c.args.lists) _ c.loop-place.place _ c.requires c.loop-place.invariant.made (omega arith) (omega (arith, c.len-all-2.ensures))
+    all_come (zone_in c.args.lists) _ c.loop-place.place _ c.requires c.loop-place.invariant.made (omega arith) (grind arith)

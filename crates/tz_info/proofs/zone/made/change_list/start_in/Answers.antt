@@ -1,4 +1,4 @@
-use Rattle.tz_info.proofs.{Fits.fits, EntryLaws.{never_refused, never_then}, Words.{arith, ints, SFits, w64}}
+use Rattle.tz_info.proofs.{EntryLaws.{never_refused, never_then}, Fits.fits, Words.{arith, ints, SFits, w64}}
 use Rattle.tz_info.proofs.zone.made.change_list.start_in.Goals as goal
 
 pub returns-then-start : goal.returns-then-start
@@ -15,11 +15,9 @@ returns-then-has_leap_time c =
     let low = c.first_second-start.ensures.bound in
     let high = simp fits at c.if-start.false in
     let f2 : SFits w64 c.first_second-start.result = omega (arith, ints) in
-    simp fits
-    (record {
+    simp fits (record {
       leap_time = (_, simp fits at (c.has_leap_time.ensures.yes c.if-has_leap_time.true));
-      reached = rw c.entries.ensures.entries
-          at (simp fits at c.first_second-start.ensures.reached);
+      reached = rw c.entries.ensures.entries at (simp fits at c.first_second-start.ensures.reached);
     })
 
 pub returns-else-has_leap_time : goal.returns-else-has_leap_time
@@ -29,6 +27,5 @@ returns-else-has_leap_time c =
     let low = c.first_second-start.ensures.bound in
     let high = simp fits at c.if-start.false in
     let f2 : SFits w64 c.first_second-start.result = omega (arith, ints) in
-    never_refused _ _ _ c.entries.ensures.valid
-    (rw c.entries.ensures.entries at (simp fits at c.first_second-start.ensures.reached))
+    never_refused _ _ _ (rw c.entries.ensures.entries at (simp fits at c.first_second-start.ensures.reached)) c.entries.ensures.valid
     (simp fits at (c.has_leap_time.ensures.no c.if-has_leap_time.false))

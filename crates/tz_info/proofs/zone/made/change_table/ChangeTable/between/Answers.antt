@@ -1,4 +1,4 @@
-use Rattle.tz_info.proofs.{Prefixes.any, EntryChanges.begin_at, Fits.fits, Words.{arith, ints, ◌∙◌}}
+use Rattle.tz_info.proofs.{EntryChanges.begin_at, Fits.fits, Prefixes.any, Words.{arith, ints, ◌∙◌}}
 use Rattle.tz_info.proofs.zone.made.change_table.ChangeTable.between.Goals as goal
 
 pub returns-then-from-gtminus9223372036854775808 : goal.returns-then-from-gtminus9223372036854775808

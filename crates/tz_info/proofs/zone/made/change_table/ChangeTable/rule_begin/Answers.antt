@@ -1,4 +1,4 @@
-use Rattle.tz_info.proofs.{Prefixes.any, Fits.fits, EntryChanges.begin_at, SegmentLaws.{come_from, place_most}}
+use Rattle.tz_info.proofs.{EntryChanges.begin_at, Fits.fits, Prefixes.any, SegmentLaws.{come_from, place_most}}
 use Rattle.tz_info.proofs.Words.{SFits, ap, arith, ints, w128, ◌∙◌, ◌≡◌}
 use Rattle.tz_info.proofs.zone.made.change_table.ChangeTable.rule_begin.Goals as goal
 
