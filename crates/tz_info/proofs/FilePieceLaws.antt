@@ -66,22 +66,18 @@ pieces_law bytes = said (made (λ p. p.0) (lawful file bytes))
     (λ p h. rw h.2 at (rw (file_ends _ _ _ h.1).0 at h.1))
     (λ p h. ((p, []), h, refl))
 
--- ---- lengths
-of_block : (p : FilePieces) (start rest : List ℕ) → (p.time_size ≡ 4) ⊎ (p.time_size ≡ 8) → Spells (block p.time_size p.counts) start p.parts rest → HasLengths p
+-- ---- lengths, and the parts in order
+of_block : (p : FilePieces) (start rest : List ℕ) → (p.time_size ≡ 4) ⊎ (p.time_size ≡ 8) → Spells (block p.time_size p.counts) start p.parts rest
+    → HasLengths p × (start ≡ in_order p.parts rest)
 unfolding block
 of_block p start rest size h = grind linear
 
 pub has_lengths : (bytes : List ℕ) (p : FilePieces) → HasPieces bytes p → HasLengths p
-has_lengths _ p h = let e = (file_ends _ p _ h).1 in of_block p e.1 _ e.3 e.4
-
--- ---- the parts, in order
-block_whole : (p : FilePieces) (start rest : List ℕ) → Spells (block p.time_size p.counts) start p.parts rest → start ≡ in_order p.parts rest
-unfolding block
-block_whole p start rest h = grind linear
+has_lengths _ p h = let e = (file_ends _ p _ h).1 in (of_block p e.1 _ e.3 e.4).0
 
 -- the last block and the footer are the end of the file
 pub whole : (bytes : List ℕ) (p : FilePieces) → HasPieces bytes p → (before : List ℕ) × (bytes ≡ before ++ in_order p.parts (footer_bytes p.footer))
-whole _ p h = let e = (file_ends _ p _ h).1 in (e.0, e.2 ∙ ap (λ s. e.0 ++ s) (block_whole p e.1 _ e.4))
+whole _ p h = let e = (file_ends _ p _ h).1 in (e.0, e.2 ∙ ap (λ s. e.0 ++ s) (of_block p e.1 _ e.3 e.4).1)
 
 -- ---- counts
 -- whole pieces have one pair of counts

@@ -87,16 +87,8 @@ footer_law extended bytes = like
     (choice (IsUtf8-from_is_utf8 bytes, is_utf8-from_IsUtf8 bytes)
     (choice (between _) (choice (no_text _) (refused (InvalidTzFile TzTextInFooter) (omega arith)) (rule_law _ _))
     (refused (InvalidTzFile FooterBetweenNewlines) (omega arith))) (refused (Utf8 FooterInUtf8) (omega arith)))
-    (λ rule h. elim h [
-      | inl u ↦ elim u.1 [
-        | inl b ↦ elim b.1 [
-          | inl k ↦ absurd k.1
-          | inr k ↦ record { text = _; has_text = text_has _ u.0 b.0; no_colon = λ e. k.0 (inl e); no_zero = no_zero _ k.0; says = k.1 }
-        ]
-        | inr b ↦ absurd b.1
-      ]
-      | inr u ↦ absurd u.1
-    ])
+    (λ rule h.
+    record { text = trimmed bytes; has_text = text_has _ (grind arith) (grind arith); no_colon = grind arith; no_zero = no_zero _ (grind arith); says = grind arith })
     (λ rule h. grind (arith, trim_whole))
     (fault_is _ _)
     (fault_again _ _)
