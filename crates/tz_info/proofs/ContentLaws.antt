@@ -3,10 +3,9 @@ use Rattle.tz_base.specs.{declared.error.Error.TheVariants.{InvalidTzFile}, decl
 use Rattle.tz_info.proofs.{
   ListLaws.{one_true},
   Words.{AreRecords, Bool, Decided, Error, HasRecordFault, IndicatorsAgree, LeapSecond, List, Ok, Result, SpellLeapSeconds, SpellTransitions, SpellsLeapSecond},
-  Words.{Transition, [], all_below, ap, append_assoc, arith, bind, cases_lt, done, drop, drop-drop, exact_cut, file_time, get_or, get_or-eq_default},
-  Words.{indicators_of, inl, inr, leap_second_in, leap_second_of, length, length-append, length-drop, length-take, like, made, nil_from_length, pair_agrees},
-  Words.{record_at, refl, said, slice_index, subst, suc, sym, take, take-append-drop, transition_in, true, values_below, zero, ℕ, ◌*◌, ◌++◌, ◌+◌, ◌<◌, ◌>>=◌},
-  Words.{◌∷◌, ◌≡◌, ◌⊎◌},
+  Words.{Transition, [], all_below, ap, append_assoc, arith, bind, cases_lt, done, drop, drop-drop, exact_cut, file_time, get_or-eq_default, indicators_of},
+  Words.{inl, inr, leap_second_in, leap_second_of, length, length-append, length-drop, length-take, like, made, nil_from_length, pair_agrees, record_at, refl},
+  Words.{said, slice_index, subst, suc, sym, take, take-append-drop, transition_in, true, values_below, zero, ℕ, ◌*◌, ◌++◌, ◌+◌, ◌<◌, ◌>>=◌, ◌∷◌, ◌≡◌, ◌⊎◌},
 }
 
 -- ---- values at places, from the first one on
@@ -22,7 +21,7 @@ values_front (suc n) read = rw (values_front n read) (front_step _ _ _)
 
 values_same : {X : Type 0} (n : ℕ) (read other : ℕ → Result X Error) → ((k : ℕ) → read k ≡ other k) → values_below n read ≡ values_below n other
 values_same zero _ _ _ = refl
-values_same (suc n) read other h = rw (values_same n _ _ h, h n)
+values_same (suc n) read other h = rw (values_same n read other h, h)
 
 -- the first value, and then those of another parse
 first_and_more : {X : Type 0} {P : X → Type 0} {F : Error → Type 0} {Q : List X → Type 0} {G : Error → Type 0} (n : ℕ) (read other : ℕ
@@ -151,7 +150,7 @@ below_again (suc n) test h = grind (arith, below_again n test, h n)
 agree_is : (s u : List ℕ) → all_below (length u) (pair_agrees s u) ≡ true → IndicatorsAgree s u
 agree_is s u h = λ k a b. elim (cases_lt k (length u)) [
   | inl m ↦ let c = rw (a, b) at (one_true _ k _ m h) in cc
-  | inr m ↦ let zero_there : get_or u k 0 ≡ 0 = get_or-eq_default u 0 m in omega arith
+  | inr m ↦ let z = get_or-eq_default u 0 m in omega arith
 ]
 
 pub indicators_law : (s u : List ℕ)

@@ -185,8 +185,7 @@ module _ (p : FilePieces) (q : PartPlaces) where
   type_once : (m n : ℕ) → IsTypePlace p m → IsTypePlace p n → m ≡ n
   type_once m n a b =
       let same : a.index ≡ b.index = omega (arith, type_index m n a b, type_index n m b a) in
-      let e = fault_once (type_law _ _) _ _ a.fault (rw (← same) at b.fault) in
-      cc
+      let e = fault_once (type_law _ _) _ _ a.fault (rw (← same) at b.fault) in cc
 
   types_spelled : (n : ℕ) → AreTypes p → IsTypePlace p n → ⊥
   types_spelled n each a = not_at _ _ (each a.index a.below) a.fault

@@ -85,11 +85,8 @@ type_error_number z u refused = grind linear
 
 pub type_decided : (z : Zone) (u : ℤ) → IsValid z → IsRuleOrNone z.rule → ((t : LocalType) × TypeAt z u t) ⊎ IsTypeRefused z u
 type_decided z u valid limits = elim (cases_lt 0 (length z.transitions)) [
-  | inl some ↦ elim (leap_time_decided z.leaps u) [
-    | inl x ↦ decided_at z u x.0 valid limits (λ _. x.1)
-    | inr refused ↦ inr (by_leap_time some refused)
-  ]
-  | inr none ↦ decided_at z u u valid limits (λ h. absurd (omega arith))
+  | inl some ↦ elim (leap_time_decided z.leaps u) [ inl x ↦ decided_at z u x.0 valid limits (λ _. x.1) | inr refused ↦ inr (by_leap_time some refused) ]
+  | inr none ↦ decided_at z u u valid limits (grind arith)
 ]
 
 -- a rule and types without transitions make a zone
