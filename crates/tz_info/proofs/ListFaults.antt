@@ -31,8 +31,8 @@ like_known to from p = grind arith
 -- ---- of each element, and of each and the next
 all_known : {X : Type 0} {P : X → Type 0} → ((x : X) → Known (P x)) → (xs : List X) → Known (All P xs)
 all_known each [] = inl (grind arith)
-all_known {P = P} each (x ∷ xs) = like_known
-    (λ h. All-cons P x xs h.0 h.1) (λ h. (h 0 x (omega arith), λ k d l. h (suc k) d (omega arith))) (both_known (each x) (all_known each xs))
+all_known {P = P} each (x ∷ xs) = like_known (λ h. All-cons P x xs h.0 h.1) (λ h. (h 0 x (omega arith), λ k d l. h (suc k) d (omega arith)))
+    (both_known (each x) (all_known each xs))
 
 pairs_known : {X : Type 0} {R : X → X → Type 0} → ((x y : X) → Known (R x y)) → (xs : List X) → Known (AllPairs R xs)
 pairs_known each [] = inl (grind arith)

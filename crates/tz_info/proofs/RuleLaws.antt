@@ -60,4 +60,4 @@ year_found u day year at_day at_year within = let lies = lies_in day in grind (l
 -- the type at a second whose day and year are known
 pub alternate_at : (a : AlternateRule) (u day year : ℤ) (dst : Bool) → day ≡ floor_div u 86_400 → LiesIn day year → IsRuleYear year
     → IsDstAt (start_in a) (end_in a) year u dst → AlternateAt a u (type_when a dst)
-alternate_at a u day _ dst at_day lies inside when = grind arith
+alternate_at a u day year dst at_day lies inside when = grind arith

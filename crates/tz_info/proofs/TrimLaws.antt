@@ -96,8 +96,7 @@ trims_both s r t =
 
 -- ---- how much white space is in front
 pub front_counted : (s r : List ℕ) → IsTrimAsciiStart s r → length r + prefix_len is_ascii_whitespace s ≡ length s
-front_counted s r t =
-    let counted = prefix_len_is is_ascii_whitespace s t.0 0 (omega arith) t.3 t.4 in omega arith
+front_counted s r t = let c = prefix_len_is is_ascii_whitespace s t.0 0 (omega arith) t.3 t.4 in omega arith
 
 bare_counted : (before : List ℕ) (b : ℕ) (rest : List ℕ) → IsSpace before → is_ascii_whitespace b ≡ false
     → prefix_len is_ascii_whitespace (before ++ (b ∷ rest)) ≡ length before

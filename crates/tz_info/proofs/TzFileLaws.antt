@@ -110,7 +110,7 @@ only bytes e r z file = let read = (file_law _).again z file in grind arith
 
 pub fault : (bytes : List ℕ) (e : Error) → Reads (Err e) bytes → IsZoneFault bytes e
 fault _ e (inl refused) = In_file e (spelling_fault _ e ((file_law _).fails e refused))
-fault bytes e (inr memory) = rw memory.0 (No_memory memory.1 ((pieces_law _).takes memory.1 memory.2))
+fault _ _ (inr (is, p, read)) = rw is (No_memory p ((pieces_law _).takes p read))
 
 pub memory : (bytes : List ℕ) (e : Error) → Reads (Err e) bytes → e ≡ OutOfMemory → (p : FilePieces) × HasPieces bytes p
 memory bytes e r is = let low = (file_law bytes).low e in let t = (pieces_law bytes).takes in grind arith

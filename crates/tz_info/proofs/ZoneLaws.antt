@@ -42,7 +42,7 @@ fits_or_not a = grind arith
 
 -- all of n numbers fit 64 bits, or one does not
 all_fit_or_not : (f : ℕ → ℤ) (n : ℕ) → ((k : ℕ) → k < n → SFits w64 (f k)) ⊎ ((k : ℕ) × (k < n) × (SFits w64 (f k) → ⊥))
-all_fit_or_not f zero = inl (λ k h. omega arith)
+all_fit_or_not f zero = inl (grind arith)
 all_fit_or_not f (suc n) = elim (all_fit_or_not f n) [
   | inl all ↦ elim (fits_or_not (f n)) [ inl here ↦ inl (λ k h. grind (arith, all)) | inr out ↦ inr (n, omega arith, out) ]
   | inr some ↦ inr (some.0, omega arith, some.2)
