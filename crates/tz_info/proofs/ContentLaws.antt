@@ -3,10 +3,9 @@ use Rattle.tz_base.specs.{declared.error.Error.TheVariants.{InvalidTzFile}, decl
 use Rattle.tz_info.proofs.{
   ListLaws.{one_true},
   Words.{AreRecords, Bool, Decided, Error, HasRecordFault, IndicatorsAgree, LeapSecond, List, Ok, Result, SpellLeapSeconds, SpellTransitions, SpellsLeapSecond},
-  Words.{Transition, [], all_below, ap, append_assoc, arith, bind, cases_lt, done, drop, drop-drop, exact_cut, file_time, get_or, get_or-eq_default},
-  Words.{indicators_of, inl, inr, leap_second_in, leap_second_of, length, length-append, length-drop, length-take, like, made, nil_from_length, pair_agrees},
-  Words.{record_at, refl, said, slice_index, subst, suc, sym, take, take-append-drop, transition_in, true, values_below, zero, ℕ, ◌*◌, ◌++◌, ◌+◌, ◌<◌, ◌>>=◌},
-  Words.{◌∷◌, ◌≡◌, ◌⊎◌},
+  Words.{Transition, [], all_below, ap, append_assoc, arith, bind, cases_lt, done, drop, drop-drop, exact_cut, file_time, get_or-eq_default, indicators_of},
+  Words.{inl, inr, leap_second_in, leap_second_of, length, length-append, length-drop, length-take, like, made, nil_from_length, pair_agrees, record_at, refl},
+  Words.{said, slice_index, subst, suc, sym, take, take-append-drop, transition_in, true, values_below, zero, ℕ, ◌*◌, ◌++◌, ◌+◌, ◌<◌, ◌>>=◌, ◌∷◌, ◌≡◌, ◌⊎◌},
 }
 
 -- ---- values at places, from the first one on
@@ -22,10 +21,10 @@ values_front (suc n) read = rw (values_front n read) (front_step _ _ _)
 
 values_same : {X : Type 0} (n : ℕ) (read other : ℕ → Result X Error) → ((k : ℕ) → read k ≡ other k) → values_below n read ≡ values_below n other
 values_same zero _ _ _ = refl
-values_same (suc n) read other h = rw (values_same n _ _ h, h n)
+values_same (suc n) read other h = rw (values_same n read other h, h)
 
 -- the first value, and then those of another parse
-pub first_and_more : {X : Type 0} {P : X → Type 0} {F : Error → Type 0} {Q : List X → Type 0} {G : Error → Type 0} (n : ℕ) (read other : ℕ
+first_and_more : {X : Type 0} {P : X → Type 0} {F : Error → Type 0} {Q : List X → Type 0} {G : Error → Type 0} (n : ℕ) (read other : ℕ
     → Result X Error) (first : Result X Error) → read 0 ≡ first → ((k : ℕ) → read (suc k) ≡ other k) → Decided X first P F
     → Decided (List X) (values_below n other) Q G
     → Decided (List X) (values_below (suc n) read) (λ ys. (x : X) × P x × ((xs : List X) × Q xs × (x ∷ xs ≡ ys))) (λ m. F m ⊎ ((x : X) × P x × G m))
@@ -33,39 +32,40 @@ first_and_more n read _ _ is next d more =
     rw (values_front n _, is, values_same n (λ k. read (suc k)) _ next) (bind d (λ x _. made (λ xs. x ∷ xs) more))
 
 -- ---- records end to end
-pub first_record : (size : ℕ) (part : List ℕ) → record_at size part 0 ≡ take size part
+first_record : (size : ℕ) (part : List ℕ) → record_at size part 0 ≡ take size part
 first_record size part = grind arith
 
-pub next_record : (size : ℕ) (part : List ℕ) (k : ℕ) → record_at size part (suc k) ≡ record_at size (drop size part) k
+next_record : (size : ℕ) (part : List ℕ) (k : ℕ) → record_at size part (suc k) ≡ record_at size (drop size part) k
 next_record size part k =
     let e : suc k * size ≡ size + k * size = omega arith in
     rw (e, drop-drop (k * size) size part)
 
 -- the first record and the others of a part
-pub behind_first : (n size : ℕ) (part : List ℕ) → length part ≡ suc n * size → (length (take size part) ≡ size) × (length (drop size part) ≡ n * size)
+behind_first : (n size : ℕ) (part : List ℕ) → length part ≡ suc n * size → (length (take size part) ≡ size) × (length (drop size part) ≡ n * size)
 behind_first n size part l = grind (arith, length-take, length-drop)
 
-none_of_none : {X : Type 0} (size : ℕ) (Spells : List ℕ → X → Type 0) (part : List ℕ) (xs : List X) → 0 < size → length part ≡ 0
-    → AreRecords size Spells part xs → [] ≡ xs
-none_of_none _ _ _ [] some l h = refl
-none_of_none size Spells part (x ∷ xs) some l h = grind (arith, length-append)
+-- records of one size
+module _ {X : Type 0} (size : ℕ) (Spells : List ℕ → X → Type 0) where
+  none_of_none : (part : List ℕ) (xs : List X) → 0 < size → length part ≡ 0 → AreRecords size Spells part xs → [] ≡ xs
+  none_of_none _ [] some l h = refl
+  none_of_none part (x ∷ xs) some l h = grind (arith, length-append)
 
-first_of : {X : Type 0} (n size : ℕ) (Spells : List ℕ → X → Type 0) (part : List ℕ) (xs : List X) → 0 < size → length part ≡ suc n * size
-    → AreRecords size Spells part xs → (x : X) × Spells (take size part) x × ((more : List X) × AreRecords size Spells (drop size part) more × (x ∷ more ≡ xs))
-first_of n _ _ _ [] some l h = absurd (omega (arith, ap length h))
-first_of n size Spells part (x ∷ xs) some l h = let cut = exact_cut size part h.0 h.1 h.2 h.3 in (x, rw cut.0 h.4, (xs, rw cut.1 h.5, refl))
+  first_of : (n : ℕ) (part : List ℕ) (xs : List X) → 0 < size → length part ≡ suc n * size
+      → AreRecords size Spells part xs → (x : X) × Spells (take size part) x × ((more : List X) × AreRecords size Spells (drop size part) more × (x ∷ more ≡ xs))
+  first_of n _ [] some l h = absurd (omega (arith, ap length h))
+  first_of n part (x ∷ xs) some l h = let cut = exact_cut size part h.0 h.1 h.2 h.3 in (x, rw cut.0 h.4, (xs, rw cut.1 h.5, refl))
 
-first_fault : {X : Type 0} (size : ℕ) (Spells : List ℕ → X → Type 0) (F : List ℕ → Error
-    → Type 0) (part : List ℕ) (m : Error) (f : HasRecordFault size Spells F part m) (earlier : List X) → AreRecords size Spells f.before earlier
-    → F (take size part) m ⊎ ((x : X) × Spells (take size part) x × HasRecordFault size Spells F (drop size part) m)
-first_fault size _ F part m f [] none = let cut = exact_cut size part f.faulty f.after (rw none at f.whole) f.size_is in inl (rw cut.0 f.fault)
-first_fault size Spells F part m f (x ∷ xs) h =
-    let cut = exact_cut size part h.0 _ (rw (h.2, append_assoc) at f.whole) h.3 in
-    inr (
-      x,
-      rw cut.0 h.4,
-      record { before = h.1; faulty = f.faulty; after = f.after; whole = cut.1; earlier = xs; spelled = h.5; size_is = f.size_is; fault = f.fault },
-    )
+  first_fault : (F : List ℕ → Error → Type 0) (part : List ℕ) (m : Error) (f : HasRecordFault size Spells F part m) (earlier : List X)
+      → AreRecords size Spells f.before earlier
+      → F (take size part) m ⊎ ((x : X) × Spells (take size part) x × HasRecordFault size Spells F (drop size part) m)
+  first_fault F part m f [] none = let cut = exact_cut size part f.faulty f.after (rw none at f.whole) f.size_is in inl (rw cut.0 f.fault)
+  first_fault F part m f (x ∷ xs) h =
+      let cut = exact_cut size part h.0 _ (rw (h.2, append_assoc) at f.whole) h.3 in
+      inr (
+        x,
+        rw cut.0 h.4,
+        record { before = h.1; faulty = f.faulty; after = f.after; whole = cut.1; earlier = xs; spelled = h.5; size_is = f.size_is; fault = f.fault },
+      )
 
 -- each record is read by that law
 pub records : {X : Type 0} {read : List ℕ → Result X Error} {Spells : List ℕ → X → Type 0} {F : List ℕ → Error → Type 0} (n size : ℕ) (part : List ℕ) → 0 < size
@@ -82,10 +82,10 @@ records {read = read} {Spells = Spells} {F = F} (suc n) size part some l law =
     like (first_and_more n (λ k. read (record_at size part k)) (λ k. read (record_at size (drop size part) k)) _
     (ap read (first_record _ _)) (λ k. ap read (next_record _ _ k)) (law (take size part) sizes.0)
     (records n _ _ some sizes.1 law))
-    (λ xs h. subst (AreRecords size Spells part) h.2.2 (take size part, drop size part, whole, sizes.0, h.1, h.2.1))
-    (λ xs h. first_of n _ _ _ xs some l h)
+    (λ xs h. subst (AreRecords size Spells part) h.2.2 (_, _, whole, sizes.0, h.1, h.2.1))
+    (λ xs h. first_of _ _ n _ xs some l h)
     (λ m f. elim f [
-      | inl e ↦ record { before = []; faulty = take size part; after = drop size part; whole = whole; earlier = []; spelled = refl; size_is = sizes.0; fault = e }
+      | inl e ↦ record { before = []; faulty = _; after = _; whole = whole; earlier = []; spelled = refl; size_is = sizes.0; fault = e }
       | inr (x, first, g) ↦ record {
         before = take size part ++ g.before;
         faulty = g.faulty;
@@ -150,7 +150,7 @@ below_again (suc n) test h = grind (arith, below_again n test, h n)
 agree_is : (s u : List ℕ) → all_below (length u) (pair_agrees s u) ≡ true → IndicatorsAgree s u
 agree_is s u h = λ k a b. elim (cases_lt k (length u)) [
   | inl m ↦ let c = rw (a, b) at (one_true _ k _ m h) in cc
-  | inr m ↦ let zero_there : get_or u k 0 ≡ 0 = get_or-eq_default u 0 m in omega arith
+  | inr m ↦ let z = get_or-eq_default u 0 m in omega arith
 ]
 
 pub indicators_law : (s u : List ℕ)

@@ -33,55 +33,52 @@ front (Check P _ _ _) _ _ _ h = ([], h.2)
 front (Here f) bytes x _ h = front (f bytes) _ x _ h
 front (At _ g) bytes x rest h = front g bytes x rest h
 
--- ---- the end of a file: the block that the pieces are of, and the footer
-abbrev EndsIn : List ℕ → FilePieces → Type 0
-EndsIn bytes p = (before : List ℕ) × (start : List ℕ) × (bytes ≡ before ++ start) × ((p.time_size ≡ 4) ⊎ (p.time_size ≡ 8))
-    × Spells (block p.time_size p.counts) start p.parts (footer_bytes p.footer)
+-- ---- the end of a file: the block that the pieces are of, and the footer, which no byte follows
+abbrev EndsIn : List ℕ → FilePieces → List ℕ → Type 0
+EndsIn bytes p rest = (before : List ℕ) × (start : List ℕ) × (bytes ≡ before ++ start) × ((p.time_size ≡ 4) ⊎ (p.time_size ≡ 8))
+    × Spells (block p.time_size p.counts) start p.parts (footer_bytes p.footer) × (rest ≡ [])
 
-behind : {X : Type 0} (g : Grammar X) (bytes : List ℕ) (x : X) (rest : List ℕ) (p : FilePieces) → Spells g bytes x rest → EndsIn rest p → EndsIn bytes p
-behind g _ x rest p h (before, start, e, size, is) =
+behind : {X : Type 0} (g : Grammar X) (bytes : List ℕ) (x : X) (after : List ℕ) (p : FilePieces) (rest : List ℕ) → Spells g bytes x after → EndsIn after p rest
+    → EndsIn bytes p rest
+behind g _ x _ _ _ h (before, start, e, size, is, none) =
     let a = front g _ x _ h in
-    (a.0 ++ before, start, a.1 ∙ ap (λ s. a.0 ++ s) e ∙ sym (append_assoc a.0 before start), size, is)
+    (a.0 ++ before, start, a.1 ∙ ap (λ s. a.0 ++ s) e ∙ sym (append_assoc a.0 before start), size, is, none)
 
-later_ends : (bytes : List ℕ) (p : FilePieces) (rest : List ℕ) → Spells later_version bytes p rest → (rest ≡ []) × EndsIn bytes p
+later_ends : (bytes : List ℕ) (p : FilePieces) (rest : List ℕ) → Spells later_version bytes p rest → EndsIn bytes p rest
 unfolding later_version
-later_ends bytes p rest (h, after, k, (parts, end, m, (_, _, f, (value, e)))) =
-    (sym e ∙ f.1, behind (header Second) _ h after p k (rw (value, f.0) ([], after, refl, inr refl, m)))
+later_ends _ p rest (h, after, k, (_, _, m, (_, _, f, (value, e)))) =
+    behind (header Second) _ h after p rest k (rw (value, f.0) ([], after, refl, inr refl, m, sym e ∙ f.1))
 
 after_ends : (v : Version) (c : Counts) (b : Parts) (start bytes : List ℕ) (p : FilePieces) (rest : List ℕ) → Spells (block 4 c) start b bytes
-    → Spells (after_first_block v c b) bytes p rest → (rest ≡ []) × EndsIn start p
+    → Spells (after_first_block v c b) bytes p rest → EndsIn start p rest
 unfolding after_first_block first_version
-after_ends One c b start _ p _ h (_, _, inl (none, (_, same)), (value, e)) = (sym e ∙ sym same ∙ none, rw (value, ← none) ([], start, refl, inl refl, h))
+after_ends One _ _ start _ _ _ h (_, _, inl (none, (_, same)), (value, e)) = rw (value, ← none) ([], start, refl, inl refl, h, sym e ∙ sym same)
 after_ends One _ _ _ _ _ _ _ (_, _, inr (_, never), _) = absurd never
-after_ends Two c b _ bytes p _ h k = let r = later_ends _ p _ k in (r.0, behind (block 4 c) _ b bytes p h r.1)
-after_ends Three c b _ bytes p _ h k = let r = later_ends _ p _ k in (r.0, behind (block 4 c) _ b bytes p h r.1)
+after_ends Two c b _ bytes p rest h k = behind (block 4 c) _ b bytes p rest h (later_ends _ p rest k)
+after_ends Three c b _ bytes p rest h k = behind (block 4 c) _ b bytes p rest h (later_ends _ p rest k)
 
-file_ends : (bytes : List ℕ) (p : FilePieces) (rest : List ℕ) → Spells file bytes p rest → (rest ≡ []) × EndsIn bytes p
+file_ends : (bytes : List ℕ) (p : FilePieces) (rest : List ℕ) → Spells file bytes p rest → EndsIn bytes p rest
 unfolding file
-file_ends _ p _ (h, start, k, (parts, _, m, n)) = let r = after_ends _ _ _ _ _ p _ m n in (r.0, behind (header First) _ h start p k r.1)
+file_ends _ p rest (h, start, k, (_, _, m, n)) = behind (header First) _ h start p rest k (after_ends _ _ _ _ _ p rest m n)
 
 pub pieces_law : (bytes : List ℕ) → Decided FilePieces (pieces_at bytes) (HasPieces bytes) (PieceFault bytes)
 unfolding pieces_at
 pieces_law bytes = said (made (λ p. p.0) (lawful file bytes))
-    (λ p h. rw h.2 at (rw (file_ends _ _ _ h.1).0 at h.1))
+    (λ p h. rw h.2 at (rw (file_ends _ _ _ h.1).5 at h.1))
     (λ p h. ((p, []), h, refl))
 
--- ---- lengths
-of_block : (p : FilePieces) (start rest : List ℕ) → (p.time_size ≡ 4) ⊎ (p.time_size ≡ 8) → Spells (block p.time_size p.counts) start p.parts rest → HasLengths p
+-- ---- lengths, and the parts in order
+of_block : (p : FilePieces) (start rest : List ℕ) → (p.time_size ≡ 4) ⊎ (p.time_size ≡ 8) → Spells (block p.time_size p.counts) start p.parts rest
+    → HasLengths p × (start ≡ in_order p.parts rest)
 unfolding block
 of_block p start rest size h = grind linear
 
 pub has_lengths : (bytes : List ℕ) (p : FilePieces) → HasPieces bytes p → HasLengths p
-has_lengths _ p h = let e = (file_ends _ p _ h).1 in of_block p e.1 _ e.3 e.4
-
--- ---- the parts, in order
-block_whole : (p : FilePieces) (start rest : List ℕ) → Spells (block p.time_size p.counts) start p.parts rest → start ≡ in_order p.parts rest
-unfolding block
-block_whole p start rest h = grind linear
+has_lengths _ p h = let e = file_ends _ p [] h in (of_block p e.1 _ e.3 e.4).0
 
 -- the last block and the footer are the end of the file
 pub whole : (bytes : List ℕ) (p : FilePieces) → HasPieces bytes p → (before : List ℕ) × (bytes ≡ before ++ in_order p.parts (footer_bytes p.footer))
-whole _ p h = let e = (file_ends _ p _ h).1 in (e.0, e.2 ∙ ap (λ s. e.0 ++ s) (block_whole p e.1 _ e.4))
+whole _ p h = let e = file_ends _ p [] h in (e.0, e.2 ∙ ap (λ s. e.0 ++ s) (of_block p e.1 _ e.3 e.4).1)
 
 -- ---- counts
 -- whole pieces have one pair of counts

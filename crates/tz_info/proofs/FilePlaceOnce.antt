@@ -8,16 +8,16 @@ use Rattle.tz_info.proofs.{
   PosixLaws.{string_place_within},
   TrimLaws.{fits_behind, front_counted, trim_again, trim_whole, trims_both},
   TypeLaws.{type_law},
-  Words.{Bool, Err, Error, Exact, FilePieces, HasLengths, HasNoZero, HasPieces, IndicatorsAgree, IsBetweenNewlines, IsFooter, IsTrimAscii, IsTrimAsciiStart},
-  Words.{IsTrimmed, IsTrue, IsUtf8, List, LocalType, None, Ok, Option, Parts, SaysRule, Some, TransitionRule, TypeFault, [], after_first_block, ap, apart},
-  Words.{arith, below_more, block, drop, drop_front, exact_at, false, fault_once, first_version, length, length-append, linear, read, record_at, refl},
-  Words.{slice_index, suc, sym, type_of_record, value_once, zero, ℕ, ℤ, ◌*◌, ◌+◌, ◌-◌, ◌<ℤ◌, ◌<◌, ◌↔◌, ◌∙◌, ◌∷◌, ◌≡◌, ◌≢◌, ◌≤◌},
+  Words.{Bool, Err, Error, Exact, FilePieces, HasLengths, HasNoZero, HasPieces, IsBetweenNewlines, IsFooter, IsTrimAscii, IsTrimAsciiStart, IsTrimmed, IsTrue},
+  Words.{IsUtf8, List, LocalType, None, Ok, Option, Parts, SaysRule, Some, TransitionRule, TypeFault, [], after_first_block, ap, apart, arith, below_more},
+  Words.{block, drop, drop_front, exact_at, false, fault_once, first_version, length, length-append, linear, read, record_at, refl, slice_index, suc, sym},
+  Words.{type_of_record, value_once, zero, ℕ, ℤ, ◌*◌, ◌+◌, ◌-◌, ◌<ℤ◌, ◌<◌, ◌↔◌, ◌∙◌, ◌∷◌, ◌≡◌, ◌≢◌, ◌≤◌},
 }
 use Rattle.tz_info.specs.{
   FileHeaders.{six_counts, version, version_1},
   FilePlaces.{ArePartPlaces, AreTypes, At_index, At_leap, At_rule, At_time, Colon, HoldsOfNone, In_contents, In_footer, In_indicators, In_lists, In_piece},
-  FilePlaces.{In_string, In_text, In_type, IsContentPlace, IsFilePlace, IsFirstBelow, IsFooterPlace, IsListPlace, IsNotLater, IsOtherPair, IsTextPlace},
-  FilePlaces.{IsTypeAt, IsTypePlace, No_first, No_last, Not_utf8, Zero, before_field, footer_bytes, in_order, time_at},
+  FilePlaces.{In_string, In_text, In_type, IsContentPlace, IsFilePlace, IsFirstBelow, IsFooterPlace, IsListPlace, IsNotLater, IsTextPlace, IsTypeAt},
+  FilePlaces.{IsTypePlace, No_first, No_last, Not_utf8, Zero, before_field, footer_bytes, in_order, time_at},
   Steps.Places.{SaysSome},
   TzFiles.{HasRule},
   declared.file.header.Counts.{Counts},
@@ -42,7 +42,7 @@ parts_stand bytes p q h are end =
 
 -- ---- the end of a piece that is too short
 -- what can't be read is too short
-pub record EndsShort {X : Type 0} (g : Grammar X) : Type 0 where
+record EndsShort {X : Type 0} (g : Grammar X) : Type 0 where
   pub short : (bytes : List ℕ) (e : Error) → read g bytes ≡ Err e → from_fault g bytes ≡ []
 
 nothing_short : {X : Type 0} (x : X) → EndsShort (Nothing x)
@@ -99,12 +99,9 @@ next_later p k here before none is was later = below_more (λ j. ¬ (IsNotLater 
 pub space_is : (bytes start : List ℕ) → IsTrimAsciiStart bytes start → length bytes - length start ≡ prefix_len is_ascii_whitespace bytes
 space_is _ _ t = omega (arith, front_counted _ _ t)
 
-text_within : (extended : Bool) (text : List ℕ) (n : ℕ) → IsTextPlace extended text n → n ≤ length text
-text_within extended text n place = grind (arith, string_place_within)
-
 in_text : (extended : Bool) (bytes text : List ℕ) (n : ℕ) → IsTrimmed bytes text → IsTextPlace extended text n
     → prefix_len is_ascii_whitespace bytes + n ≤ length bytes
-in_text _ _ _ n t place = omega (arith, fits_behind _ _ t, text_within _ _ n place)
+in_text extended bytes text n t place = let f = fits_behind _ _ t in grind (arith, string_place_within)
 
 pub footer_within : (extended : Bool) (bytes : List ℕ) (n : ℕ) → IsFooterPlace extended bytes n → n ≤ length bytes
 footer_within _ _ n (Not_utf8 m bad up) = omega arith
@@ -177,12 +174,6 @@ rule_says : (extended : Bool) (footer : Option (List ℕ)) (bytes : List ℕ) (r
     → HasRule extended footer rule → IsFooterPlace extended bytes n → ⊥
 rule_says extended footer bytes rule n is has place = grind (arith, footer_says)
 
-field_low : (e : Error) → before_field e ≤ 5
-field_low e = grind arith
-
-step_within : (w n k l : ℕ) → l ≡ n * w → k < n → k * w ≤ l
-step_within w n k l is below = grind arith
-
 -- whole pieces, and the places of their parts
 module _ (p : FilePieces) (q : PartPlaces) where
   not_at : (k : ℕ) (e : Error) → IsTypeAt p k → TypeFault p.parts.designations (record_at 6 p.parts.types k) e → ⊥
@@ -194,14 +185,10 @@ module _ (p : FilePieces) (q : PartPlaces) where
   type_once : (m n : ℕ) → IsTypePlace p m → IsTypePlace p n → m ≡ n
   type_once m n a b =
       let same : a.index ≡ b.index = omega (arith, type_index m n a b, type_index n m b a) in
-      let e = fault_once (type_law _ _) _ _ a.fault (rw (← same) at b.fault) in
-      cc
+      let e = fault_once (type_law _ _) _ _ a.fault (rw (← same) at b.fault) in cc
 
   types_spelled : (n : ℕ) → AreTypes p → IsTypePlace p n → ⊥
   types_spelled n each a = not_at _ _ (each a.index a.below) a.fault
-
-  pairs_agree : (n k : ℕ) → IndicatorsAgree p.parts.standard_wall p.parts.ut_local → IsFirstBelow (IsOtherPair p) n k → ⊥
-  pairs_agree n k agree f = grind arith
 
   lists_once : (m n : ℕ) → IsListPlace p q m → IsListPlace p q n → m ≡ n
   lists_once _ _ (At_index j f) (At_index k g) = omega (arith, first_once _ _ j k f g)
@@ -228,24 +215,24 @@ module _ (p : FilePieces) (q : PartPlaces) where
   content_once _ _ (In_type j f) (In_lists _ _ t _ _ _) = absurd (types_spelled j t f)
   content_once _ _ (In_indicators _ t _) (In_type k g) = absurd (types_spelled k t g)
   content_once _ _ (In_indicators j _ f) (In_indicators k _ g) = omega (arith, first_once _ _ j k f g)
-  content_once _ _ (In_indicators j _ f) (In_footer _ _ _ i _ _) = absurd (pairs_agree _ j i f)
-  content_once _ _ (In_indicators j _ f) (In_lists _ _ _ i _ _) = absurd (pairs_agree _ j i f)
+  content_once _ _ (In_indicators j _ f) (In_footer _ _ _ i _ _) = absurd (i j f.here.0 f.here.1)
+  content_once _ _ (In_indicators j _ f) (In_lists _ _ _ i _ _) = absurd (i j f.here.0 f.here.1)
   content_once _ _ (In_footer _ _ t _ _ _) (In_type k g) = absurd (types_spelled k t g)
-  content_once _ _ (In_footer _ _ _ i _ _) (In_indicators k _ g) = absurd (pairs_agree _ k i g)
+  content_once _ _ (In_footer _ _ _ i _ _) (In_indicators k _ g) = absurd (i k g.here.0 g.here.1)
   content_once _ _ (In_footer bytes j t i s f) (In_footer other k u h o g) =
       let same : bytes ≡ other = cc in
       omega (arith, footer_once _ _ j k (rw same at f) g)
   content_once _ _ (In_footer _ j _ _ s f) (In_lists _ _ _ _ o _) = absurd (rule_says _ _ _ _ j s o f)
   content_once _ _ (In_lists _ _ t _ _ _) (In_type k g) = absurd (types_spelled k t g)
-  content_once _ _ (In_lists _ _ _ i _ _) (In_indicators k _ g) = absurd (pairs_agree _ k i g)
+  content_once _ _ (In_lists _ _ _ i _ _) (In_indicators k _ g) = absurd (i k g.here.0 g.here.1)
   content_once _ _ (In_lists _ _ _ _ h _) (In_footer _ k _ _ s g) = absurd (rule_says _ _ _ _ k s h g)
   content_once m n (In_lists _ _ _ _ _ f) (In_lists _ _ _ _ _ g) = lists_once m n f g
 
   list_within : (n : ℕ) → HasLengths p → ArePartPlaces p q → IsListPlace p q n → n ≤ q.end
-  list_within n l a f = grind (arith, step_within, prefix_len-le-length)
+  list_within n l a f = grind (arith, prefix_len-le-length)
 
   content_within : (n : ℕ) → HasLengths p → ArePartPlaces p q → IsContentPlace p q n → n ≤ q.end
-  content_within n l a f = grind (arith, field_low, footer_within, list_within)
+  content_within n l a f = grind (arith, footer_within, list_within)
 
 -- the parts of a file have one position each
 places_once : (p : FilePieces) (q r : PartPlaces) → ArePartPlaces p q → ArePartPlaces p r → q.end ≡ r.end → q ≡ r

@@ -4,12 +4,13 @@ use Rattle.tz_base.specs.declared.error.{Error.TheVariants.{InvalidTzFile, Utf8}
 use Rattle.tz_info.proofs.{
   TextLaws.{text_law},
   TrimLaws.{trim_is, trim_whole},
-  Words.{Bool, Colon, Decided, Decides, Decides-eqb, Decides-or, Error, FooterFault, HasNoZero, HasText, In_text, IsBetweenNewlines, IsFooter, IsTextFault},
-  Words.{IsTzText, IsUtf8, IsUtf8-from_is_utf8, List, No_newlines, Not_utf8, Option, SaysRule, TransitionRule, Zero, [], arith, choice, ends_with, false},
-  Words.{false_unless, footer_at, inl, inr, is_between_newlines, is_no_text, is_utf8-from_IsUtf8, is_zero, like, list_any, made, nat_eq, refl, refused},
-  Words.{rule_in, rule_or_none, said, slice_index, trimmed, ℕ, ◌==◌, ◌∷◌, ◌≡◌, ◌≢◌, ◌⊎◌},
+  Words.{Bool, Colon, Decided, Decides, Decides-eqb, Error, FooterFault, HasNoZero, HasText, In_text, IsBetweenNewlines, IsFooter, IsTextFault, IsTzText},
+  Words.{IsUtf8, IsUtf8-from_is_utf8, List, No_newlines, Not_utf8, Option, SaysRule, TransitionRule, Zero, [], arith, choice, ends_with, false, false_unless},
+  Words.{footer_at, inl, inr, is_between_newlines, is_no_text, is_utf8-from_IsUtf8, is_zero, like, list_any, made, nat_eq, refl, refused, rule_in},
+  Words.{rule_or_none, said, slice_index, trimmed, ℕ, ◌==◌, ◌∷◌, ◌≡◌, ◌≢◌, ◌⊎◌},
 }
 
+-- the test of UTF-8 says whether bytes are
 pub ruleset utf8_tests = (IsUtf8-from_is_utf8, is_utf8-from_IsUtf8, false_unless)
 
 -- ---- newlines
@@ -45,7 +46,7 @@ has_zero : (text : List ℕ) → Decides (list_any is_zero text) (¬ (HasNoZero 
 has_zero text = grind (arith, no_zero_again, no_zero_is)
 
 no_text : (text : List ℕ) → Decides (is_no_text text) (IsNoText text)
-no_text text = Decides-or _ _ (Decides-eqb _ 58) (has_zero _)
+no_text text = grind (arith, no_zero_again, no_zero_is)
 
 no_zero : (text : List ℕ) → ¬ (IsNoText text) → HasNoZero text
 no_zero text h = grind (arith, has_zero, no_zero_is)
@@ -87,16 +88,8 @@ footer_law extended bytes = like
     (choice (IsUtf8-from_is_utf8 bytes, is_utf8-from_IsUtf8 bytes)
     (choice (between _) (choice (no_text _) (refused (InvalidTzFile TzTextInFooter) (omega arith)) (rule_law _ _))
     (refused (InvalidTzFile FooterBetweenNewlines) (omega arith))) (refused (Utf8 FooterInUtf8) (omega arith)))
-    (λ rule h. elim h [
-      | inl u ↦ elim u.1 [
-        | inl b ↦ elim b.1 [
-          | inl k ↦ absurd k.1
-          | inr k ↦ record { text = _; has_text = text_has _ u.0 b.0; no_colon = λ e. k.0 (inl e); no_zero = no_zero _ k.0; says = k.1 }
-        ]
-        | inr b ↦ absurd b.1
-      ]
-      | inr u ↦ absurd u.1
-    ])
+    (λ rule h.
+    record { text = trimmed bytes; has_text = text_has _ (grind arith) (grind arith); no_colon = grind arith; no_zero = no_zero _ (grind arith); says = grind arith })
     (λ rule h. grind (arith, trim_whole))
     (fault_is _ _)
     (fault_again _ _)

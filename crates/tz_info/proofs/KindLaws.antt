@@ -73,7 +73,7 @@ record IsCalm (start_first : Bool) (start end : ℤ) : Type 0 where
   order : int_le start end ≡ start_first
 
 calm_is : (start_first : Bool) (start end : ℤ) → is_calm start_first start end ≡ true → IsCalm start_first start end
-calm_is _ _ end h = grind arith
+calm_is b s e h = grind arith
 
 abbrev starts : Alternate → List ℤ
 starts a = seconds_by_kind a.start a.std.offset
@@ -101,8 +101,8 @@ margin_by a margin true rule all is =
     let calm = λ (year : ℤ). calm_year a year rule all in
     let ordered = λ (year : ℤ). sym (shifted (start_in a year) (end_in a year) (pos 86_400 *ℤ year_start year)) ∙ (calm year).order in
     rw is (record {
-      start = record { low = λ year. omega (arith, floors, (calm year).start_in.0); high = λ year. omega (arith, floors, (calm year).start_in.1) };
-      end = record { low = λ year. omega (arith, floors, (calm year).end_in.0); high = λ year. omega (arith, floors, (calm year).end_in.1) };
+      start = record { low = λ year. let c = calm year in omega (arith, floors); high = λ year. let c = calm year in omega (arith, floors) };
+      end = record { low = λ year. let c = calm year in omega (arith, floors); high = λ year. let c = calm year in omega (arith, floors) };
       order = inr (λ v w. ordered v ∙ sym (ordered w));
       bound = (omega (arith, floors), omega (arith, floors));
     })

@@ -6,9 +6,9 @@ use Rattle.tz_base.specs.{
   declared.error.Expected.TheVariants.{TypeIndexesWithinTypes},
 }
 use Rattle.tz_info.proofs.{
-  Words.{All, AllAdjacentBelow, AllPairs, AllPairs-cons, AreLeapSeconds, AreRising, AreTransitions, Bool, Decides, Decides-ltb, Error, IsNextLeap, IsValid},
-  Words.{LeapSecond, List, ListFault, No_type, Not_rising, Other_index, Other_leaps, Other_rule, Transition, Zone, [], add-one, arith, cases_lt, error_number},
-  Words.{inl, inr, length, suc, zero, ℤ, ◌<ℤ◌, ◌<◌, ◌∷◌, ◌≡◌, ◌≤◌, ◌⊎◌},
+  Words.{All, AllAdjacentBelow, AllPairs, AllPairs-cons, AreLeapSeconds, AreRising, AreTransitions, Error, IsNextLeap, IsValid, LeapSecond, List, ListFault},
+  Words.{No_type, Not_rising, Other_index, Other_leaps, Other_rule, Transition, Zone, [], add-one, arith, cases_lt, error_number, inl, inr, length, suc, zero},
+  Words.{ℕ, ℤ, ◌<ℤ◌, ◌<◌, ◌∷◌, ◌≡◌, ◌≤◌, ◌⊎◌},
 }
 use Rattle.tz_info.specs.{Leaps.{IsFirstLeap}, Transitions.{NameTypes}}
 
@@ -16,8 +16,8 @@ use Rattle.tz_info.specs.{Leaps.{IsFirstLeap}, Transitions.{NameTypes}}
 abbrev pub Known : Type 0 → Type 0
 Known P = P ⊎ ¬ P
 
-known : {P : Type 0} (b : Bool) → Decides b P → Known P
-known b d = grind arith
+less_known : (a b : ℕ) → Known (a < b)
+less_known a b = grind arith
 
 pub equal_known : (a b : ℤ) → Known (a ≡ b)
 equal_known a b = grind arith
@@ -31,8 +31,8 @@ like_known to from p = grind arith
 -- ---- of each element, and of each and the next
 all_known : {X : Type 0} {P : X → Type 0} → ((x : X) → Known (P x)) → (xs : List X) → Known (All P xs)
 all_known each [] = inl (grind arith)
-all_known {P = P} each (x ∷ xs) = like_known
-    (λ h. All-cons P x xs h.0 h.1) (λ h. (h 0 x (omega arith), λ k d l. h (suc k) d (omega arith))) (both_known (each x) (all_known each xs))
+all_known {P = P} each (x ∷ xs) = like_known (λ h. All-cons P x xs h.0 h.1) (λ h. (h 0 x (omega arith), λ k d l. h (suc k) d (omega arith)))
+    (both_known (each x) (all_known each xs))
 
 pairs_known : {X : Type 0} {R : X → X → Type 0} → ((x y : X) → Known (R x y)) → (xs : List X) → Known (AllPairs R xs)
 pairs_known each [] = inl (grind arith)
@@ -97,7 +97,7 @@ list_fault_once z d e f g = one_fault z d e (staged z d f) (staged z e g)
 pub has_list_fault : (z : Zone) → ¬ (IsValid z) → (e : Error) × ListFault z e
 has_list_fault z bad = elim (cases_lt 0 (length z.types)) [
   | inr none ↦ (_, No_type (λ l. omega arith))
-  | inl some ↦ elim (all_known (λ t. known _ (Decides-ltb t.type_index (length z.types))) _) [
+  | inl some ↦ elim (all_known (λ t. less_known t.type_index (length z.types)) _) [
     | inr other ↦ (_, Other_index some other)
     | inl indexes ↦ elim (pairs_known earlier_known _) [
       | inr other ↦ (_, Not_rising some indexes other)

@@ -18,9 +18,9 @@ pub posix_law : (text : List ℕ) → Decided Zone (zone_in text) (IsPosixZone t
 unfolding zone_in
 posix_law [] = grind arith
 posix_law (b ∷ bs) = like (made posix_zone (spelled_law _ _))
-    (λ z h. inr (record { some = λ e. cc; trimmed = trimmed (b ∷ bs); rule = h.0; trims = trim_is _; spells = h.1; zone = sym h.2 }))
-    (λ z h. elim h [ inl a ↦ let e = a.0 in cc | inr a ↦ (a.rule, rw (trim_again _ _ a.trims) a.spells, sym a.zone) ])
-    (λ n f. record { some = λ e. cc; trimmed = trimmed (b ∷ bs); trims = trim_is _; fault = f })
+    (λ z h. inr (record { some = λ e. cc; trimmed = _; rule = h.0; trims = trim_is _; spells = h.1; zone = sym h.2 }))
+    (λ z h. elim h [ inl a ↦ cc | inr a ↦ (a.rule, rw (trim_again _ _ a.trims) a.spells, sym a.zone) ])
+    (λ n f. record { some = λ e. cc; trimmed = _; trims = trim_is _; fault = f })
     (λ n f. rw (trim_again _ _ f.trims) f.fault)
 
 -- ---- what a reader answers

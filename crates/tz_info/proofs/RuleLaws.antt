@@ -32,26 +32,22 @@ rule_told (Alternate a) u limits =
 pub rule_decided : (rule : TransitionRule) (u : ℤ) → IsRule rule → ((t : LocalType) × RuleAt rule u t) ⊎ IsRuleRefused rule u
 rule_decided rule u h = let t = rule_told rule u h in grind linear
 
-first_start : year_start (neg_ℤ (pos 2_147_483_646)) ≡ neg_ℤ (pos 784_353_015_102)
+bounds : (year_start (neg_ℤ (pos 2_147_483_646)) ≡ neg_ℤ (pos 784_353_015_102)) × (year_start (pos 2_147_483_646) ≡ pos 784_351_576_047)
 unfolding year_start
-first_start = refl
-
-last_start : year_start (pos 2_147_483_646) ≡ pos 784_351_576_047
-unfolding year_start
-last_start = refl
+bounds = (refl, refl)
 
 -- the seconds of the years that a rule answers in
 pub rule_time : (u year : ℤ) → IsYearOf u year → IsRuleYear year → IsRuleTime u
 rule_time u year of_second inside =
     let low = starts_rise (neg_ℤ (pos 2_147_483_646)) year in
     let high = starts_rise (year +ℤ pos 1) (pos 2_147_483_646) in
-    grind (arith, floors, first_start, last_start)
+    grind (arith, floors, bounds)
 
 pub rule_year : (u year : ℤ) → IsYearOf u year → IsRuleTime u → IsRuleYear year
 rule_year u year of_second within =
     let low = starts_rise (year +ℤ pos 1) (neg_ℤ (pos 2_147_483_646)) in
     let high = starts_rise (pos 2_147_483_646) year in
-    grind (arith, floors, first_start, last_start)
+    grind (arith, floors, bounds)
 
 -- outside of them an alternate rule is refused
 pub refused_outside : (u : ℤ) → (IsRuleTime u → ⊥) → IsAlternateRefused u
@@ -64,4 +60,4 @@ year_found u day year at_day at_year within = let lies = lies_in day in grind (l
 -- the type at a second whose day and year are known
 pub alternate_at : (a : AlternateRule) (u day year : ℤ) (dst : Bool) → day ≡ floor_div u 86_400 → LiesIn day year → IsRuleYear year
     → IsDstAt (start_in a) (end_in a) year u dst → AlternateAt a u (type_when a dst)
-alternate_at a u day _ dst at_day lies inside when = grind arith
+alternate_at a u day year dst at_day lies inside when = grind arith

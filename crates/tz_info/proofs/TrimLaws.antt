@@ -4,7 +4,7 @@ use Rattle.std.proofs.lemmas.List.Sums.{prefix_len-le-length, prefix_len_is}
 use Rattle.std.specs.List.{prefix_len}
 use Rattle.tz_info.proofs.{
   Words.{BeginsBare, EndsBare, IsAsciiWhitespaceBelow, IsAsciiWhitespaceFrom, IsSpace, IsTrimAscii, IsTrimAsciiStart, IsTrimmed, List, [], ap, append-nil},
-  Words.{arith, drop, false, inl, inr, is_ascii_whitespace, length, length-append, length-take, min, refl, slice_index, suc, sym, take, trimmed, trimmed_back},
+  Words.{arith, drop, false, inl, inr, is_ascii_whitespace, length, length-append, length-take, refl, slice_index, suc, sym, take, trimmed, trimmed_back},
   Words.{trimmed_front, unless_space, zero, ℕ, ◌++◌, ◌+◌, ◌-◌, ◌<◌, ◌∙◌, ◌∷◌, ◌≡◌, ◌≤◌},
 }
 
@@ -89,15 +89,14 @@ pub trims_both : (s r : List ℕ) → IsTrimAscii s r → IsTrimmed s r
 unfolding trimmed
 trims_both s r t =
     let front = front_drop t.0 s (within t.0 s t.2) t.2 t.3 in
-    let least : length r ≡ min (length r) (length (drop t.0 s)) = ap length t.1 ∙ length-take (length r) (drop t.0 s) in
-    let back = back_take _ _ (omega arith) t.4 (λ m h. let k : length r - 1 ≡ m = omega arith in rw k at (t.5 (omega arith))) in
+    let least = length-take (length r) (drop t.0 s) in
+    let back = back_take (length r) (drop t.0 s) (grind arith) t.4 (λ m h. let k : length r - 1 ≡ m = omega arith in rw k at (t.5 (omega arith))) in
     let same : r ≡ trimmed s = cc in
     rw same (trim_is s)
 
 -- ---- how much white space is in front
 pub front_counted : (s r : List ℕ) → IsTrimAsciiStart s r → length r + prefix_len is_ascii_whitespace s ≡ length s
-front_counted s r t =
-    let counted = prefix_len_is is_ascii_whitespace s t.0 0 (omega arith) t.3 t.4 in omega arith
+front_counted s r t = let c = prefix_len_is is_ascii_whitespace s t.0 0 (omega arith) t.3 t.4 in omega arith
 
 bare_counted : (before : List ℕ) (b : ℕ) (rest : List ℕ) → IsSpace before → is_ascii_whitespace b ≡ false
     → prefix_len is_ascii_whitespace (before ++ (b ∷ rest)) ≡ length before

@@ -55,9 +55,11 @@ text_again names i x s =
     let after : drop i names ≡ x ++ (0 ∷ s.after) = rw (s.whole, ← s.at) (drop_front s.before (x ++ (0 ∷ s.after))) in
     grind (arith, length-append, zero_again, take-append_seam)
 
+abbrev NoText : List ℕ → ℕ → Error → Type 0
+NoText names i e = ((text : List ℕ) → ¬ (StandsAt names i text)) × (e ≡ InvalidTzFile (expected_of_place names i))
+
 text_law : (names : List ℕ) (i : ℕ)
-    → Decided (List ℕ) (designation_at names i) (StandsAt names i)
-    (λ e. ((text : List ℕ) → ¬ (StandsAt names i text)) × (e ≡ InvalidTzFile (expected_of_place names i)))
+    → Decided (List ℕ) (designation_at names i) (StandsAt names i) (NoText names i)
 unfolding designation_at text_before_zero
 text_law names i = by_error (InvalidTzFile (expected_of_place names i))
     (choice (Decides-ltb i (length names)) (front_law _ _) (refused (InvalidTzFile NameWithinDesignations) (omega arith)))
@@ -70,7 +72,10 @@ named : (o : Option (List ℕ)) → Decides (is_name_or_none o) (IsNameOrNone o)
 named None = (λ _. tt, λ _. refl)
 named (Some text) = (name_test text).decides
 
-mark_law : (b : ℕ) → Decided Bool (mark_of b) (IsMark b) (λ e. ((d : Bool) → ¬ (IsMark b d)) × (e ≡ InvalidTzFile ZeroOrOneAsIsDst))
+abbrev NoMark : ℕ → Error → Type 0
+NoMark b e = ((d : Bool) → ¬ (IsMark b d)) × (e ≡ InvalidTzFile ZeroOrOneAsIsDst)
+
+mark_law : (b : ℕ) → Decided Bool (mark_of b) (IsMark b) (NoMark b)
 mark_law b = by_error (InvalidTzFile ZeroOrOneAsIsDst)
     (choice (Decides-eqb b 0) (done false) (guard true (InvalidTzFile ZeroOrOneAsIsDst) (omega arith) (Decides-eqb b 1)))
     (λ d h. grind arith)
@@ -79,11 +84,8 @@ mark_law b = by_error (InvalidTzFile ZeroOrOneAsIsDst)
 
 abbrev ReadFault : List ℕ → List ℕ → Error → Type 0
 ReadFault names bytes e =
-    (((d : Bool) → ¬ (IsMark (mark_in bytes) d)) × (e ≡ InvalidTzFile ZeroOrOneAsIsDst))
-    ⊎ ((dst : Bool) × IsMark (mark_in bytes) dst
-    × ((((text : List ℕ) → ¬ (StandsAt names (place_in bytes) text)) × (e ≡ InvalidTzFile (expected_of_place names (place_in bytes))))
-    ⊎ ((text : List ℕ) × StandsAt names (place_in bytes) text
-    × (¬ ((least_offset <ℤ offset_in bytes) × IsNameOrNone (designation_of text))
+    NoMark (mark_in bytes) e ⊎ ((dst : Bool) × IsMark (mark_in bytes) dst × (NoText names (place_in bytes) e
+    ⊎ ((text : List ℕ) × StandsAt names (place_in bytes) text × (¬ ((least_offset <ℤ offset_in bytes) × IsNameOrNone (designation_of text))
     × (e ≡ LocalTimeType (expected_of_type (offset_in bytes) (designation_of text)))))))
 
 fault_is : (names bytes : List ℕ) (e : Error) → ReadFault names bytes e → TypeFault names bytes e

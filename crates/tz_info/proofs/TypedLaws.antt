@@ -5,8 +5,8 @@ use Rattle.tz_info.proofs.{
   SegmentLaws.{segment_most, segments_rise},
   SpanLaws.{all_come, out_of_years, typed_between},
   Words.{AreLeapSeconds, IsAfterTyped, IsFirstTyped, IsFromLast, IsLastTyped, IsLeapTime, IsLeapTimeRefused, IsRefusedBy, IsRuleOrNone, IsSearched},
-  Words.{IsTypeRefused, IsValid, LeapSecond, List, None, Option, SFits, Some, TransitionRule, Zone, arith, by_leap_time, by_lt_z, by_rule, inl, inr},
-  Words.{least_time, length, linear, neg_ℤ, pos, refl, w64, ℤ, ◌+ℤ◌, ◌-ℤ◌, ◌<ℤ◌, ◌<◌, ◌≡◌, ◌≤ℤ◌},
+  Words.{IsTypeRefused, IsValid, LeapSecond, List, None, Option, SFits, Some, TransitionRule, Zone, arith, by_leap_time, by_rule, inl, inr, least_time, length},
+  Words.{linear, neg_ℤ, pos, refl, w64, ℤ, ◌+ℤ◌, ◌-ℤ◌, ◌<ℤ◌, ◌<◌, ◌≡◌, ◌≤ℤ◌},
   ZoneChanges.{refused_on, to_rule},
   ZoneLaws.{type_decided},
 }
@@ -56,6 +56,6 @@ module _ (z : Zone) (valid : IsValid z) (limits : IsRuleOrNone z.rule) where
 -- after it none has
 pub after_typed : (z : Zone) (last : ℤ) → SFits w64 last → IsLastTyped z last → (last ≡ pos 9_223_372_036_854_775_807 → ⊥) → IsAfterTyped z (last +ℤ pos 1)
 after_typed z last fits h not =
-    let next = by_lt_z last (pos 9_223_372_036_854_775_807) (λ l. omega linear) (λ m. absurd (not (omega linear))) in
     let back : last ≡ (last +ℤ pos 1) -ℤ pos 1 = omega linear in
+    let next : SFits w64 (last +ℤ pos 1) = grind linear in
     record { fits = next; typed = rw back at h.typed; after = h.none (last +ℤ pos 1) next (omega linear) }

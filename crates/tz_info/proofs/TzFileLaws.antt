@@ -65,10 +65,7 @@ one_zone _ = value_once (file_law _)
 spelling_fault : (bytes : List ℕ) (n : Error) → SpellingFault bytes n → IsFileFault bytes n
 spelling_fault bytes n f = grind (arith, In_piece, In_contents)
 
-abbrev ValidityFault : List ℕ → Error → Type 0
-ValidityFault bytes e = (z : Zone) × IsTzFile bytes z × ListFault z e
-
-kind_of : (bytes : List ℕ) (e : Error) → IsFileFault bytes e → SpellingFault bytes e ⊎ ValidityFault bytes e
+kind_of : (bytes : List ℕ) (e : Error) → IsFileFault bytes e → SpellingFault bytes e ⊎ ((z : Zone) × IsTzFile bytes z × ListFault z e)
 kind_of bytes e f = grind arith
 
 pub fault_once : (bytes : List ℕ) (d e : Error) → IsFileFault bytes d → IsFileFault bytes e → d ≡ e
@@ -113,11 +110,10 @@ only bytes e r z file = let read = (file_law _).again z file in grind arith
 
 pub fault : (bytes : List ℕ) (e : Error) → Reads (Err e) bytes → IsZoneFault bytes e
 fault _ e (inl refused) = In_file e (spelling_fault _ e ((file_law _).fails e refused))
-fault bytes e (inr memory) = rw memory.0 (No_memory memory.1 ((pieces_law _).takes memory.1 memory.2))
+fault _ _ (inr (is, p, read)) = rw is (No_memory p ((pieces_law _).takes p read))
 
 pub memory : (bytes : List ℕ) (e : Error) → Reads (Err e) bytes → e ≡ OutOfMemory → (p : FilePieces) × HasPieces bytes p
-memory _ e (inl refused) is = let low = (file_law _).low e refused in grind arith
-memory _ _ (inr whole) _ = (whole.1, (pieces_law _).takes whole.1 whole.2)
+memory bytes e r is = let low = (file_law bytes).low e in let t = (pieces_law bytes).takes in grind arith
 
 -- ---- what a reader of zones answers
 -- of a file with a fault that one is named, unless memory ran out

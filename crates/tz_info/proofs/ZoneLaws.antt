@@ -42,7 +42,7 @@ fits_or_not a = grind arith
 
 -- all of n numbers fit 64 bits, or one does not
 all_fit_or_not : (f : ℕ → ℤ) (n : ℕ) → ((k : ℕ) → k < n → SFits w64 (f k)) ⊎ ((k : ℕ) × (k < n) × (SFits w64 (f k) → ⊥))
-all_fit_or_not f zero = inl (λ k h. omega arith)
+all_fit_or_not f zero = inl (grind arith)
 all_fit_or_not f (suc n) = elim (all_fit_or_not f n) [
   | inl all ↦ elim (fits_or_not (f n)) [ inl here ↦ inl (λ k h. grind (arith, all)) | inr out ↦ inr (n, omega arith, out) ]
   | inr some ↦ inr (some.0, omega arith, some.2)
@@ -85,11 +85,8 @@ type_error_number z u refused = grind linear
 
 pub type_decided : (z : Zone) (u : ℤ) → IsValid z → IsRuleOrNone z.rule → ((t : LocalType) × TypeAt z u t) ⊎ IsTypeRefused z u
 type_decided z u valid limits = elim (cases_lt 0 (length z.transitions)) [
-  | inl some ↦ elim (leap_time_decided z.leaps u) [
-    | inl x ↦ decided_at z u x.0 valid limits (λ _. x.1)
-    | inr refused ↦ inr (by_leap_time some refused)
-  ]
-  | inr none ↦ decided_at z u u valid limits (λ h. absurd (omega arith))
+  | inl some ↦ elim (leap_time_decided z.leaps u) [ inl x ↦ decided_at z u x.0 valid limits (λ _. x.1) | inr refused ↦ inr (by_leap_time some refused) ]
+  | inr none ↦ decided_at z u u valid limits (grind arith)
 ]
 
 -- a rule and types without transitions make a zone
