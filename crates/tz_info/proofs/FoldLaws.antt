@@ -1,10 +1,9 @@
 -- Folds: from the last second that shows a local time back to the change that set clocks back.
 use Rattle.offset_core.specs.WallAnswer.{IsShownBetween}
 use Rattle.tz_info.proofs.{
-  SpanLaws.{until_less},
-  Words.{HasFold, IsInSpan, IsNear, IsSince, IsSpanAt, LocalType, None, SFits, Shows, Some, Span, TypeAt, Zone, ap, by_lt_z, linear, pos, subst, w64, ℤ, ◌+ℤ◌},
-  Words.{◌-ℤ◌, ◌<ℤ◌, ◌≡◌, ◌≤ℤ◌},
-  ZoneLaws.{type_once},
+  SpanLaws.until_less,
+  Words.{HasFold, IsInSpan, IsNear, IsSince, IsSpanAt, LocalType, None, Shows, Some, Span, TypeAt, Zone, ap, by_lt_z, linear, pos, ℤ, ◌+ℤ◌, ◌-ℤ◌, ◌<ℤ◌, ◌≡◌},
+  Words.◌≤ℤ◌, ZoneLaws.type_once,
 }
 use Rattle.tz_info.specs.Steps.Folds.{AreEndsOfFold, IsBackTo}
 
@@ -22,43 +21,34 @@ not_more : (z : Zone) (local first last end : ℤ) (t : LocalType) → AreEndsOf
     → (end +ℤ t.offset) ≤ℤ local
 not_more z _ _ last end t ends back here = grind (linear, same_offset)
 
--- the first second doesn't lie in the span of `end`
-first_outside : (z : Zone) (local first last end : ℤ) (s : Span) → AreEndsOfFold z local first last → IsBackTo z local first last end
-    → IsSpanAt (TypeAt z) end s
-    → IsSince s.from first → ⊥
-first_outside z _ first _ end s ends back at since =
-    let is_first = ends.is_first in
-    let inside : IsInSpan s first = record {
-      fits = rw is_first at ends.several.at_first.fits;
-      since = since;
-      until = until_less _ _ end at.inside.until (omega linear);
-    } in
-    let offset = same_offset z _ _ _ (rw is_first at ends.several.at_first.type) (at.span.each first inside) in
-    let less = not_more z _ _ _ end _ ends back at.in_force_then in
-    omega linear
-
 -- a fold's ends, the second at which the clocks go back, and the span there
 module _ (z : Zone) (local first last end : ℤ) (s : Span) (ends : AreEndsOfFold z local first last) (back : IsBackTo z local first last end)
     (at : IsSpanAt (TypeAt z) end s) where
+  -- the first second doesn't lie in the span of `end`
+  first_outside : IsSince s.from first → ⊥
+  first_outside since =
+      let is_first = ends.is_first in
+      let inside : IsInSpan s first = record { fits = rw is_first at ends.several.at_first.fits; since = since;
+          until = until_less _ _ end at.inside.until (omega linear) } in
+      grind (linear, not_more z _ _ _ end _ ends back at.in_force_then,
+      same_offset z _ _ _ (rw is_first at ends.several.at_first.type) (at.span.each first inside))
+
   -- so the span of `end` begins after it
   pub begins : s.from ≡ None → ⊥
-  begins none = first_outside z _ _ _ end s ends back at (rw none tt)
+  begins none = first_outside (rw none tt)
 
   pub begins_at : (from : ℤ) → s.from ≡ Some from → (first <ℤ from) × (from ≤ℤ end)
-  begins_at from is = (by_lt_z first from (λ l. l) (λ m. absurd (first_outside z _ _ _ end s ends back at (rw is m))), grind linear)
+  begins_at from is = (grind (linear, first_outside), grind linear)
 
--- and from its begin on clocks show less
-less_from : (z : Zone) (local first last end from : ℤ) (s : Span) → AreEndsOfFold z local first last → IsBackTo z local first last end
-    → IsSpanAt (TypeAt z) end s
-    → IsNear first → IsNear last → s.from ≡ Some from → (u : ℤ) (t : LocalType) → from ≤ℤ u → u <ℤ last → TypeAt z u t → (u +ℤ t.offset) <ℤ local
-less_from z _ _ _ end _ s ends back at near_first near_last is = λ u t since before here. by_lt_z u end
-    (λ l.
-    let begun = begins_at z _ _ _ end s ends back at _ is in
-    let inside : IsInSpan s u = record { fits = omega linear; since = rw is since; until = until_less _ u end at.inside.until (omega linear) } in
-    let offset = same_offset z u t _ here (at.span.each u inside) in
-    let less = not_more z _ _ _ end _ ends back at.in_force_then in
-    omega linear)
-    (λ m. back.less u t m before here)
+  -- and from its begin on clocks show less
+  less_from : (from : ℤ) → IsNear first → IsNear last → s.from ≡ Some from → (u : ℤ) (t : LocalType) → from ≤ℤ u → u <ℤ last → TypeAt z u t
+      → (u +ℤ t.offset) <ℤ local
+  less_from from near_first near_last is u t since before here = by_lt_z u end
+      (λ l.
+      let begun = begins_at _ is in
+      let inside : IsInSpan s u = record { fits = omega linear; since = rw is since; until = until_less _ u end at.inside.until (omega linear) } in
+      grind (linear, not_more z _ _ _ end _ ends back at.in_force_then, same_offset z u t _ here (at.span.each u inside)))
+      (λ m. back.less u t m before here)
 
 -- a fold's near ends, the second at which the clocks go back, and the span there
 module _ (z : Zone) (local first last end from : ℤ) (s : Span) (before : LocalType) (ends : AreEndsOfFold z local first last)
@@ -67,20 +57,22 @@ module _ (z : Zone) (local first last end from : ℤ) (s : Span) (before : Local
   -- the change at its begin is the one looked for, if clocks show the local time or more before it
   pub fold_at : local ≤ℤ ((from -ℤ pos 1) +ℤ before.offset) → HasFold (TypeAt z) local before s.local_time_type from
   fold_at reached =
-      let begun = begins_at z _ _ _ end s ends back at _ is in let not_later = back.not_later in let inside : IsInSpan s from = record {
-        fits = omega linear;
-        since = rw is (omega linear);
-        until = by_lt_z from end (λ l. until_less _ _ end at.inside.until (omega linear))
-            (λ m. let same : end ≡ from = omega linear in rw (← same) at.inside.until);
-      } in record {
+      let begun = begins_at z _ _ _ end s ends back at _ is in
+      let not_later = back.not_later in
+      record {
         first_type = ends.first_type;
         last_type = ends.last_type;
         several = ends.several;
         not_later = omega linear;
-        here = at.span.each from inside;
+        here = at.span.each from (record {
+          fits = omega linear;
+          since = rw is (omega linear);
+          until = by_lt_z from end (λ l. until_less _ _ end at.inside.until (omega linear))
+              (λ m. let same : end ≡ from = omega linear in rw same at at.inside.until);
+        });
         earlier = earlier;
         reached = reached;
-        less = λ u t since until. less_from z _ _ _ end _ s ends back at near_first near_last is u t since (omega linear);
+        less = λ u t since until. less_from z _ _ _ end s ends back at _ near_first near_last is u t since (omega linear);
       }
 
   -- else the search goes on before it
@@ -89,12 +81,9 @@ module _ (z : Zone) (local first last end from : ℤ) (s : Span) (before : Local
       let begun = begins_at z local _ _ end s ends back at _ is in let not_later = back.not_later in record {
         after_first = by_lt_z first (from -ℤ pos 1) (λ l. l) (λ m.
             let same : ends.several.first ≡ from -ℤ pos 1 = omega linear in
-            let offset = same_offset z _ _ _ (rw same at ends.several.at_first.type) earlier in
-            omega linear);
+            let offset = same_offset z _ _ _ (rw same at ends.several.at_first.type) earlier in omega linear);
         not_later = omega linear;
         less = λ u t since until here. by_lt_z u from
-            (λ l.
-            let same : u ≡ from -ℤ pos 1 = omega linear in
-            let offset = same_offset z _ t _ (rw same at here) earlier in omega linear)
-            (λ m. less_from z _ _ _ end _ s ends back at near_first near_last is u t m until here);
+            (λ l. let same : u ≡ from -ℤ pos 1 = omega linear in let offset = same_offset z _ t _ (rw same at here) earlier in omega linear)
+            (λ m. less_from z _ _ _ end s ends back at _ near_first near_last is u t m until here);
       }

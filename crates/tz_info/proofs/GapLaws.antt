@@ -1,13 +1,9 @@
 -- Gaps: the first second at which clocks show more than a local time that they never show.
 use Rattle.tz_info.proofs.{
-  ExtremeLaws.{at_least_least, at_most_greatest},
-  LeapOrder.{leap_times_answer},
-  RuleLaws.{rule_year},
-  SegmentLaws.{type_before, type_from},
+  ExtremeLaws.{at_least_least, at_most_greatest}, LeapOrder.leap_times_answer, RuleLaws.rule_year, SegmentLaws.{type_before, type_from},
   Words.{AreLess, HasGap, IsFirstAtOrAfter, IsNear, IsNeverShown, IsRefusedBy, IsRuleOrNone, IsTypeRefused, IsValid, IsWindowOf, LocalType, None, Option},
   Words.{RuleOrElse, Shows, Some, TransitionRule, TypeAt, Zone, by_leap_time, by_lt_z, by_rule, floor_div, inl, inr, length, lies_in, linear, pos, segment_of},
-  Words.{sym, year_of, ℕ, ℤ, ◌+ℤ◌, ◌-ℤ◌, ◌<ℤ◌, ◌<◌, ◌∙◌, ◌≡◌, ◌≤ℤ◌, ◌⊎◌},
-  ZoneLaws.{some_once, type_decided},
+  Words.{ℕ, ℤ, ◌+ℤ◌, ◌-ℤ◌, ◌<ℤ◌, ◌<◌, ◌∙◌, ◌≡◌, ◌≤ℤ◌, ◌⊎◌}, ZoneLaws.{some_once, type_decided},
 }
 use Rattle.tz_info.specs.declared.rule.transition_rule.TransitionRule.TheVariants.{Alternate, Fixed}
 
@@ -16,21 +12,17 @@ IsNever z l = IsNeverShown (Shows (TypeAt z) l)
 
 -- ---- each near second has a type
 near_rule : (rule : Option TransitionRule) (u : ℤ) → IsNear u → IsRefusedBy rule u → ⊥
-near_rule (Some (Fixed t)) u near h = h
 near_rule (Some (Alternate a)) u near h =
-    let lies = lies_in (floor_div u 86_400) in
-    h (year_of (floor_div u 86_400)) lies (rule_year u _ lies (omega linear, omega (linear, near)))
+    let lies = lies_in (floor_div u 86_400) in h _ lies (rule_year u _ lies (omega linear, omega linear))
 near_rule None u near h = h
+near_rule (Some (Fixed t)) u near h = h
 
 pub near_not_refused : (z : Zone) (u : ℤ) → IsValid z → IsNear u → IsTypeRefused z u → ⊥
 near_not_refused z u valid near (by_leap_time some refused) = leap_times_answer _ u valid.leaps near.0 near.1 refused
 near_not_refused z u valid near (by_rule x _ _ refused) = near_rule _ u near refused
 
 pub near_type : (z : Zone) (u : ℤ) → IsValid z → IsRuleOrNone z.rule → IsNear u → (t : LocalType) × TypeAt z u t
-near_type z u valid limits near = elim (type_decided z u valid limits) [
-  | inl t ↦ t
-  | inr refused ↦ absurd (near_not_refused z u valid near refused)
-]
+near_type z u valid limits near = elim (type_decided z u valid limits) [ inl t ↦ t | inr r ↦ absurd (near_not_refused z u valid near r) ]
 
 -- ---- in a segment that is not an alternate rule's one type is in force
 -- the rule has one type, or the zone has no rule
@@ -70,7 +62,8 @@ gap_found z l low _ c s t never reach far all here more before = record {
   never = never;
   here = here;
   more = more;
-  least = λ u m. by_lt_z u c (λ h. let g = at_most_greatest z u _ _ reach.greatest m.here in let near_u : IsNear u = (omega linear, omega linear) in grind linear) (λ h. h);
+  least = λ u m. by_lt_z u c
+      (λ h. let g = at_most_greatest z u _ _ reach.greatest m.here in let near_u : IsNear u = (omega linear, omega linear) in grind linear) (λ h. h);
   earlier = before;
 }
 
@@ -80,11 +73,11 @@ pub first_near : (z : Zone) (l low high u : ℤ) (t : LocalType) → IsValid z �
     → (low ≤ℤ u) × (u ≤ℤ high)
 first_near z l low high u t valid limits reach first =
     let near = reach.near_high in
-    let s = near_type z _ valid limits near in
-    let least = at_least_least z _ _ s.0 reach.least s.1 in
+    let (s, type) = near_type z _ valid limits near in
+    let least = at_least_least z _ _ s reach.least type in
     let most = at_most_greatest z u _ t reach.greatest first.shown.type in
     let reached = first.shown.reached in
-    (omega linear, first.first high s.0 (record { fits = omega linear; type = s.1; reached = omega linear }))
+    (omega linear, grind (linear, first.first high s))
 
 pub gap_at_first : (z : Zone) (l low high u : ℤ) (t before : LocalType) → IsNever z l → IsWindowOf z l l low high → low ≤ℤ u → u ≤ℤ high
     → IsFirstAtOrAfter (TypeAt z) l u t → TypeAt z (u -ℤ pos 1) before → HasGap (TypeAt z) l before t u

@@ -1,81 +1,41 @@
 -- What hints say of a search.
-use Rattle.tz_info.proofs.SearchWords.{AreEnds, AreHints, AreMarked, AreNonDecreasing, AreOrdered, AreRaised, AreRaisedUntil}
-use Rattle.tz_info.proofs.SearchWords.{AreStepsUntil, Ends, Hints, IsHinted, IsLastBefore, IsNarrowedTo, RiseFromZero}
-use Rattle.tz_info.proofs.SearchWords.{List, Near, ap, arith, cases_eq, cases_lt, div-lt_iff_lt-mul, div-mul-le_self, get_or-set_at, get_or-set_other, inl, inr}
-use Rattle.tz_info.proofs.SearchWords.{ints, item_time, length, length-set, lt-suc_self, max, mul-le-mul_right, nat_abs, nat_cmp, negsuc, ord_max, pos, pow_pos}
-use Rattle.tz_info.proofs.SearchWords.{refl, set, slice_index, stretch_of, suc, sym, ℕ, ℤ, ◌*◌, ◌+ℤ◌, ◌+◌, ◌-ℤ◌, ◌-◌, ◌/◌, ◌<ℤ◌, ◌<◌, ◌^◌, ◌∙◌, ◌≡◌}
-use Rattle.tz_info.proofs.SearchWords.{◌≢◌, ◌≤ℤ◌, ◌≤◌, ◌⊎◌}
-use Rattle.tz_info.proofs.SearchSteps.{not_before}
-use Rattle.std.proofs.lemmas.Nat.{le-div}
-
--- the seconds of a stretch
-pub before_next : (n m : ℕ) → 0 < m → n < suc (n / m) * m
-before_next n m h = grind (arith, div-lt_iff_lt-mul)
+use Rattle.std.proofs.{Common.◌↔◌, lemmas.Nat.le-div}
+use Rattle.tz_info.proofs.{
+  SearchSteps.not_before,
+  SearchWords.{AreEnds, AreHints, AreMarked, AreNonDecreasing, AreOrdered, AreRaised, AreRaisedUntil, AreStepsUntil, Ends, Hints, IsHinted, IsNarrowedTo, List},
+  SearchWords.{Near, RiseFromZero, arith, cases_eq, cases_lt, div-lt_iff_lt-mul, div-mul-le_self, get_or-set_at, get_or-set_other, inl, inr, item_time, length},
+  SearchWords.{length-set, linear, max, nat_abs, nat_cmp, negsuc, ord_max, pos, pow_pos, refl, set, slice_index, stretch_of, suc, ℕ, ℤ, ◌*◌, ◌+ℤ◌, ◌+◌, ◌-ℤ◌},
+  SearchWords.{◌-◌, ◌/◌, ◌<ℤ◌, ◌<◌, ◌^◌, ◌∙◌, ◌≡◌, ◌≢◌, ◌≤ℤ◌, ◌≤◌, ◌⊎◌},
+}
 
 -- the latest item is one of those of the hint
 pub near_hinted : (times : List ℤ) (v : ℤ) (hints : Hints) (ends : Ends) (seconds : ℕ) (near : Near) → AreOrdered times → length times < 2 ^ 64
     → 0 < length times → AreEnds times ends → AreHints times hints
     → ends.first ≤ℤ v → pos seconds ≡ v -ℤ ends.first → 0 < 2 ^ hints.shift → IsHinted hints.places.items (seconds / 2 ^ hints.shift) near
     → IsNarrowedTo times v near
-near_hinted times v hints ends seconds near ordered fits some are h from is positive hinted = grind (arith, ints)
+near_hinted times v hints ends seconds near ordered fits some are h from is positive hinted = grind linear
 
 -- how many seconds one time comes after another
 size_of : (z : ℤ) → pos 0 ≤ℤ z → pos (nat_abs z) ≡ z
 size_of (pos n) h = refl
-size_of (negsuc n) h = absurd (omega (arith, ints))
+size_of (negsuc n) h = absurd (omega linear)
 
 size_of_rise : (first time : ℤ) → first ≤ℤ time → pos (nat_abs (time -ℤ first)) ≡ time -ℤ first
-size_of_rise first time h = grind (arith, ints, size_of)
+size_of_rise first time h = grind (linear, size_of)
 
--- no item comes before the first, and none lies in a stretch after that of the last
-pub first_least : (times : List ℤ) (first : ℤ) (k : ℕ) → AreOrdered times → first ≡ item_time times 0 → k < length times → first ≤ℤ item_time times k
-first_least times first k ordered from l = grind (arith, ints, not_before times 0 k)
+-- items in order, and the time of the first
+module _ (times : List ℤ) (first : ℤ) (ordered : AreOrdered times) (from : first ≡ item_time times 0) where
+  -- no item comes before it, and none lies in a stretch after that of the last
+  pub first_least : (k : ℕ) → k < length times → first ≤ℤ item_time times k
+  first_least k l = grind (linear, not_before times 0 k)
 
-pub slots : (times : List ℤ) (first : ℤ) (span shift k : ℕ) → AreOrdered times → first ≡ item_time times 0
-    → pos span ≡ item_time times (length times - 1) -ℤ first → k < length times → stretch_of first (item_time times k) shift ≤ span / 2 ^ shift
-slots times first span shift k ordered from is l = grind (arith, ints, size_of_rise, not_before times k (length times - 1))
+  pub slots : (span shift k : ℕ) → pos span ≡ item_time times (length times - 1) -ℤ first → k < length times
+      → stretch_of first (item_time times k) shift ≤ span / 2 ^ shift
+  slots span shift k is l = grind (linear, size_of_rise, not_before times k (length times - 1))
 
--- the last item noted up to a stretch is the last one before it
-pub last_before : (times : List ℤ) (first : ℤ) (shift : ℕ) (marked raised : List ℕ) (b : ℕ) → 0 < 2 ^ shift
-    → ((k : ℕ) → k < length times → first ≤ℤ item_time times k)
-    → ((k : ℕ) → k < length times → suc (stretch_of first (item_time times k) shift) < length marked) → 0 < length times
-    → AreMarked times first shift (length times) marked → AreRaised marked raised → b < length marked
-    → IsLastBefore times (first +ℤ pos (b * 2 ^ shift)) (slice_index raised b)
-last_before times first shift marked raised b positive from room some m r h =
-    let m2 : ℕ = 2 ^ shift in
-    let raised_to = r.some b h in
-    let j : ℕ = raised_to.0 in
-    let j_le = raised_to.1 in
-    let same = raised_to.2 in
-    let item = m.of_item j (omega arith) in
-    record {
-      within = elim item [
-        | inl z ↦ omega arith
-        | inr i ↦ let l = i.0 in omega arith
-      ];
-      before = λ l. elim item [
-        | inl z ↦ absurd (omega arith)
-        | inr i ↦
-            let below = i.0 in
-            let at = from (slice_index marked j) below in
-            let next = before_next (nat_abs (item_time times (slice_index marked j) -ℤ first)) m2 positive in
-            rw same (early (item_time times (slice_index marked j)) first m2 (stretch_of first (item_time times (slice_index marked j)) shift) j b at next i.1
-            j_le)
-      ];
-      behind = λ k l n.
-          let noted = m.latest k n in
-          elim (cases_lt (stretch_of first (item_time times k) shift) b) [
-            | inl lt ↦ let a = r.above b (suc (stretch_of first (item_time times k) shift)) h lt in absurd (omega arith)
-            | inr ge ↦ late (item_time times k) first m2 b (from k n) (div-mul-le_self (nat_abs (item_time times k -ℤ first)) m2) (omega arith)
-          ];
-    } where
-      early : (time first : ℤ) (m s j b : ℕ) → first ≤ℤ time → nat_abs (time -ℤ first) < suc s * m → suc s ≡ j → j ≤ b → time <ℤ (first +ℤ pos (b * m))
-      early time first m s j b h lt e le = let size = size_of_rise first time h in let most : suc s ≤ b = omega arith in
-          let more = mul-le-mul_right m most in omega (arith, ints)
-
-      late : (time first : ℤ) (m b : ℕ) → first ≤ℤ time → nat_abs (time -ℤ first) / m * m ≤ nat_abs (time -ℤ first) → b ≤ nat_abs (time -ℤ first) / m
-          → (first +ℤ pos (b * m)) ≤ℤ time
-      late time first m b h le ge = let size = size_of_rise first time h in let more = mul-le-mul_right m ge in omega (arith, ints)
+-- a time lies in a stretch before that one if it comes before its begin
+in_stretch : (first time : ℤ) (shift b : ℕ) → first ≤ℤ time → (stretch_of first time shift < b) ↔ (time <ℤ (first +ℤ pos (b * 2 ^ shift)))
+in_stretch first time shift b h = grind (linear, size_of_rise first time h, div-lt_iff_lt-mul, pow_pos shift)
 
 -- one item more is noted
 pub marked_more : (times : List ℤ) (first : ℤ) (shift n stretch : ℕ) (places : List ℕ) → AreMarked times first shift n places
@@ -130,8 +90,8 @@ raising_more before after greatest n here r h rise is_here =
 stretch_rise : (first x y : ℤ) (shift : ℕ) → first ≤ℤ x → x ≤ℤ y → stretch_of first x shift ≤ stretch_of first y shift
 stretch_rise first x y shift h le =
     let a = size_of_rise first x h in
-    let b = size_of_rise first y (omega (arith, ints)) in
-    le-div _ (nat_abs (y -ℤ first)) (2 ^ shift) (pow_pos shift) (grind (arith, ints, div-mul-le_self (nat_abs (x -ℤ first)) (2 ^ shift)))
+    let b = size_of_rise first y (omega linear) in
+    le-div _ (nat_abs (y -ℤ first)) (2 ^ shift) (pow_pos shift) (grind (linear, div-mul-le_self (nat_abs (x -ℤ first)) (2 ^ shift)))
 
 -- later stretches have later items
 pub marks_rise : (times : List ℤ) (first : ℤ) (shift : ℕ) (marked : List ℕ) → AreOrdered times → first ≡ item_time times 0
@@ -140,13 +100,15 @@ marks_rise times first shift marked ordered from m b j h le some = elim (m.of_it
   | inl z ↦ absurd (omega arith)
   | inr here ↦ elim (m.of_item j (omega arith)) [
     | inl z ↦ omega arith
-    | inr earlier ↦ grind (arith, ints, not_before times (slice_index marked b) (slice_index marked j), first_least times first (slice_index marked b), stretch_rise first (item_time times (slice_index marked b)) (item_time times (slice_index marked j)) shift)
+    | inr earlier ↦ grind (linear, not_before times (slice_index marked b) (slice_index marked j),
+        first_least times first ordered from (slice_index marked b),
+        stretch_rise first (item_time times (slice_index marked b)) (item_time times (slice_index marked j)) shift)
   ]
 ]
 
 -- so none is less than the one before it
 pub raised_rising : (before after : List ℕ) → AreRaised before after → AreNonDecreasing after
-raised_rising before after r b h = grind (arith, ints, r.some b)
+raised_rising before after r b h = grind (arith, r.some b)
 
 -- one step more
 pub steps_more : (numbers : List ℕ) (most n most_after : ℕ) → AreStepsUntil numbers most n → 0 < n
@@ -163,10 +125,20 @@ hints_made times hints first span most marked ordered many shift from is long m 
     record {
       shift = shift;
       rising = raised_rising marked hints.places.items r;
-      places = λ b h. rw (← from) (last_before times first hints.shift marked hints.places.items b (pow_pos hints.shift)
-          (λ k l. first_least times first k ordered from l)
-          (λ k l. grind (arith, slots times first span hints.shift k ordered from is l))
-          (omega arith) m r (omega arith));
+      places = λ b h.
+          let (j, j_le, same) = r.some b (omega arith) in
+          let item = m.of_item j (omega arith) in
+          let at = in_stretch first (item_time times (slice_index marked j)) hints.shift b in
+          rw (← from, same) (record {
+            within = elim item [ inl z ↦ omega arith | inr i ↦ i.0 ];
+            before = λ l. grind (arith, first_least times first ordered from);
+            behind = λ k l n.
+                let in_k = in_stretch first (item_time times k) hints.shift b (first_least times first ordered from k n) in
+                elim (cases_lt (stretch_of first (item_time times k) hints.shift) b) [
+                  | inl lt ↦ grind (arith, m.latest k n, r.above b (suc (stretch_of first (item_time times k) hints.shift)))
+                  | inr ge ↦ grind linear
+                ];
+          });
       some = λ h. many;
       narrow = λ b h. grind (arith, steps b h);
     }

@@ -1,12 +1,12 @@
 -- The pieces of the first segments, as long as the last of them has no end, and one segment more.
-use Rattle.tz_info.proofs.Words.{AreCutsCrossed, AreInOrder, ArePieces, ArePiecesAt, HasType, IsCutAt, IsFold, IsGap, IsMerged, IsSegment, IsTable, IsUtOffset}
-use Rattle.tz_info.proofs.Words.{List, LocalType, Piece, Segment, Shown, Transition, Zone, all_pairs_push, answer_at, answer_before, arith, cut_of, index_of, inl}
-use Rattle.tz_info.proofs.Words.{cases_lt, inr, linear, le_false, le_true, length, length_push, refl, suc, together, zero, ℕ, ℤ, [], ⊎_elim, ◌++◌, ◌-◌, ◌<ℤ◌}
-use Rattle.tz_info.proofs.Words.{Some, slice_get, sym, ◌<◌, ◌∙◌, ◌∷◌, ◌≡◌, ◌≤ℤ◌, ◌≤◌, ◌⊎◌}
-use Rattle.tz_info.specs.declared.zone.made.shown.Shown.TheVariants.{Less, Once, Skipped}
-use Rattle.tz_info.specs.Steps.SegmentEnds.{AreEndsRising, end_of}
-use Rattle.tz_info.proofs.WallPieces.{StartBy, at_all, at_earlier, at_later, before_pushed, start_by_push}
-use Rattle.tz_info.proofs.WallSegments.{first_pieces, inner_pieces, last_pieces, piece, pieces_joined}
+use Rattle.tz_info.proofs.{
+  WallPieces.{StartBy, at_all, at_earlier, at_later, before_pushed, start_by_push},
+  WallSegments.{first_pieces, inner_pieces, last_pieces, piece, pieces_joined},
+  Words.{AreCutsCrossed, AreInOrder, ArePieces, ArePiecesAt, HasType, IsCutAt, IsFold, IsGap, IsMerged, IsSegment, IsTable, IsUtOffset, List, LocalType, Piece},
+  Words.{Segment, Shown, Some, Transition, Zone, [], all_pairs_push, answer_at, answer_before, arith, cases_lt, cut_of, index_of, inl, inr, length},
+  Words.{length_push, linear, refl, slice_get, suc, together, ℕ, ℤ, ⊎_elim, ◌++◌, ◌-◌, ◌<ℤ◌, ◌<◌, ◌∙◌, ◌∷◌, ◌≡◌, ◌≤ℤ◌, ◌≤◌, ◌⊎◌},
+}
+use Rattle.tz_info.specs.{Steps.SegmentEnds.end_of, declared.zone.made.shown.Shown.TheVariants.{Less, Once, Skipped}}
 
 -- ---- the pieces at an entry
 
@@ -102,20 +102,16 @@ module _ (z : Zone) (ts : List Transition) (place : ℕ) (p q : Piece) (a : AreP
     merged =
         let b = Once i in
         let r = piece (cut_of ts place a.before.offset) Less in
-        let first = ps ++ (p ∷ []) in
-        let (first_end, first_start, last_end, last_start) = cuts_between in
+        let cuts = cuts_between in
         let by_then = by in
         let end_next = next in
         let amid : (l : ℤ) → p.start ≤ℤ l → l <ℤ q.start
-        → p.answer ≡ together (answer_at b (ps ++ (r ∷ [])) l) (answer_at (Skipped place) (piece (cut_of ts place a.type.offset) (Once (index_of ts place)) ∷ []) l) =
-        λ l from until. ⊎_elim
-        (λ gap. grind (linear, at_later b ps r l))
-        (λ fold. grind (linear, at_earlier b ps r l, at_all b ps l, o.last))
-        a.pieces in
+        → p.answer ≡ together (answer_at b (ps ++ (r ∷ [])) l)
+        (answer_at (Skipped place) (piece (cut_of ts place a.type.offset) (Once (index_of ts place)) ∷ []) l) =
+        λ l from until. ⊎_elim (λ gap. grind (linear, at_later b ps r l)) (λ fold. grind (linear, at_earlier b ps r l, at_all b ps l, o.last)) a.pieces in
         record {
           ordered =
-              let rise : Piece → Piece → Type 0 = λ a b. a.start ≤ℤ b.start in
-              grind (linear, all_pairs_push rise first q, all_pairs_push rise ps p, by_first);
+              let rise : Piece → Piece → Type 0 = λ a b. a.start ≤ℤ b.start in all_pairs_push rise _ q (all_pairs_push rise ps p o.ordered by) by_first;
           count = grind (arith, length_push);
           answers = λ l. grind (linear, at_earlier, at_later);
         }
@@ -127,32 +123,30 @@ module _ (z : Zone) (ts : List Transition) (place : ℕ) (p q : Piece) (a : AreP
         let within = table.within in
         let one : suc place - 1 ≡ place = omega arith in
         let end : ℤ = cut_of ts place a.before.offset in
-        let y : ℕ = index_of ts place in
         let (ended, _, end_by, start_by) = cuts_between in
         let end_here : end_of z.types ts place ≡ end = end_before z.types ts place a.before a.listed_before in
         let r = piece end Less in
-        let first : ArePieces z ts 0 place (Once i) (ps ++ (r ∷ [])) =
-        o.closed (omega arith) a.before a.listed_before a.offset_before (grind linear) in
+        let first : ArePieces z ts 0 place (Once i) (ps ++ (r ∷ [])) = o.closed (omega arith) a.before a.listed_before a.offset_before (grind linear) in
         let before = ps ++ (p ∷ []) in
         let all = before ++ (q ∷ []) in
         let by_all = start_by_push before q q.start by_first (omega linear) in
         rw e (record {
           ordered = merged.ordered;
-          started = λ l h. start_by_later all q.start l by_all (h (omega arith));
-          unended = open_push (Once i) before q (open_push (Once i) ps p o.unended (grind linear)) (λ k. rw next refl);
+          started = λ l h. grind linear;
+          unended = open_push (Once i) before q (open_push (Once i) ps p o.unended (grind linear)) (grind (linear, next));
           cut = λ m. rw one cuts_of.1;
           last = rw one (before_pushed (Once i) before q ∙ next);
           closed = λ inner t has offset after.
-              let has_y : HasType z y t = rw one at has in
+              let has_y = rw one at has in
               let same : a.type ≡ t = cc in
-              let start_t : cut_of ts place t.offset ≤ℤ q.start = rw same at start_by in
+              let start_t = rw same at start_by in
               let late = after (omega arith) in
               pieces_joined _ _ _ _ _ _ _ _ _ _ table.rising some (omega arith) first (inner_pieces z ts top place t table own has_y offset some inner)
-              (end_merged _ _ _ (cut_of ts (suc place) t.offset) _ _ _ (rw same at merged) (start_by_later all q.start _ by_all (omega linear))
-              (start_by_push ps r _ (o.started _ (λ m. let s = strict m in omega linear)) (omega linear)) (omega linear) (before_pushed (Once i) ps r));
+              (end_merged _ _ _ (cut_of ts (suc place) t.offset) _ _ _ (rw same at merged) (grind linear)
+              (start_by_push ps r _ (o.started _ (grind linear)) (omega linear)) (omega linear) (before_pushed (Once i) ps r));
           whole = λ last. pieces_joined _ _ _ _ _ _ _ _ _ _ table.rising some (omega arith) first
               (last_pieces z ts top place a.type table own a.listed a.offset some (omega arith)) merged;
-          rising = λ k s inner. ends_rise z ts place i ps latest o (λ m. let s = strict m in omega linear) k s (omega arith);
+          rising = λ k s inner. ends_rise z ts place i ps latest o (grind linear) k s (omega arith);
           ended = λ m. rw (one, end_here) end_by;
         })
 

@@ -1,13 +1,11 @@
 -- The segment whose types the rule gives: from the last transition on.
 use Rattle.tz_info.proofs.{
-  SegmentEndLaws.{begun_by, come_by, shows_less},
-  SegmentLaws.{segment_at, segment_most, type_from, type_in_from},
-  TableLaws.{same_table, table_of, time_then, top_least},
-  WallSegments.{leap_time_of, near_wide},
+  SegmentEndLaws.{begun_by, come_by, shows_less}, SegmentLaws.{segment_at, segment_most, type_from, type_in_from},
+  TableLaws.{same_table, table_of, time_then, top_least}, WallSegments.{leap_time_of, near_wide},
   Words.{IsFirstAtOrAfter, IsLeapTime, IsNear, IsValid, IsWide, LocalType, RuleAt, RuleOrType, SFits, Some, TransitionRule, TypeAt, Zone, arith, begin_of},
   Words.{cases_lt, inl, inr, length, linear, place_at, segment_of, table_count, top_of, w64, ℕ, ℤ, ◌<◌, ◌≡◌, ◌≤ℤ◌, ◌≤◌},
 }
-use Rattle.tz_info.specs.Steps.{Entries.{AreEntries, Entries}, SegmentEnds.{IsFirstSegment}, Since.{IsFirstSince, IsReachedSince}}
+use Rattle.tz_info.specs.Steps.{Entries.{AreEntries, Entries}, SegmentEnds.IsFirstSegment, Since.{IsFirstSince, IsReachedSince}}
 
 all_of_table : (z : Zone) (rule : TransitionRule) → z.rule ≡ Some rule → table_count z ≡ length z.transitions
 all_of_table z _ is = rw is
@@ -27,8 +25,7 @@ module _ (z : Zone) (e : Entries) (rule : TransitionRule) (k : ℕ) (valid : IsV
       grind (arith, all_of_table z rule is)
 
   to_rule : (u : ℤ) (t : LocalType) → begin_of e.items k ≤ℤ u → SFits w64 u → TypeAt z u t → RuleAt rule u t
-  to_rule u t from fits here =
-      rw is at (type_from z u t valid.transitions.rising (record { type = here; segment = all_come u from fits (time_then z u t here) }))
+  to_rule u t from fits here = rw is at (type_from z u t valid.transitions.rising (record { type = here; segment = all_come u from fits (time_then z u t here) }))
 
   from_rule : (u : ℤ) (t : LocalType) → begin_of e.items k ≤ℤ u → IsNear u → RuleAt rule u t → TypeAt z u t
   from_rule u t from near here =
@@ -58,6 +55,6 @@ module _ (z : Zone) (e : Entries) (rule : TransitionRule) (k : ℕ) (valid : IsV
         first = λ v s shows. elim (cases_lt (place_at e.items v) k) [
           | inl before ↦ grind (linear, shows_less z e.items _ k l v s (table_of z e valid made) within (near_wide l wide) first.before shows.fits before)
           | inr not ↦ let from = begun_by e.items k v made.rising within (omega arith) shows.fits in
-              h.first v s from (record { fits = shows.fits; type = to_rule v s from shows.fits shows.type; reached = shows.reached })
+              h.first v s from (grind (linear, to_rule v s from))
         ];
       }

@@ -1,10 +1,9 @@
 -- What each step of a search among items in order of time keeps.
 use Rattle.std.proofs.lemmas.List.{get_or-map as mapped_at}
 use Rattle.tz_info.proofs.{
-  DigitLaws.{digits-half, digits-less, digits-more},
-  FirstItems.{filter_first, le_false, le_true},
-  SearchWords.{AreEnds, AreOrdered, ArePassed, Ends, IsLeft, IsNarrowedTo, List, Near, ap, arith, digits, filter, get_or, int_le, item_time, length},
-  SearchWords.{length-map, linear, map, pos, refl, suc, sym, take, zero, ℕ, ℤ, ◌*◌, ◌+◌, ◌-◌, ◌/◌, ◌<ℤ◌, ◌<◌, ◌∙◌, ◌≡◌, ◌≤ℤ◌, ◌≤◌},
+  DigitLaws.{digits-half, digits-less, digits-more}, FirstItems.{filter_first, le_false, le_true},
+  SearchWords.{AreEnds, AreOrdered, ArePassed, Ends, IsLeft, IsNarrowedTo, List, Near, arith, digits, filter, get_or, int_le, item_time, length, length-map},
+  SearchWords.{linear, map, pos, refl, suc, take, zero, ℕ, ℤ, ◌*◌, ◌+◌, ◌-◌, ◌/◌, ◌<ℤ◌, ◌<◌, ◌≡◌, ◌≤ℤ◌, ◌≤◌},
 }
 
 -- the time of an item that was read
@@ -30,66 +29,46 @@ first_come {A = A} time items v n come =
 pub not_before : (times : List ℤ) (i k : ℕ) → AreOrdered times → i ≤ k → k < length times → item_time times i ≤ℤ item_time times k
 not_before _ i k ordered h l = grind arith
 
--- all have come once the last has
-pub all_passed : (times : List ℤ) (v : ℤ) (n : ℕ) (ends : Ends) → AreOrdered times → n ≡ length times → 0 < n → AreEnds times ends
-    → ends.last ≤ℤ v → ArePassed times v n
-all_passed times v n _ ordered e some are le = record {
-  within = omega arith;
-  before = λ k h. grind (linear, not_before times k (length times - 1));
-  behind = grind arith;
-}
+module _ (times : List ℤ) (v : ℤ) where
+  -- all have come once the last has
+  pub all_passed : (n : ℕ) (ends : Ends) → AreOrdered times → n ≡ length times → 0 < n → AreEnds times ends
+      → ends.last ≤ℤ v → ArePassed times v n
+  all_passed n _ ordered e some are le =
+      record { within = omega arith; before = λ k h. grind (linear, not_before times k (length times - 1)); behind = grind arith }
 
--- and none if the first has not
-pub none_passed : (times : List ℤ) (v : ℤ) (ends : Ends) → AreOrdered times → 0 < length times → AreEnds times ends → v <ℤ ends.first → ArePassed times v 0
-none_passed times v _ ordered some are lt = grind (linear, not_before times 0)
+  -- and none if the first has not
+  pub none_passed : (ends : Ends) → AreOrdered times → 0 < length times → AreEnds times ends → v <ℤ ends.first → ArePassed times v 0
+  none_passed _ ordered some are lt = grind (linear, not_before times 0)
 
--- a look at one that has come
-pub left_later : (times : List ℤ) (v : ℤ) (first middle high : ℕ) → IsLeft times v first high → middle < high → item_time times middle ≤ℤ v
-    → IsLeft times v (middle + 1) high
-left_later times v _ middle _ left h le = let w = left.within in record {
-  ordered = left.ordered;
-  rising = omega arith;
-  within = w;
-  fits = left.fits;
-  before = λ k l. let m = not_before _ k middle left.ordered (omega arith) (omega arith) in omega linear;
-  behind = left.behind;
-}
+  -- a look at one that has come
+  pub left_later : (first middle high : ℕ) → IsLeft times v first high → middle < high → item_time times middle ≤ℤ v
+      → IsLeft times v (middle + 1) high
+  left_later _ middle _ left h le = record {
+    ordered = left.ordered;
+    rising = omega arith;
+    within = left.within;
+    fits = left.fits;
+    before = λ k l. grind (linear, not_before times k middle);
+    behind = left.behind;
+  }
 
--- and at one that has not
-pub left_earlier : (times : List ℤ) (v : ℤ) (first middle high : ℕ) → IsLeft times v first high → first ≤ middle → middle < high
-    → v <ℤ item_time times middle → IsLeft times v first middle
-left_earlier times v _ middle _ left h l lt = record {
-  ordered = left.ordered;
-  rising = h;
-  within = omega arith;
-  fits = omega arith;
-  before = left.before;
-  behind = λ k m n. let o = not_before _ _ k left.ordered m n in omega linear;
-}
+  -- and at one that has not
+  pub left_earlier : (first middle high : ℕ) → IsLeft times v first high → first ≤ middle → middle < high
+      → v <ℤ item_time times middle → IsLeft times v first middle
+  left_earlier _ middle _ left h l lt = grind (linear, not_before times middle)
 
--- the same among neighbours, the first of which has come
-pub near_later : (times : List ℤ) (v : ℤ) (near after : Near) → IsNarrowedTo times v near → near.first ≤ after.first → after.first < near.first + near.count
-    → after.first + after.count ≡ near.first + near.count → item_time times after.first ≤ℤ v → IsNarrowedTo times v after
-near_later _ v _ _ n h l e le = grind arith
+  -- the same among neighbours, the first of which has come
+  pub near_later : (near after : Near) → IsNarrowedTo times v near → near.first ≤ after.first → after.first < near.first + near.count
+      → after.first + after.count ≡ near.first + near.count → item_time times after.first ≤ℤ v → IsNarrowedTo times v after
+  near_later _ _ n h l e le = grind arith
 
-pub near_earlier : (times : List ℤ) (v : ℤ) (near after : Near) (middle : ℕ) → IsNarrowedTo times v near → after.first ≡ near.first → 0 < after.count
-    → middle ≤ after.first + after.count → middle < near.first + near.count → after.first + after.count ≤ near.first + near.count
-    → v <ℤ item_time times middle → IsNarrowedTo times v after
-near_earlier times v _ _ middle n e some m l h lt = record {
-  ordered = n.ordered;
-  some = some;
-  within = omega arith;
-  fits = omega arith;
-  come = rw e n.come;
-  behind = grind (linear, not_before times middle);
-}
+  pub near_earlier : (near after : Near) (middle : ℕ) → IsNarrowedTo times v near → after.first ≡ near.first → 0 < after.count
+      → middle ≤ after.first + after.count → middle < near.first + near.count → after.first + after.count ≤ near.first + near.count
+      → v <ℤ item_time times middle → IsNarrowedTo times v after
+  near_earlier _ _ middle n e some m l h lt = grind (linear, not_before times middle)
 
-pub near_one : (times : List ℤ) (v : ℤ) (near : Near) → near.count ≤ 1 → IsNarrowedTo times v near → ArePassed times v (near.first + 1)
-near_one times v near h n = record {
-  within = omega arith;
-  before = λ k l. let m = not_before _ k near.first n.ordered (omega arith) (omega arith) in omega linear;
-  behind = λ k l m. n.behind k (omega arith) m;
-}
+  pub near_one : (near : Near) → near.count ≤ 1 → IsNarrowedTo times v near → ArePassed times v (near.first + 1)
+  near_one near h n = record { within = omega arith; before = λ k l. grind (linear, not_before times k near.first); behind = grind (arith, n.behind) }
 
 -- a halving costs a look
 pub digits-halved : (n : ℕ) → 0 < n → digits n ≡ digits (n / 2) + 1

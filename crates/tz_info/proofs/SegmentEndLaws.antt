@@ -1,14 +1,10 @@
 -- The first second at which clocks show a local time or a later one: that of the first segment that ends later.
 use Rattle.tz_info.proofs.{
-  ExtremeLaws.{at_least_least},
-  GapLaws.{near_type},
-  LeapStarts.{saturated},
-  SegmentLaws.{begin_first, begins_rise, come_from, place_most, places_rise},
+  ExtremeLaws.at_least_least, GapLaws.near_type, LeapStarts.saturated, SegmentLaws.{begin_first, begins_rise, come_from, place_most, places_rise},
   WallSegments.{near_of, near_wide, offset_there},
-  Words.{AreRising, IsFirstAtOrAfter, IsNear, IsRuleOrNone, IsTable, IsUtOffset, IsValid, IsWide, IsWindowOf, List, LocalType, SFits, ShowsAtOrAfter, Some, Transition},
-  Words.{TypeAt, Zone, [], ap, arith, begin_of, by_lt_z, cases_lt, get_or, get_or_append_left, get_or_push, index_of, inl, inr, least_time, length},
-  Words.{length_push, linear, place_at, pos, rises, saturate_signed, slice_get, suc, w64, zero, ℕ, ℤ, ◌++◌, ◌+ℤ◌, ◌-ℤ◌, ◌<ℤ◌, ◌<◌, ◌↔◌},
-  Words.{⊎_elim, ◌∙◌, ◌∷◌, ◌≡◌, ◌≤ℤ◌, ◌≤◌, ◌⊎◌},
+  Words.{AreRising, IsFirstAtOrAfter, IsNear, IsRuleOrNone, IsTable, IsUtOffset, IsValid, IsWide, IsWindowOf, List, LocalType, SFits, Some, Transition, TypeAt},
+  Words.{Zone, [], arith, begin_of, by_lt_z, cases_lt, get_or, get_or_append_left, get_or_push, index_of, inl, inr, length, length_push, linear, place_at, pos},
+  Words.{rises, saturate_signed, slice_get, suc, w64, zero, ℕ, ℤ, ◌++◌, ◌+ℤ◌, ◌-ℤ◌, ◌<ℤ◌, ◌<◌, ◌↔◌, ◌∷◌, ◌≡◌, ◌≤ℤ◌, ◌≤◌, ◌⊎◌},
 }
 use Rattle.tz_info.specs.Steps.SegmentEnds.{AreEndsRising, IsFirstOf, IsFirstSegment, IsReached, end_of}
 
@@ -21,7 +17,8 @@ ends_rise : (types : List LocalType) (ts : List Transition) (j k : ℕ) → AreE
     → end_of types ts j ≤ℤ end_of types ts k
 ends_rise _ ts zero k rising some order within = absurd (omega arith)
 ends_rise types ts (suc j) zero rising some order within = absurd (omega arith)
-ends_rise types ts (suc j) (suc k) rising some order within = grind (linear, rises (λ i. end_of types ts (suc i)) _ (λ i h. let r = rising (suc i) (omega arith) h in omega linear) j k)
+ends_rise types ts (suc j) (suc k) rising some order within =
+    grind (linear, rises (λ i. end_of types ts (suc i)) _ (λ i h. let r = rising (suc i) (omega arith) h in omega linear) j k)
 
 -- the segments before a place, and a local time
 module _ (types : List LocalType) (ts : List Transition) (k : ℕ) (l : ℤ) where
@@ -96,17 +93,17 @@ module _ (z : Zone) (ts : List Transition) (top k : ℕ) (l : ℤ) (table : IsTa
         | inr not ↦ omega arith
       ] in
       record {
-        shown = record { fits = omega linear; type = table.in_force at t (omega linear, omega linear) (omega arith) (rw here is.listed); reached = omega linear };
+        shown = record { fits = omega linear; type = table.in_force at t (omega linear, omega linear) (omega arith) (rw here is.listed);
+            reached = omega linear };
         first = λ v s h. by_lt_z v at
             (λ earlier.
             let rise = places_rise ts v at table.rising (omega linear) in
+            let less = shows_less z ts top k l v s table first.within (near_wide l wide) first.before h.fits in
             elim (cases_lt (place_at ts v) k) [
-              | inl before ↦ let less = shows_less z ts top k l v s table first.within (near_wide l wide) first.before h.fits before (omega arith) h.type in
-                  omega linear
+              | inl before ↦ grind (linear, less)
               | inr same ↦
-                  let one = offset_there z ts top k t table own is.listed v s h.fits (omega arith) h.type in
-                  let b = begun_by ts k v table.rising first.within same h.fits in
-                  grind (linear, is.from v)
+                  let one = offset_there z ts top k t table own is.listed is.offset v s h.fits (omega arith) h.type in
+                  grind (linear, is.from v, begun_by ts k v table.rising first.within same)
             ])
             (λ m. m);
       }
@@ -122,10 +119,8 @@ pub maxima_more : (types : List LocalType) (ts : List Transition) (k : ℕ) (max
     → ((u : ℤ) → (next ≤ℤ u) ↔ ((latest ≤ℤ u) × (end_of types ts (suc k) ≤ℤ u))) → out ≡ maxima ++ (next ∷ []) → AreMaximaOf types ts (suc k) out next
 maxima_more types ts k maxima out latest next made is e =
     let more : (l : ℤ) → SFits w64 l → (l <ℤ next) ↔ IsReached types ts (suc k) l = λ l fits.
-    let r = reached_more types ts k l in let a = made.all l fits in let m = is l in (
-      (λ h. r.1 (by_lt_z l latest (λ b. inl (a.0 b)) (λ b. grind linear))),
-      (λ s. ⊎_elim (λ b. grind linear) (λ b. grind linear) (r.0 s)),
-    ) in
+    let r = reached_more types ts k l in let a = made.all l fits in let m = is l in
+    ((λ h. r.1 (by_lt_z l latest (λ b. inl (a.0 b)) (λ b. grind linear))), (λ s. grind linear)) in
     rw e (record {
       count = grind (arith, length_push, made.count);
       reached = λ i d l h fits. grind (arith, made.count, made.reached i d l, more l, get_or_append_left maxima (next ∷ []) d i, get_or_push maxima next d i);

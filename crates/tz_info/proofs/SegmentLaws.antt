@@ -1,12 +1,9 @@
 -- Segments: which one a second lies in, and the type in force there.
 use Rattle.tz_info.proofs.{
-  LeapOrder.{leap_sums_rise},
-  PassedTransitions.{no_items},
-  Prefixes.{last_taken},
-  TableSearch.{Between, search_found},
-  Words.{AreLeapSeconds, AreRising, HasType, IsBeforeLast, IsFromLast, IsLeapTime, IsValid, List, LocalType, RuleOrType, Transition, TypeIn, Zone, [], ap},
-  Words.{arith, begin_of, by_lt_z, cases_lt, correction_at, get_or, index_of, inl, inr, least_time, length, length-take, linear, passed, pos, refl, segment_of},
-  Words.{suc, sym, take, zero, ℕ, ℤ, ◌+ℤ◌, ◌+◌, ◌-ℤ◌, ◌<ℤ◌, ◌<◌, ◌↔◌, ◌∙◌, ◌∷◌, ◌≡◌, ◌≤ℤ◌, ◌≤◌},
+  LeapOrder.leap_sums_rise, PassedTransitions.no_items, Prefixes.last_taken, TableSearch.{Between, search_found},
+  Words.{AreLeapSeconds, AreRising, HasType, IsLeapTime, IsValid, List, LocalType, RuleOrType, Transition, TypeIn, Zone, [], ap, arith, begin_of, by_lt_z},
+  Words.{correction_at, get_or, index_of, least_time, length, length-take, linear, passed, pos, refl, segment_of, suc, sym, take, zero, ℕ, ℤ, ◌+ℤ◌, ◌+◌, ◌-ℤ◌},
+  Words.{◌<ℤ◌, ◌<◌, ◌↔◌, ◌∙◌, ◌∷◌, ◌≡◌, ◌≤ℤ◌, ◌≤◌},
 }
 
 -- no transition comes later than one after it in the list
@@ -15,15 +12,8 @@ pub not_later : (ts : List Transition) (i k : ℕ) (d : Transition) → AreRisin
 not_later ts i k d r h l = grind (linear, r i k d)
 
 -- a second between two neighbours of a list
-module _ (ts : List Transition) (x : ℤ) (n : ℕ) (b : Between ts x n n) where
-  first_come : (t : Transition) → t.unix_leap_time ≤ℤ x → (k : ℕ) (d : Transition) → k < suc n → (get_or (t ∷ ts) k d).unix_leap_time ≤ℤ x
-  first_come t h k d l = grind linear
-
-  others_later : (t : Transition) (k : ℕ) (d : Transition) → suc n ≤ k → k < length (t ∷ ts) → x <ℤ (get_or (t ∷ ts) k d).unix_leap_time
-  others_later t k d a l = grind linear
-
-  pub split_count : length (passed ts x) ≡ n
-  split_count = grind (arith, search_found ts x n n, length-take)
+pub split_count : (ts : List Transition) (x : ℤ) (n : ℕ) → Between ts x n n → length (passed ts x) ≡ n
+split_count ts x n b = grind (arith, search_found ts x n n, length-take)
 
 -- transitions that rise are split by a leap time
 pub split_at : (ts : List Transition) (x : ℤ) → AreRising ts → (n : ℕ) × Between ts x n n

@@ -1,9 +1,5 @@
 -- What neighbouring segments show of a local time, put together.
-use Rattle.tz_info.proofs.{
-  Words.{AreLessAmong, IsSideAmong, Jumps, List, Shown, Transition, Zone, arith, cases_lt, inl, inr, joined, place_at, refl, shown_indexes, together, ℕ, ℤ},
-  Words.{◌<◌, ◌≡◌, ◌≤◌},
-}
-use Rattle.tz_info.specs.declared.zone.made.shown.Shown.TheVariants.{Less, Once, Several, Skipped}
+use Rattle.tz_info.proofs.Words.{IsSideAmong, List, Shown, Transition, Zone, arith, joined, shown_indexes, together, ℕ, ℤ, ◌≡◌, ◌≤◌}
 
 -- the wall clock's answers are joined
 pub wall_together : (a b : Shown) → shown_indexes (together a b) ≡ joined (shown_indexes a) (shown_indexes b)

@@ -1,30 +1,24 @@
 -- What a zone's entries say of its table: the seconds before the last transition, or without a rule all, by the segments between entries.
 use Rattle.tz_base.specs.LocalTypes.{IsUtOffset}
-use Rattle.tz_info.specs.Looks.{RoseByWallClock}
-use Rattle.tz_info.specs.Counts.{RoseByPieces}
-use Rattle.tz_info.proofs.Words.{AreExtremes, ArePieces, Counts, Extremes, HasReach, IsWide, Piece, RoseWithin, nat_tests, offsets, w32, ◌*◌}
-use Rattle.tz_info.proofs.Words.{AreBelow, AreLess, AreListed, Change, HasGap, HasType, IsBegin, IsBegun, IsBegunNear, IsIndex, IsJump, IsLeapTime, IsNear}
-use Rattle.tz_info.proofs.Words.{IsRuleOrNone, IsShownAmong, IsStart, IsTable, IsTableAnswer, IsTableLess, IsValid, IsWallAnswer, IsWindowOf, Jumps, List}
-use Rattle.tz_info.proofs.Words.{LocalResult, LocalType, MatchOption, None, Option, SFits, Shown, ShownAmong, Some, Transition, TransitionRule, TypeAt, Zone}
-use Rattle.tz_info.proofs.Words.{ap, arith}
-use Rattle.tz_info.proofs.Words.{begin_of, by_lt_z, cases_lt, index_of, inl, inr, linear, last_else, least_time, length, map, place_at, pos, refl, segment_of}
-use Rattle.tz_info.proofs.Words.{shown_indexes}
-use Rattle.tz_info.proofs.Words.{slice_get, suc, sym, table_count, table_count_by, top_of, w64, zero, ℕ, ℤ, [], ◌+◌, ◌-ℤ◌, ◌-◌, ◌<ℤ◌, ◌<◌, ◌↔◌, ◌∙◌, ◌≡◌}
-use Rattle.tz_info.proofs.Words.{◌≤ℤ◌, ◌≤◌, WallIndex}
-use Rattle.tz_info.specs.declared.zone.made.shown.Shown.TheVariants.{Less, Once, Several, Skipped}
-use Rattle.tz_info.proofs.{EntryChanges.{index_there, looks_most}, ExtremeLaws.{window_made}, GapLaws.{IsNever, gap_found, not_less}}
-use Rattle.tz_info.proofs.{PassedTransitions.{no_items}, TableSearch.{search_found}, ZoneChanges.{time_of}}
-use Rattle.tz_info.proofs.SegmentLaws.{come_at_time, come_from, place_before, place_begin, place_most, segment_here, segment_most}
-use Rattle.tz_info.proofs.WallSegments.{indexes_below, leap_time_of, near_fits, shown_inside, type_in_table, type_of_table, typed_answer}
-use Rattle.tz_info.specs.Steps.{Entries.{AreEntries, Entries, most_looks}, SegmentEnds.{AreEnds}}
+use Rattle.tz_info.proofs.{
+  EntryChanges.{index_there, looks_most}, ExtremeLaws.window_made, GapLaws.{IsNever, gap_found, not_less}, PassedTransitions.no_items,
+  SegmentLaws.{come_at_time, come_from, place_before, place_begin, place_most, segment_here, segment_most}, TableSearch.search_found,
+  WallSegments.{indexes_below, leap_time_of, near_fits, shown_inside, type_in_table, type_of_table, typed_answer},
+  Words.{AreBelow, AreExtremes, AreLess, AreListed, ArePieces, Change, Counts, Extremes, HasGap, HasReach, HasType, IsBegin, IsBegun, IsBegunNear, IsIndex},
+  Words.{IsJump, IsLeapTime, IsRuleOrNone, IsShownAmong, IsStart, IsTable, IsTableAnswer, IsTableLess, IsValid, IsWallAnswer, IsWide, IsWindowOf, List},
+  Words.{LocalResult, LocalType, MatchOption, None, Option, Piece, RoseWithin, SFits, Shown, ShownAmong, Some, TransitionRule, TypeAt, WallIndex, Zone, []},
+  Words.{arith, begin_of, cases_lt, index_of, inl, inr, least_time, length, linear, nat_tests, offsets, place_at, pos, refl, segment_of, shown_indexes},
+  Words.{slice_get, suc, sym, table_count, top_of, w32, w64, zero, ℕ, ℤ, ◌*◌, ◌+◌, ◌-ℤ◌, ◌<ℤ◌, ◌<◌, ◌↔◌, ◌∙◌, ◌≡◌, ◌≤ℤ◌, ◌≤◌}, ZoneChanges.time_of,
+}
+use Rattle.tz_info.specs.{
+  Counts.RoseByPieces, Looks.RoseByWallClock, Steps.{Entries.{AreEntries, Entries, most_looks}, SegmentEnds.AreEnds},
+  declared.zone.made.shown.Shown.TheVariants.{Less, Once, Skipped},
+}
 
 -- ---- the table's seconds
 index_of_none : (k : ℕ) → index_of [] k ≡ 0
 index_of_none zero = refl
 index_of_none (suc k) = refl
-
-top_most : (rule : Option TransitionRule) (e : Entries) → e.all ≤ length e.items + 1 → top_of rule e ≤ length e.items + 1
-top_most rule e h = grind arith
 
 pub top_least : (rule : Option TransitionRule) (e : Entries) → length e.items ≤ e.all → length e.items ≤ top_of rule e
 top_least rule e h = grind arith
@@ -73,7 +67,9 @@ table_below z l s h = grind (arith, indexes_below)
 
 pub table_typed : (z : Zone) (l : ℤ) (s : Shown) (answer : LocalResult LocalType) → IsValid z → AreListed z.types (shown_indexes s) answer → IsTableAnswer z l s
     → IsWallAnswer (ShownAmong z 0 (table_count z) l) answer
-table_typed z l s answer valid listed (e, made, wall) = grind (arith, typed_answer z e.items (top_of z.rule e) l (table_of z e valid made) (λ u t fits k. same_table z e valid made u fits (time_then z u t k)))
+table_typed z l s answer valid listed (e, made, wall) =
+    grind (arith, typed_answer z e.items (top_of z.rule e) l (table_of z e valid made)
+    (λ u t fits k. same_table z e valid made u fits (time_then z u t k)))
 
 -- the rule is asked from the last transition on
 pub start_begun : (z : Zone) (e : Entries) (s : ℤ) → IsValid z → AreEntries z e → IsBegunNear e s → IsStart z.transitions z.leaps (length z.transitions) s

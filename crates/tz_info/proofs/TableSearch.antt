@@ -1,6 +1,8 @@
 -- The end of a search in transitions whose times rise.
-use Rattle.tz_info.proofs.Words.{AreOrdered, AreRising, List, Stands, Transition, arith, cases_lt, filter_first, get_or, inl, inr, ints}
-use Rattle.tz_info.proofs.Words.{length, map, passed, pos, take, times_ordered, ℕ, ℤ, ◌+◌, ◌-◌, ◌<ℤ◌, ◌<◌, ◌≡◌, ◌≤ℤ◌, ◌≤◌}
+use Rattle.tz_info.proofs.{
+  Words.{AreOrdered, AreRising, List, Stands, Transition, arith, filter_first, get_or, length, linear, map, passed, pos, take, times_ordered, ℕ, ℤ, ◌+◌, ◌-◌},
+  Words.{◌<ℤ◌, ◌<◌, ◌≡◌, ◌≤ℤ◌, ◌≤◌},
+}
 
 -- the transitions below `low` come at or before v, those from `high` on after it
 pub record Between (xs : List Transition) (v : ℤ) (low high : ℕ) : Type 0 where
@@ -14,7 +16,7 @@ search_found xs v low high h b = grind (arith, filter_first)
 
 -- transitions whose times rise come in order
 pub in_order : (xs : List Transition) → AreRising xs → AreOrdered (map (λ (t : Transition). t.unix_leap_time) xs)
-in_order xs rising = times_ordered (λ (t : Transition). t.unix_leap_time) xs none (λ i j h l. let r = rising i j none h l in omega (arith, ints)) where
+in_order xs rising = times_ordered (λ (t : Transition). t.unix_leap_time) xs none (λ i j h l. let r = rising i j none h l in omega linear) where
   none : Transition
   none = record { unix_leap_time = pos 0; type_index = 0 }
 
@@ -29,5 +31,5 @@ stand_less types xs n some s = grind arith
 pub stand_more : (types : ℕ) (xs : List Transition) (n : ℕ) → StandUntil types xs n → Stands types xs n → StandUntil types xs (n + 1)
 stand_more types xs n s here = record {
   indexes = grind (arith, here.index, s.indexes);
-  rising = λ i j d h l. grind (arith, ints, here.later d, s.rising i j d, s.rising i (n - 1) d);
+  rising = λ i j d h l. grind (linear, here.later d, s.rising i j d, s.rising i (n - 1) d);
 }

@@ -1,8 +1,6 @@
 -- What follows from a wall clock's answer.
-use Rattle.offset_core.specs.declared.local_result.LocalResult.TheVariants.{Ambiguous, None, Single}
 use Rattle.tz_info.proofs.{
-  Words.{AreShown, IsAmongShown, IsWallAnswer, LocalResult, LocalType, Shows, TypeAt, Zone, linear, one_wall_answer, ℤ, ◌-ℤ◌, ◌≡◌},
-  ZoneLaws.{type_once},
+  Words.{AreShown, IsAmongShown, IsWallAnswer, LocalResult, LocalType, Shows, TypeAt, Zone, linear, one_wall_answer, ℤ, ◌-ℤ◌, ◌≡◌}, ZoneLaws.type_once,
 }
 
 -- a second shows the local time by one type

@@ -1,9 +1,9 @@
 -- Pieces of the wall-clock axis: one piece more, and two runs of pieces together.
 use Rattle.tz_info.proofs.{
-  Prefixes.{last_taken},
-  Words.{All-push, AreInOrder, AreOrdered, ArePassed, IsLastOf, IsNext, IsStep, List, None as none, Option, Piece, Shown, Some as some, [], all_pairs_push, get_or_append_left, get_or_push},
-  Words.{answer_at, answer_before, ap, arith, by_lt_z, cases_lt, first_come, get_or, inl, inr, le_false, le_true, length, length-map, length_push, linear, map},
-  Words.{none-some, pos, refl, suc, sym, take, take_more, times_ordered, together, unwrap_or, zero, ℕ, ℤ, ◌++◌, ◌+◌, ◌-◌, ◌<ℤ◌, ◌<◌, ◌∙◌, ◌∷◌, ◌≡◌, ◌≤ℤ◌, ◌≤◌},
+  Prefixes.last_taken,
+  Words.{All-push, AreInOrder, AreOrdered, ArePassed, IsLastOf, IsNext, IsStep, List, None as none, Piece, Shown, Some as some, [], all_pairs_push, answer_at},
+  Words.{answer_before, ap, arith, by_lt_z, cases_lt, first_come, get_or, get_or_append_left, get_or_push, inl, inr, le_false, le_true, length, length-map},
+  Words.{length_push, linear, map, pos, refl, suc, take, take_more, times_ordered, together, ℕ, ℤ, ◌++◌, ◌+◌, ◌-◌, ◌<ℤ◌, ◌<◌, ◌∷◌, ◌≡◌, ◌≤ℤ◌, ◌≤◌},
 }
 use Rattle.tz_info.specs.declared.zone.made.shown.Shown.TheVariants.{Once}
 
@@ -50,39 +50,35 @@ pub record Merging (join : Join) (bx : Shown) (xs : List Piece) (by : Shown) (ys
   pub started : (l : ℤ) → StartBy out l → StartBy (take i xs) l × StartBy (take j ys) l
   pub answers : (l : ℤ) → answer_at (join bx by) out l ≡ join (answer_at bx (take i xs) l) (answer_at by (take j ys) l)
 
--- so are those of ys and those of xs
-merging_turned : (join : Join) (bx : Shown) (xs : List Piece) (by : Shown) (ys out : List Piece) (i j : ℕ) → Merging join bx xs by ys out i j
-    → Merging (λ a b. join b a) by ys bx xs out j i
-merging_turned _ bx xs by ys out i j m = grind linear
+module _ (join : Join) (bx : Shown) (xs : List Piece) (by : Shown) (ys out : List Piece) (i j : ℕ) (m : Merging join bx xs by ys out i j) where
+  -- so are those of ys and those of xs
+  merging_turned : Merging (λ a b. join b a) by ys bx xs out j i
+  merging_turned = grind linear
 
--- the next piece is that of xs
-merging_x : (join : Join) (bx : Shown) (xs : List Piece) (by : Shown) (ys out : List Piece) (i j : ℕ) (p : Piece) → AreInOrder xs
-    → Merging join bx xs by ys out i j → IsNext xs i ys j
-    → ((d : Piece) → p.start ≡ (get_or xs i d).start) → p.answer ≡ join (answer_before bx (take (i + 1) xs)) (answer_before by (take j ys))
-    → Merging join bx xs by ys (out ++ (p ∷ [])) (i + 1) j
-merging_x join bx xs by ys out i j p order m next starts is =
-    let x = get_or xs i p in
-    let inside = next.inside in
-    let here = starts p in
-    let more = take_more xs i p inside in
-    let ahead = m.ahead_x p inside in
-    record {
-      in_x = omega arith;
-      in_y = m.in_y;
-      ordered = all_pairs_push (λ (a b : Piece). a.start ≤ℤ b.start) out p m.ordered (grind linear);
-      count = length_push out p ∙ omega arith;
-      ahead_x = λ d l. let a = m.ahead_x d inside in let o = order i (i + 1) d (omega arith) l in let s = starts d in start_by_push out p _ (grind linear) (omega linear);
-      ahead_y = λ d l. start_by_push out p _ (m.ahead_y d l) (let s = starts d in let o = next.least d l in omega linear);
-      started = λ l h. let s = start_by_pushed out p l h in let t = m.started l s.0 in
-          (rw more (start_by_push _ x l t.0 (omega linear)), t.1);
-      answers = λ l. by_lt_z l p.start
-          (λ before. let a = m.answers l in rw more (grind (linear, at_earlier)))
-          (λ from.
-          let by_now : StartBy out l = grind linear in
-          let all = at_all by _ l ((m.started l by_now).1) in
-          let b = before_pushed bx (take i xs) x in
-          rw more (grind (linear, at_later, rw more at is)));
-    }
+  -- the next piece is that of xs
+  merging_x : (p : Piece) → AreInOrder xs → IsNext xs i ys j → ((d : Piece) → p.start ≡ (get_or xs i d).start)
+      → p.answer ≡ join (answer_before bx (take (i + 1) xs)) (answer_before by (take j ys)) → Merging join bx xs by ys (out ++ (p ∷ [])) (i + 1) j
+  merging_x p order next starts is =
+      let x = get_or xs i p in
+      let inside = next.inside in
+      let here = starts p in
+      let more = take_more xs i p inside in
+      let ahead = m.ahead_x p inside in
+      record {
+        in_x = omega arith;
+        in_y = m.in_y;
+        ordered = all_pairs_push (λ (a b : Piece). a.start ≤ℤ b.start) out p m.ordered (grind linear);
+        count = grind (arith, length_push);
+        ahead_x = λ d l. start_by_push out p _ (grind (linear, m.ahead_x d inside, order i (i + 1) d)) (grind (linear, order i (i + 1) d, starts d));
+        ahead_y = λ d l. start_by_push out p _ (m.ahead_y d l) (grind (linear, starts d, next.least d));
+        started = λ l h. let s = start_by_pushed out p l h in let t = m.started l s.0 in (rw more (start_by_push _ x l t.0 (omega linear)), t.1);
+        answers = λ l. by_lt_z l p.start
+            (λ before. let a = m.answers l in rw more (grind (linear, at_earlier)))
+            (λ from.
+            let all = at_all by _ l ((m.started l (grind linear)).1) in
+            let b = before_pushed bx (take i xs) x in
+            rw more (grind (linear, at_later, rw more at is)));
+      }
 
 -- the piece that comes next is added
 pub merging_more : (bx : Shown) (xs : List Piece) (by : Shown) (ys out after : List Piece) (i j i_after j_after : ℕ) (start : ℤ) (a : Shown) → AreInOrder xs
@@ -90,10 +86,10 @@ pub merging_more : (bx : Shown) (xs : List Piece) (by : Shown) (ys out after : L
     → a ≡ together (answer_before bx (take i_after xs)) (answer_before by (take j_after ys)) → after ≡ out ++ (record { start = start; answer = a } ∷ [])
     → Merging together bx xs by ys after i_after j_after
 merging_more bx xs by ys out _ i j _ _ _ a in_x in_y m (inl s) is e =
-    rw (e, s.passed, s.stays) (merging_x _ bx xs by ys out i j _ in_x m s.next s.starts (rw (s.passed, s.stays) at is))
+    rw (e, s.passed, s.stays) (merging_x _ bx xs by ys out i j m _ in_x s.next s.starts (rw (s.passed, s.stays) at is))
 merging_more bx xs by ys out _ i j _ _ _ a in_x in_y m (inr s) is e =
     rw (e, s.passed, s.stays) (merging_turned _ by ys bx xs _ _ i
-    (merging_x _ by ys bx xs out j i _ in_y (merging_turned _ bx xs by ys out i j m) s.next s.starts (rw (s.stays, s.passed) at is)))
+    (merging_x _ by ys bx xs out j i (merging_turned _ bx xs by ys out i j m) _ in_y s.next s.starts (rw (s.stays, s.passed) at is)))
 
 pub step_count : (xs ys : List Piece) (i j i_after j_after : ℕ) (start : ℤ) → IsStep xs i ys j start i_after j_after → i_after + j_after ≡ i + j + 1
 step_count xs ys i j i_after j_after start s = grind arith
@@ -116,10 +112,8 @@ module _ (b : Shown) (ps : List Piece) (l : ℤ) (n : ℕ) (passed : ArePassed (
     | inl h ↦
         let (x, is, at) = latest.some h in
         let same = length-map ps (λ (p : Piece). p.start) in
-        let within = passed.within in
         let e : n ≡ suc (n - 1) = omega arith in
-        let taken = last_taken (λ (q : Piece). q.answer) b ps (n - 1) x (omega arith) in
-        let is_same : p ≡ x = cc in
+        let taken = last_taken (λ (q : Piece). q.answer) b ps (n - 1) x (grind (arith, passed.within)) in
         let begun = rw e at started in grind arith
     | inr g ↦ grind (arith, latest.none)
   ]

@@ -2,21 +2,16 @@
 use Rattle.offset_core.specs.declared.local_result.LocalResult.TheVariants.{Ambiguous, None, Single}
 use Rattle.std.proofs.lemmas.Option.{slice_get_within}
 use Rattle.tz_info.proofs.{
-  AnswerLaws.{Parts, joined_answer, same_answer},
-  LeapOrder.{leap_times_answer},
-  LeapStarts.{saturated, saturated_rise},
+  AnswerLaws.{joined_answer, same_answer}, LeapOrder.leap_times_answer, LeapStarts.{saturated, saturated_rise},
   SegmentLaws.{begins_rise, come_at_time, come_from, place_most, places_rise, segment_most, type_before, type_from, type_in_before, type_in_from},
-  ShownLaws.{side_together, wall_together},
-  TableSearch.{Between},
-  Words.{AreBelow, AreInOrder, AreListed, ArePieces, AreRising, HasType, IsLeapTime, IsMerged, IsNear, IsShownAmong, IsShownIn, IsStart, IsTable, IsUtOffset},
-  Words.{IsValid, IsWallAnswer, IsWide, List, ListedAmong, LocalResult, LocalType, None as none, Option, Piece, SFits, Shown, ShownAmong, Shows, Some as some},
+  ShownLaws.{side_together, wall_together}, TableSearch.Between,
+  Words.{AreBelow, AreListed, ArePieces, AreRising, HasType, IsLeapTime, IsMerged, IsNear, IsShownAmong, IsShownIn, IsStart, IsTable, IsUtOffset, IsValid},
+  Words.{IsWallAnswer, IsWide, List, ListedAmong, LocalResult, LocalType, None as none, Option, Piece, SFits, Shown, ShownAmong, Shows, Some as some},
   Words.{Transition, TransitionRule, TypeAt, TypeIn, Zone, [], ap, arith, begin_of, by_lt_z, cases_lt, cut_of, index_of, inl, inr, le_false, le_true, length},
-  Words.{linear, place_at, segment_of, refl, suc, table_count, table_count_by, together, w64, zero, ℕ, ℤ, ⊎_elim, ◌+ℤ◌, ◌+◌, ◌-ℤ◌, ◌<ℤ◌, ◌<◌, ◌↔◌, ◌∷◌, ◌≡◌},
-  Words.{◌≤ℤ◌, ◌≤◌, ◌⊎◌},
-  ZoneLaws.{leap_time_decided},
+  Words.{linear, place_at, refl, segment_of, suc, table_count, table_count_by, together, w64, zero, ℕ, ℤ, ⊎_elim, ◌+ℤ◌, ◌+◌, ◌-ℤ◌, ◌<ℤ◌, ◌<◌, ◌↔◌, ◌∷◌, ◌≡◌},
+  Words.{◌≤ℤ◌, ◌≤◌, ◌⊎◌}, ZoneLaws.leap_time_decided,
 }
-use Rattle.tz_info.specs.Steps.Pieces.{opening}
-use Rattle.tz_info.specs.declared.zone.made.shown.Shown.TheVariants.{Less, Once, Skipped}
+use Rattle.tz_info.specs.{Steps.Pieces.opening, declared.zone.made.shown.Shown.TheVariants.{Less, Once, Skipped}}
 
 -- ---- one segment between transitions
 
@@ -29,7 +24,7 @@ pub type_in_table : (z : Zone) (k : ℕ) (u : ℤ) (t : LocalType) → AreRising
     → HasType z (index_of z.transitions k) t
 type_in_table z k u t rising own a = elim (own_segment z.rule k _ own) [
   | inl h ↦ type_before z u t rising k a h
-  | inr h ↦ let f = type_from z u t rising (rw h.1 at a) in grind linear
+  | inr h ↦ grind (linear, type_from z u t rising (rw h.1 at a))
 ]
 
 -- and at each of its seconds that type is in force
@@ -101,90 +96,88 @@ opening_none zero h = absurd (omega arith)
 opening_none (suc k) h = refl
 
 -- a segment of a table, and its type
-module _ (z : Zone) (ts : List Transition) (top k : ℕ) (t : LocalType) (table : IsTable z ts top) (own : k < top) (has : HasType z (index_of ts k) t) where
+module _ (z : Zone) (ts : List Transition) (top k : ℕ) (t : LocalType) (table : IsTable z ts top) (own : k < top) (has : HasType z (index_of ts k) t)
+    (offset : IsUtOffset t.offset) where
   pub offset_there : (u : ℤ) (f : LocalType) → SFits w64 u → place_at ts u ≡ k → TypeAt z u f → f.offset ≡ t.offset
   offset_there u f fits e h = ap (λ (x : LocalType). x.offset) (type_there z ts top k u f t table own fits has e h)
 
-  module _ (offset : IsUtOffset t.offset) where
-    module _ (l : ℤ) (wide : IsWide l) where
-      -- the one second that could show the local time by that type lies in or after a segment if and only if the cut has come
-      cut_begun : (j : ℕ) → 0 < j → j ≤ length ts → (j ≤ place_at ts (l -ℤ t.offset)) ↔ (cut_of ts j t.offset ≤ℤ l)
-      cut_begun j inner within = grind (linear, saturated, come_from ts j, near_wide l)
+  module _ (l : ℤ) (wide : IsWide l) where
+    -- the one second that could show the local time by that type lies in or after a segment if and only if the cut has come
+    cut_begun : (j : ℕ) → 0 < j → j ≤ length ts → (j ≤ place_at ts (l -ℤ t.offset)) ↔ (cut_of ts j t.offset ≤ℤ l)
+    cut_begun j inner within = grind (linear, saturated, come_from ts j, near_wide l)
 
-      second_of : (v : ℤ) (j : ℕ) → ListedAmong z ts k (suc k) l v j → v ≡ l -ℤ t.offset
-      second_of v j a = let e = offset_there v _ a.shows.fits (omega arith) a.shows.type in omega linear
+    second_of : (v : ℤ) (j : ℕ) → ListedAmong z ts k (suc k) l v j → v ≡ l -ℤ t.offset
+    second_of v j a = let e = offset_there v _ a.shows.fits (omega arith) a.shows.type in omega linear
 
-      -- if it comes after the segment's end, its clocks show less
-      shown_behind : k < length ts → cut_of ts (suc k) t.offset ≤ℤ l → IsShownAmong z ts k (suc k) l Less
-      shown_behind inner h =
-          let passed = (cut_begun (suc k) (omega arith) (omega arith)).1 h in
-          record {
-            wall = λ v j m. let e = second_of v j m in grind linear;
-            side = λ u f near from below here.
-                let e = offset_there u f (near_fits u near) (omega arith) here in grind (linear, places_rise ts (l -ℤ t.offset) u);
-          }
-
-      -- if it comes before its beginning, clocks jump over it there
-      shown_before : 0 < k → l <ℤ cut_of ts k t.offset → IsShownAmong z ts k (suc k) l (Skipped k)
-      shown_before inner h =
-          let cut = cut_begun k inner (omega arith) in
-          let s = saturated (begin_of ts k +ℤ t.offset) l (near_wide l wide) in
-          record {
-            wall = λ v j m. let from = cut.0 (rw (second_of v j m) at m.from) in absurd (omega linear);
-            side = record {
-              some = inner;
-              inside = omega arith;
-              less = λ u f near from below here. absurd (omega arith);
-              seen = l -ℤ t.offset;
-              near = near_of l _ wide offset;
-              later = grind linear;
-              more = λ f is. let e : f.offset ≡ t.offset = cc in grind linear;
-            };
-          }
-
-      -- if it lies between the segment's cuts, the segment shows it once
-      pub shown_inside : (0 < k → k ≤ length ts → cut_of ts k t.offset ≤ℤ l) → (k < length ts → l <ℤ cut_of ts (suc k) t.offset)
-          → IsShownAmong z ts k (suc k) l (Once (index_of ts k))
-      shown_inside from until =
-          let u = l -ℤ t.offset in
-          let near = near_of l _ wide offset in
-          let most = place_most ts u table.rising in
-          let here : place_at ts u ≡ k = grind (linear, cut_begun k, cut_begun (suc k)) in
-          let type = table.in_force u t near (omega arith) (rw here has) in
-          record { wall = record { second = u; shown = grind linear; only = second_of }; side = tt }
-
-    -- the pieces of the first segment, which has no start
-    pub first_pieces : k ≡ 0 → 0 < length ts → ArePieces z ts k (suc k) (Once (index_of ts k)) (piece (cut_of ts (suc k) t.offset) Less ∷ [])
-    first_pieces first n = record {
-      ordered = search arith;
-      most = rw first (grind arith);
-      some = grind arith;
-      answers = grind (linear, le_false, le_true, shown_inside, shown_behind);
-    }
-
-    -- of the last one, which has no end
-    pub last_pieces : 0 < k → k ≡ length ts → ArePieces z ts k (suc k) (Skipped k) (piece (cut_of ts k t.offset) (Once (index_of ts k)) ∷ [])
-    last_pieces later n = record {
-      ordered = search arith;
-      most = let none = opening_none k later in grind arith;
-      some = grind arith;
-      answers = λ l wide. grind (linear, le_false, le_true, shown_inside l wide, shown_before l wide);
-    }
-
-    -- and of one between two entries
-    pub inner_pieces : 0 < k → k < length ts
-        → ArePieces z ts k (suc k) (Skipped k) (piece (cut_of ts k t.offset) (Once (index_of ts k)) ∷ piece (cut_of ts (suc k) t.offset) Less ∷ [])
-    inner_pieces later n =
-        let rise = begins_rise ts _ table.rising later n in
-        let order : cut_of ts k t.offset ≤ℤ cut_of ts (suc k) t.offset = saturated_rise _ _ (omega linear) in
+    -- if it comes after the segment's end, its clocks show less
+    shown_behind : k < length ts → cut_of ts (suc k) t.offset ≤ℤ l → IsShownAmong z ts k (suc k) l Less
+    shown_behind inner h =
+        let passed = (cut_begun (suc k) (omega arith) (omega arith)).1 h in
         record {
-          ordered = grind linear;
-          most = grind (arith, opening_none);
-          some = grind arith;
-          answers = λ l wide. by_lt_z l (cut_of ts k t.offset)
-              (λ before. grind (linear, le_false, shown_before l wide))
-              (λ from. grind (linear, le_false, le_true, shown_inside l wide, shown_behind l wide));
+          wall = λ v j m. grind (linear, second_of v j m);
+          side = λ u f near from below here. grind (linear, offset_there u f (near_fits u near), places_rise ts (l -ℤ t.offset) u);
         }
+
+    -- if it comes before its beginning, clocks jump over it there
+    shown_before : 0 < k → l <ℤ cut_of ts k t.offset → IsShownAmong z ts k (suc k) l (Skipped k)
+    shown_before inner h =
+        let cut = cut_begun k inner (omega arith) in
+        record {
+          wall = λ v j m. let e = second_of v j m in grind linear;
+          side = record {
+            some = inner;
+            inside = omega arith;
+            less = grind arith;
+            seen = l -ℤ t.offset;
+            near = near_of l _ wide offset;
+            later = grind linear;
+            more = λ f is. let e : f.offset ≡ t.offset = cc in grind (linear, saturated (begin_of ts k +ℤ t.offset) l (near_wide l wide));
+          };
+        }
+
+    -- if it lies between the segment's cuts, the segment shows it once
+    pub shown_inside : (0 < k → k ≤ length ts → cut_of ts k t.offset ≤ℤ l) → (k < length ts → l <ℤ cut_of ts (suc k) t.offset)
+        → IsShownAmong z ts k (suc k) l (Once (index_of ts k))
+    shown_inside from until =
+        let u = l -ℤ t.offset in
+        let near = near_of l _ wide offset in
+        let most = place_most ts u table.rising in
+        let here : place_at ts u ≡ k = grind (linear, cut_begun k, cut_begun (suc k)) in
+        let type = table.in_force u t near (omega arith) (rw here has) in
+        record { wall = record { second = u; shown = grind linear; only = second_of }; side = tt }
+
+  -- the pieces of the first segment, which has no start
+  pub first_pieces : k ≡ 0 → 0 < length ts → ArePieces z ts k (suc k) (Once (index_of ts k)) (piece (cut_of ts (suc k) t.offset) Less ∷ [])
+  first_pieces first n = record {
+    ordered = search arith;
+    most = rw first (grind arith);
+    some = grind arith;
+    answers = grind (linear, le_false, le_true, shown_inside, shown_behind);
+  }
+
+  -- of the last one, which has no end
+  pub last_pieces : 0 < k → k ≡ length ts → ArePieces z ts k (suc k) (Skipped k) (piece (cut_of ts k t.offset) (Once (index_of ts k)) ∷ [])
+  last_pieces later n = record {
+    ordered = search arith;
+    most = grind (arith, opening_none);
+    some = grind arith;
+    answers = λ l wide. grind (linear, le_false, le_true, shown_inside l wide, shown_before l wide);
+  }
+
+  -- and of one between two entries
+  pub inner_pieces : 0 < k → k < length ts
+      → ArePieces z ts k (suc k) (Skipped k) (piece (cut_of ts k t.offset) (Once (index_of ts k)) ∷ piece (cut_of ts (suc k) t.offset) Less ∷ [])
+  inner_pieces later n =
+      let rise = begins_rise ts _ table.rising later n in
+      let order : cut_of ts k t.offset ≤ℤ cut_of ts (suc k) t.offset = saturated_rise _ _ (omega linear) in
+      record {
+        ordered = grind linear;
+        most = grind (arith, opening_none);
+        some = grind arith;
+        answers = λ l wide. by_lt_z l (cut_of ts k t.offset)
+            (λ before. grind (linear, le_false, shown_before l wide))
+            (λ from. grind (linear, le_false, le_true, shown_inside l wide, shown_behind l wide));
+      }
 
 -- ---- the types of indexes
 

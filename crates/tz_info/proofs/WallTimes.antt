@@ -1,10 +1,8 @@
 -- Every wall clock has an answer.
 use Rattle.tz_info.proofs.{
-  AnswerLaws.{behind_answer, same_answer},
-  ListFaults.{both_known, equal_known},
-  Words.{IsRuleOrNone, IsValid, IsWallAnswer, LocalResult, LocalType, Shows, TypeAt, Zone, by_lt_z, inl, inr, joined, linear, neg_ℤ, pos, subst, suc, zero, ℕ},
-  Words.{ℤ, ◌+ℤ◌, ◌<ℤ◌, ◌≡◌, ◌≤ℤ◌, ◌⊎◌},
-  ZoneLaws.{fits_or_not, type_decided, type_not_refused, type_once},
+  AnswerLaws.{behind_answer, same_answer}, ListFaults.{both_known, equal_known},
+  Words.{IsRuleOrNone, IsValid, IsWallAnswer, LocalResult, LocalType, Shows, TypeAt, Zone, by_lt_z, inl, inr, joined, linear, neg_ℤ, pos, suc, zero, ℕ, ℤ},
+  Words.{◌+ℤ◌, ◌<ℤ◌, ◌≡◌, ◌≤ℤ◌, ◌⊎◌}, ZoneLaws.{fits_or_not, type_decided, type_not_refused, type_once},
 }
 
 -- each second shows a type, or shows none
@@ -43,6 +41,6 @@ shown_or_not z local valid rule u = elim (type_decided z u valid rule) [
 
 pub wall_decided : (z : Zone) (local : ℤ) → IsValid z → IsRuleOrNone z.rule → (types : LocalResult LocalType) × IsWallAnswer (Shows (TypeAt z) local) types
 wall_decided z local valid rule =
-    let before = answer_before (Shows (TypeAt z) local) (shown_or_not z _ valid rule) (neg_ℤ (pos 9_223_372_036_854_775_808)) (λ u t h. omega linear)
+    let before = answer_before _ (shown_or_not z local valid rule) (neg_ℤ (pos 9_223_372_036_854_775_808)) (λ u t h. omega linear)
     18_446_744_073_709_551_616 in
-    (before.0, same_answer _ _ _ (λ u t h. h.0) (λ u t h. (h, omega linear)) before.1)
+    (_, same_answer _ _ _ (λ u t h. h.0) (λ u t h. (h, omega linear)) before.1)

@@ -1,6 +1,5 @@
 -- A local time has one window, and one count of the transitions in it.
-use Rattle.tz_info.proofs.Words.{IsGreatest, IsLeast, IsWindowCount, List, Zone, ap, come_between, correction_at, length, linear, sym, ℕ, ℤ, ◌+ℤ◌, ◌-ℤ◌, ◌∙◌}
-use Rattle.tz_info.proofs.Words.{◌≡◌}
+use Rattle.tz_info.proofs.Words.{IsGreatest, IsLeast, IsWindowCount, List, Zone, linear, ℕ, ℤ, ◌≡◌}
 
 greatest_once : (xs : List ℤ) (g h : ℤ) → IsGreatest xs g → IsGreatest xs h → g ≡ h
 greatest_once xs g h a b = grind linear

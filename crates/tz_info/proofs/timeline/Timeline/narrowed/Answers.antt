@@ -1,6 +1,8 @@
-use Rattle.tz_info.proofs.{SearchSteps.{near_earlier, near_later, time_read}, SearchWords.{arith, length-map, linear, refl, ◌+◌, ◌/◌}}
+use Rattle.tz_info.proofs.{
+  SearchSteps.{near_earlier, near_later, time_read}, SearchWords.{arith, length-map, linear, refl, ◌+◌, ◌/◌},
+  timeline.Timeline.narrowed.Goals.{else-second, then-second},
+}
 use Rattle.tz_info.proofs.timeline.Timeline.narrowed.Goals as goal
-use Rattle.tz_info.proofs.timeline.Timeline.narrowed.Goals.{else-second, then-second}
 
 pub returns-clause-near : goal.returns-clause-near
 returns-clause-near g c =

@@ -1,38 +1,39 @@
-use Rattle.tz_info.proofs.{Fits.fits, HintLaws.near_hinted, SearchSteps.{all_passed, digits-halved, none_passed}}
-use Rattle.tz_info.proofs.SearchWords.{AreEnds, AreHints, SFits, arith, ints, length, length-map, map, pow_pos, rules, to_z-of_z, w64, ◌≡◌}
-use Rattle.tz_info.proofs.timeline.Timeline.passed.Given.{Over}
-use Rattle.tz_info.proofs.timeline.Timeline.passed.Goals.{After-self}
+use Rattle.tz_info.proofs.{
+  Fits.fits, HintLaws.near_hinted, SearchSteps.{all_passed, digits-halved, none_passed},
+  SearchWords.{AreEnds, AreHints, SFits, arith, length, length-map, linear, map, pow_pos, rules, to_z-of_z, w64, ◌≡◌},
+  timeline.Timeline.passed.{Given.Over, Goals.After-self},
+}
 use Rattle.tz_info.proofs.timeline.Timeline.passed.Goals as goal
 
 -- what was given fits, and the first time, the last one and the hints are those of the items
 kept : (g : Over) (c : After-self g) → SFits w64 c.args.second × (length (map g.T.Timed.time c.args.self.now) ≡ length c.args.self.now)
     × AreEnds (map g.T.Timed.time c.args.self.now) c.self.inside.ends × AreHints (map g.T.Timed.time c.args.self.now) c.self.inside.hints
-kept g c = (c.ranges.second, length-map _ g.T.Timed.time, rw (← c.self.view_is) c.self.invariant.1, rw (← c.self.view_is) c.self.invariant.2)
+kept g c = (c.ranges.second, length-map _ _, rw (← c.self.view_is) c.self.invariant.1, rw (← c.self.view_is) c.self.invariant.2)
 
 pub read-requires-clause-room : goal.read-requires-clause-room
 read-requires-clause-room g c = grind (arith, digits-halved)
 
 pub returns-then-self-second-clause-passed : goal.returns-then-self-second-clause-passed
-returns-then-self-second-clause-passed g c = grind (arith, ints, all_passed, kept)
+returns-then-self-second-clause-passed g c = grind (linear, all_passed, kept)
 
 pub returns-then-self-second-clause-cost : goal.returns-then-self-second-clause-cost
-returns-then-self-second-clause-cost g c = grind (arith, ints, digits-halved)
+returns-then-self-second-clause-cost g c = grind (linear, digits-halved)
 
 pub count_look-requires : goal.count_look-requires
 count_look-requires g c = grind (arith, digits-halved)
 
 pub returns-then-second-self-clause-passed : goal.returns-then-second-self-clause-passed
-returns-then-second-self-clause-passed g c = grind (arith, ints, to_z-of_z, none_passed)
+returns-then-second-self-clause-passed g c = grind (linear, to_z-of_z, none_passed)
 
 pub returns-then-second-self-clause-cost : goal.returns-then-second-self-clause-cost
-returns-then-second-self-clause-cost g c = grind (arith, ints, digits-halved)
+returns-then-second-self-clause-cost g c = grind (linear, digits-halved)
 
 pub passed_near-requires-clause-near : goal.passed_near-requires-clause-near
 passed_near-requires-clause-near g c =
     let (fv, long, ends, hints) = kept g (goal.at.passed_near-requires-clause-near g c).After-self in
     let first : SFits w64 c.self.inside.ends.first = search rules in
     simp fits (near_hinted _ _ _ _ _ _ c.len-count.ensures.ordered
-    (omega arith) (omega arith) ends hints (omega (arith, ints)) (simp fits at c.seconds_between.ensures) (pow_pos _) c.in-Some.ensures)
+    (omega arith) (omega arith) ends hints (omega linear) (simp fits at c.seconds_between.ensures) (pow_pos _) c.in-Some.ensures)
 
 pub passed_by_halves-requires-clause-left : goal.passed_by_halves-requires-clause-left
-passed_by_halves-requires-clause-left g c = grind (arith, ints, kept)
+passed_by_halves-requires-clause-left g c = grind (linear, kept)

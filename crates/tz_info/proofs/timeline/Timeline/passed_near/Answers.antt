@@ -1,6 +1,8 @@
-use Rattle.tz_info.proofs.{SearchSteps.{digits-halved, digits-three, near_one, one_step, two_steps}, SearchWords.{ap, arith, ◌∙◌}}
+use Rattle.tz_info.proofs.{
+  SearchSteps.{digits-halved, digits-three, near_one, one_step, two_steps}, SearchWords.arith,
+  timeline.Timeline.passed_near.Goals.{else-left-gt1, then-left-gt1+else-left-gt1-2, then-left-gt1+then-left-gt1-2},
+}
 use Rattle.tz_info.proofs.timeline.Timeline.passed_near.Goals as goal
-use Rattle.tz_info.proofs.timeline.Timeline.passed_near.Goals.{else-left-gt1, then-left-gt1+else-left-gt1-2, then-left-gt1+then-left-gt1-2}
 
 pub narrowed-once-requires-clause-room : goal.narrowed-once-requires-clause-room
 narrowed-once-requires-clause-room g c = grind (arith, digits-three)

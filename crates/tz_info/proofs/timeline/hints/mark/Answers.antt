@@ -1,5 +1,7 @@
-use Rattle.tz_info.proofs.SearchWords.{SFits, arith, ints, item_time, length-set, map, rules, stretch_of, to_z-of_z, w64, ◌+◌, ◌/◌, ◌^◌, ◌∙◌, ◌≡◌}
-use Rattle.tz_info.proofs.{HintLaws.{marked_more}, SearchSteps.{time_read}, timeline.hints.mark.Given.{Over}}
+use Rattle.tz_info.proofs.{
+  HintLaws.marked_more, SearchSteps.time_read, SearchWords.{SFits, arith, item_time, length-set, linear, map, rules, stretch_of, to_z-of_z, w64, ◌/◌, ◌^◌, ◌≡◌},
+  timeline.hints.mark.Given.Over,
+}
 use Rattle.tz_info.proofs.timeline.hints.mark.Goals as goal
 
 pub seconds_between-requires : goal.seconds_between-requires
@@ -7,7 +9,7 @@ seconds_between-requires g c =
     let ff = c.ranges.first in
     let fs : SFits w64 c.second.result = search rules in
     let time = time_read g.T.Timed.time c.args.items.now c.loop-place.place c.index-items-place.result c.loop-place-test.true c.index-items-place.is in
-    grind (arith, ints, c.requires.first c.loop-place.place)
+    grind (linear, c.requires.first c.loop-place.place)
 
 -- the stretch of the item, which has a slot after it
 slot : (g : Over) (c : goal.After-seconds_between g)
@@ -15,7 +17,7 @@ slot : (g : Over) (c : goal.After-seconds_between g)
 slot g c =
     let ff = c.ranges.first in
     let fs : SFits w64 c.second.result = search rules in
-    grind (arith, ints, to_z-of_z, time_read)
+    grind (linear, to_z-of_z, time_read)
 
 pub overflow_add-places : goal.overflow_add-places
 overflow_add-places g c = omega (arith, slot g c, c.requires.room c.loop-place.place c.loop-place-test.true)

@@ -1,7 +1,8 @@
-use Rattle.tz_info.proofs.SearchWords.{AreRaised, List, SFits, arith, drop, item_time, length, length-map, length-replicate, map, pos, rules, take}
-use Rattle.tz_info.proofs.SearchWords.{take-append-le, take_all, to_z-of_z, w64, ℕ, ◌++◌, ◌+◌, ◌-ℤ◌, ◌-◌, ◌/◌, ◌^◌, ◌∙◌, ◌≡◌}
-use Rattle.tz_info.proofs.{HintLaws.{first_least, hints_made, marks_rise, raised_rising, slots}, SearchSteps.{time_read}, timeline.hints.Hints.new.Given.{Over}}
-use Rattle.tz_info.proofs.timeline.hints.Hints.new.Goals.{After-deref, After-deref_mut}
+use Rattle.tz_info.proofs.{
+  HintLaws.{first_least, hints_made, marks_rise, raised_rising, slots}, SearchSteps.time_read,
+  SearchWords.{AreRaised, List, SFits, arith, drop, item_time, length, length-map, length-replicate, map, pos, rules, take, take-append-le, take_all},
+  SearchWords.{to_z-of_z, w64, ℕ, ◌++◌, ◌+◌, ◌-ℤ◌, ◌-◌, ◌/◌, ◌^◌, ◌∙◌, ◌≡◌}, timeline.hints.Hints.new.{Given.Over, Goals.{After-deref, After-deref_mut}},
+}
 use Rattle.tz_info.proofs.timeline.hints.Hints.new.Goals as goal
 
 -- the first item's time, and the span

@@ -1,5 +1,4 @@
-use Rattle.tz_info.proofs.{DigitLaws.digits-less, Fits.fits, SegmentEndLaws.first_found}
-use Rattle.tz_info.proofs.Words.{arith, digits-le, false≢true, length, suc, sym, ◌+◌, ◌-◌, ◌/◌, ◌∙◌, ◌≡◌}
+use Rattle.tz_info.proofs.{DigitLaws.digits-less, Fits.fits, SegmentEndLaws.first_found, Words.{arith, digits-le}}
 use Rattle.tz_info.proofs.zone.ask.segment_search.first_reaching.Goals as goal
 
 pub is_reached-requires-clause-room : goal.is_reached-requires-clause-room

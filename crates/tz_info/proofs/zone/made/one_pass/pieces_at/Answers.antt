@@ -1,6 +1,8 @@
-use Rattle.tz_info.proofs.{Words.{SFits, arith, inl, inr, ints, refl, rules, to_z-of_z, w64}, OnePass.{pieces_found}}
 use Rattle.std.proofs.lemmas.Option.{slice_get_within}
-use Rattle.tz_info.proofs.zone.made.one_pass.pieces_at.Goals.{else-end-start, then-end-start}
+use Rattle.tz_info.proofs.{
+  OnePass.pieces_found, Words.{SFits, arith, inl, inr, linear, refl, rules, to_z-of_z, w64},
+  zone.made.one_pass.pieces_at.Goals.{else-end-start, then-end-start},
+}
 use Rattle.tz_info.proofs.zone.made.one_pass.pieces_at.Goals as goal
 
 pub small-earlier-requires : goal.small-earlier-requires
@@ -20,7 +22,7 @@ returns c =
     let found = pieces_found c.args.lists.types.now c.args.entries.now c.args.place c.args.before c.args.behind in
     elim c.if-end-start.branch [
       | then-end-start w ↦ rw (c.small-earlier.ensures, c.small-later.ensures, w.first-is) (simp to_z-of_z
-          (found _ _ c.requires.before c.requires.behind (inl (rw (← ends, ← starts) (record { order = omega (arith, ints); none = refl; next = refl })))))
+          (found _ _ c.requires.before c.requires.behind (inl (rw (← ends, ← starts) (record { order = omega linear; none = refl; next = refl })))))
       | else-end-start w ↦ rw (c.small-earlier.ensures, c.small-later.ensures, w.first-is) (simp to_z-of_z
-          (found _ _ c.requires.before c.requires.behind (inr (rw (← ends, ← starts) (record { order = omega (arith, ints); both = refl; next = refl })))))
+          (found _ _ c.requires.before c.requires.behind (inr (rw (← ends, ← starts) (record { order = omega linear; both = refl; next = refl })))))
     ]

@@ -1,17 +1,16 @@
-use Rattle.tz_info.proofs.Words.{List, Piece, SFits, add-one, ap, arith, cut_of, inl, linear, length, rules, suc, to_z-of_z, w64, zone_in}
-use Rattle.tz_info.proofs.Words.{[], ◌++◌, ◌-◌, ◌∙◌, ◌∷◌, ◌≡◌, ◌<◌}
-use Rattle.tz_info.proofs.OnePass.{crossed_by, cuts_of, end_before, ends_rise, open_first, open_more}
-use Rattle.tz_info.proofs.zone.made.one_pass.pieces_in_one_pass.Goals.{else-count-entries, then-count-entries+else-is_crossed-2}
+use Rattle.tz_info.proofs.{
+  OnePass.{crossed_by, cuts_of, end_before, ends_rise, open_first, open_more},
+  Words.{SFits, add-one, arith, inl, linear, rules, suc, to_z-of_z, w64, zone_in, ◌-◌, ◌≡◌},
+  zone.made.one_pass.pieces_in_one_pass.Goals.{else-count-entries, then-count-entries+else-is_crossed-2},
+}
 use Rattle.tz_info.proofs.zone.made.one_pass.pieces_in_one_pass.Goals as goal
 
 pub loop-place-init : goal.loop-place-init
 loop-place-init c = record {
-  pieces = rw c.in_ok-pieces.ensures.items
-      (open_first (zone_in c.args.lists) c.args.entries.now c.args.count _ c.requires.table (let n = c.requires.count in let s = c.requires.some in
-      omega arith) c.requires.some);
+  pieces = rw c.in_ok-pieces.ensures.items (open_first (zone_in c.args.lists) c.args.entries.now c.args.count _ c.requires.table (grind arith) c.requires.some);
   before = c.segment_at-before.ensures;
-  count = omega (arith, c.in_ok-pieces.ensures.len);
-  room = omega (arith, c.in_ok-pieces.ensures.exact);
+  count = grind arith;
+  room = grind arith;
 }
 
 pub loop-place-preserved : goal.loop-place-preserved
@@ -19,14 +18,12 @@ loop-place-preserved c =
     let ff : SFits w64 c.pieces_at-first.result.0.start = search rules in
     let fl : SFits w64 c.pieces_at-first.result.1.start = search rules in
     let strict = simp to_z-of_z at (c.is_crossed.ensures.behind c.if-is_crossed.false) in
-    let out = c.push_reserved-in-loop-place.ensures.items ∙ ap (λ (ps : List Piece). ps ++ (c.pieces_at-first.result.1 ∷ [])) c.push_reserved.ensures.items in
     rw add-one (record {
-      pieces =
-          simp to_z-of_z (open_more (zone_in c.args.lists) c.args.entries.now c.loop-place.place _ _ c.pieces_at-first.ensures _ c.loop-place.pieces.items
-          _ c.loop-place.invariant.pieces strict c.args.count _ c.requires.table (omega arith) (omega arith) out);
+      pieces = simp to_z-of_z (open_more (zone_in c.args.lists) c.args.entries.now c.loop-place.place _ _ c.pieces_at-first.ensures _ c.loop-place.pieces.items
+          _ c.loop-place.invariant.pieces strict c.args.count _ c.requires.table (omega arith) (omega arith) (grind arith));
       before = let one : suc c.loop-place.place - 1 ≡ c.loop-place.place = omega arith in rw one c.segment_at-behind.ensures;
-      count = omega (arith, c.push_reserved.ensures.len, c.push_reserved-in-loop-place.ensures.len);
-      room = omega (arith, c.push_reserved.ensures.capacity, c.push_reserved-in-loop-place.ensures.capacity);
+      count = grind arith;
+      room = grind arith;
     })
 
 pub returns-then-is_crossed : goal.returns-then-is_crossed
@@ -34,8 +31,7 @@ returns-then-is_crossed c =
     let ff : SFits w64 c.pieces_at-first.result.0.start = search rules in
     let within = c.requires.table.within in
     let crossed = simp to_z-of_z at (c.is_crossed.ensures.crossed c.if-is_crossed.true) in
-    crossed_by (zone_in c.args.lists) c.args.entries.now c.loop-place.place _ _ _ c.pieces_at-first.result.0.start (omega arith)
-    crossed.0 c.loop-place.invariant.pieces
+    crossed_by (zone_in c.args.lists) _ c.loop-place.place _ _ _ _ (omega arith) crossed.0 c.loop-place.invariant.pieces
     (cuts_of (zone_in c.args.lists) _ _ _ _ c.pieces_at-first.ensures).0 crossed.1
 
 pub returns-then-is_crossed-2 : goal.returns-then-is_crossed-2
@@ -43,13 +39,13 @@ returns-then-is_crossed-2 c =
     let fe : SFits w64 c.cut_of-end.result = search rules in
     let fo : SFits w64 c.loop-place.before.offset = search rules in
     let until = c.loop-place.auto.place-end (omega arith) in
-    let here : c.args.count ≡ c.loop-place.place = let far = c.loop-place-test.false in omega arith in
+    let here : c.args.count ≡ c.loop-place.place = omega (arith, c.loop-place-test.false) in
     let seg = c.loop-place.invariant.before in
     let crossed = rw here at (simp to_z-of_z at (c.is_crossed-then-count-entries.ensures.crossed c.if-is_crossed-2.true)) in
-    let cut = simp to_z-of_z at c.cut_of-end.ensures ∙ ap (λ o. cut_of c.args.entries.now c.args.count o) seg.offset in
     let last = c.if-count-entries.true in
-    crossed_by (zone_in c.args.lists) c.args.entries.now c.loop-place.place _ _ _ c.cut_of-end.result (omega arith) crossed.0 c.loop-place.invariant.pieces
-    (record { type = seg.type; listed = inl (rw seg.index at seg.listed); is_cut = rw here at cut }) crossed.1
+    crossed_by (zone_in c.args.lists) _ c.loop-place.place _ _ _ _ (omega arith) crossed.0 c.loop-place.invariant.pieces
+    (record { type = seg.type; listed = inl (rw seg.index at seg.listed);
+    is_cut = rw (here, seg.offset) at (simp to_z-of_z at c.cut_of-end.ensures) }) crossed.1
 
 pub returns : goal.returns
 returns c =
@@ -57,25 +53,24 @@ returns c =
     let some = c.requires.some in
     let count = c.requires.count in
     let until = c.loop-place.auto.place-end (omega arith) in
-    let here : c.args.count ≡ c.loop-place.place = let far = c.loop-place-test.false in omega arith in
+    let here : c.args.count ≡ c.loop-place.place = omega (arith, c.loop-place-test.false) in
     let seg = c.loop-place.invariant.before in
+    let inv = c.loop-place.invariant.pieces in
     let fo : SFits w64 c.loop-place.before.offset = search rules in
     elim c.if-count-entries.branch [
       | then-count-entries+else-is_crossed-2 w ↦
           let fe : SFits w64 w.cut_of-end.result = search rules in
           let last = w.if-count-entries.true in
-          let cut = rw here at (simp to_z-of_z at w.cut_of-end.ensures ∙ ap (λ o. cut_of c.args.entries.now c.args.count o) seg.offset) in
-          let strict = rw (here, cut) at (simp to_z-of_z at (w.is_crossed-then-count-entries.ensures.behind w.if-is_crossed-2.false)) in (
+          let cut = rw (here, seg.offset) at (simp to_z-of_z at w.cut_of-end.ensures) in
+          let strict = rw (here, cut) at (simp to_z-of_z at (w.is_crossed-then-count-entries.ensures.behind w.if-is_crossed-2.false)) in
+          let listed = rw seg.index at seg.listed in (
             rw (w.pieces-is, w.push_reserved-then-count-entries.ensures.items, simp to_z-of_z at w.small-piece.ensures, cut, here, c.segment_at.ensures.index)
-                (c.loop-place.invariant.pieces.closed (omega arith) seg.type (rw seg.index at seg.listed) seg.is_offset strict),
-            λ k first below. ends_rise (zone_in c.args.lists) c.args.entries.now c.loop-place.place _ _ _ c.loop-place.invariant.pieces
-                (rw (← end_before _ _ c.loop-place.place seg.type (rw seg.index at seg.listed)) at strict) k first (omega arith),
+                (inv.closed (omega arith) seg.type listed seg.is_offset strict),
+            λ k first below. ends_rise (zone_in c.args.lists) _ c.loop-place.place _ _ _ inv
+                (rw (← end_before _ _ c.loop-place.place seg.type listed) at strict) k first (omega arith),
           )
-      | else-count-entries w ↦
-          let all : length c.args.entries.now < c.loop-place.place = let more = w.if-count-entries.false in omega arith in (
-            rw (w.pieces-is, here, c.segment_at.ensures.index) (c.loop-place.invariant.pieces.whole all),
-            λ k first below. c.loop-place.invariant.pieces.rising k first (omega arith),
-          )
+      | else-count-entries w ↦ let more = w.if-count-entries.false in
+          (rw (w.pieces-is, here, c.segment_at.ensures.index) (inv.whole (omega arith)), λ k first below. inv.rising k first (omega arith))
     ]
 
 pub push_reserved-requires-then-count-entries : goal.push_reserved-requires-then-count-entries

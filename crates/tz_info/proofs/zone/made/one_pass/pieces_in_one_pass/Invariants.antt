@@ -1,4 +1,4 @@
-use Rattle.tz_info.proofs.{Words.{IsSegment, index_of, length, vec_capacity, vec_len, zone_in, ◌*◌, ◌+◌, ◌-◌, ◌≡◌}, OnePass.{AreOpen}}
+use Rattle.tz_info.proofs.{OnePass.AreOpen, Words.{IsSegment, index_of, length, vec_capacity, vec_len, zone_in, ◌*◌, ◌+◌, ◌-◌, ◌≡◌}}
 use Rattle.tz_info.proofs.zone.made.one_pass.pieces_in_one_pass.Given as goal
 
 abbrev pub invariant-loop-place : goal.invariant-loop-place

@@ -1,4 +1,4 @@
-use Rattle.tz_info.proofs.{Fits.fits, WallSegments.{first_pieces, inner_pieces, last_pieces}, Words.{SFits, add-one, ap, arith, cut_of, refl, rules, w64, ◌+◌, ◌∙◌}}
+use Rattle.tz_info.proofs.{Fits.fits, WallSegments.{first_pieces, inner_pieces, last_pieces}, Words.{SFits, add-one, arith, refl, rules, w64}}
 use Rattle.tz_info.proofs.zone.made.segments.pieces_of_one.Goals as goal
 
 pub returns-then-place-eq0 : goal.returns-then-place-eq0
@@ -7,7 +7,7 @@ returns-then-place-eq0 c =
     let fo : SFits w64 c.segment_at-segment.result.offset = search rules in
     let s = c.segment_at-segment.ensures in
     let zero = c.if-place-eq0.true in
-    rw (c.in_ok-pieces.ensures.items, simp fits at c.in_ok-end.ensures, simp fits at c.cut_of.ensures ∙ ap (λ o. cut_of c.args.entries.now 1 o) s.offset, s.index, zero)
+    rw (c.in_ok-pieces.ensures.items, simp fits at c.in_ok-end.ensures, rw s.offset at (simp fits at c.cut_of.ensures), s.index, zero)
     (first_pieces _ _ 1 0 s.type (rw zero at c.requires.table) (omega arith) (rw (s.index, zero) at s.listed) s.is_offset refl c.requires.some)
 
 pub returns-then-place-entries : goal.returns-then-place-entries
@@ -15,14 +15,7 @@ returns-then-place-entries c =
     let fc = c.cut_of-2.type_inv in
     let fo : SFits w64 c.segment_at-segment.result.offset = search rules in
     let s = c.segment_at-segment.ensures in
-    rw (
-      c.in_ok-pieces-2.ensures.items,
-      simp fits at c.in_ok-start.ensures,
-      simp fits at c.cut_of-2.ensures ∙ ap
-          (λ o. cut_of c.args.entries.now c.args.place o) s.offset,
-      s.index,
-      add-one,
-    )
+    rw (c.in_ok-pieces-2.ensures.items, simp fits at c.in_ok-start.ensures, rw s.offset at (simp fits at c.cut_of-2.ensures), s.index, add-one)
     (last_pieces _ _ _ _ s.type (rw add-one at c.requires.table) (omega arith) (rw s.index at s.listed) s.is_offset (omega arith) c.if-place-entries.true)
 
 pub returns : goal.returns
@@ -31,15 +24,6 @@ returns c =
     let fe = c.cut_of-3.type_inv in
     let fo : SFits w64 c.segment_at-segment.result.offset = search rules in
     let s = c.segment_at-segment.ensures in
-    rw (
-      c.in_ok-pieces-3.ensures.items,
-      simp fits at c.in_ok-start.ensures,
-      simp fits at c.in_ok-end-2.ensures,
-      simp fits at c.cut_of-2.ensures ∙ ap
-          (λ o. cut_of c.args.entries.now c.args.place o) s.offset,
-      simp fits at c.cut_of-3.ensures ∙ ap (λ o. cut_of c.args.entries.now
-          (c.args.place + 1) o) s.offset,
-      s.index,
-      add-one,
-    )
+    rw (c.in_ok-pieces-3.ensures.items, simp fits at c.in_ok-start.ensures, simp fits at c.in_ok-end-2.ensures,
+    rw s.offset at (simp fits at c.cut_of-2.ensures), rw s.offset at (simp fits at c.cut_of-3.ensures), s.index, add-one)
     (inner_pieces _ _ _ _ s.type (rw add-one at c.requires.table) (omega arith) (rw s.index at s.listed) s.is_offset (omega arith) (omega arith))

@@ -1,5 +1,7 @@
-use Rattle.tz_info.proofs.{Fits.fits, TableLaws.{no_segments, one_segment}, Words.{arith, sym, ◌∙◌}}
-use Rattle.tz_info.proofs.zone.made.index.Index.without_pieces.Goals.{else-segment_count-eq0, then-segment_count-eq0}
+use Rattle.tz_info.proofs.{
+  Fits.fits, TableLaws.{no_segments, one_segment}, Words.{arith, sym, ◌∙◌},
+  zone.made.index.Index.without_pieces.Goals.{else-segment_count-eq0, then-segment_count-eq0},
+}
 use Rattle.tz_info.proofs.zone.made.index.Index.without_pieces.Goals as goal
 
 pub returns : goal.returns
@@ -9,9 +11,8 @@ returns c =
     let from = c.rule_from.ensures in
     elim c.if-segment_count-eq0.branch [
       | then-segment_count-eq0 w ↦ rw (w.before-is, c.none.ensures, c.new.ensures.items) (simp fits
-          (no_segments _ _ _ c.requires.none from.begun (λ h. from.never (c.requires.list.some.0 h) c.requires.none)
-          (sym c.segment_count.ensures ∙ w.if-segment_count-eq0.true)))
+          (no_segments _ _ _ c.requires.none from.begun (grind arith) (sym c.segment_count.ensures ∙ w.if-segment_count-eq0.true)))
       | else-segment_count-eq0 w ↦ rw (w.before-is, c.none.ensures, c.new.ensures.items, s.index) (simp fits
-          (one_segment _ _ _ c.requires.none from.begun (λ h. from.never (c.requires.list.some.0 h) c.requires.none) s.type c.requires.valid
+          (one_segment _ _ _ c.requires.none from.begun (grind arith) s.type c.requires.valid
           c.requires.list (omega arith) (rw s.index at s.listed) s.is_offset))
     ]
