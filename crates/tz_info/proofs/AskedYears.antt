@@ -115,7 +115,7 @@ pub from_next : (a : Alternate) (w : Bool) (first : ℤ) (n : ℕ) → IsAlterna
     → AreFrom a w first (year_at w first n)
     → AreFrom a w first (year_at w first (n + 1))
 from_next a w _ n rule none from d is y of_year beyond =
-    year_on w _ y n (λ e. none_in a rule _ d none is (rw e at of_year)) (from d is y of_year beyond)
+    year_on w _ y n (λ e. none_in a rule _ none d is (rw e at of_year)) (from d is y of_year beyond)
 
 pub none_out : (a : Alternate) (w : Bool) (first : ℤ) (n : ℕ) → IsRuleYear first → (IsRuleYear (year_at w first n) → ⊥) → AreFrom a w first (year_at w first n)
     → HasNoneBeyond a w first

@@ -27,8 +27,14 @@ use Rattle.tz_info.specs.{
 abbrev pub Tells : Alternate → ℤ → (ℤ → Bool) → Type 0
 Tells a year dst = (u : ℤ) → IsRuleTime u → new_year year ≤ℤ u → u ≤ℤ new_year (year +ℤ pos 1) → AlternateAt a u (type_when a (dst u))
 
-pub type_differs : (a : Alternate) (b c : Bool) → a.std ≢ a.dst → b ≡ not c → type_when a b ≢ type_when a c
+type_differs : (a : Alternate) (b c : Bool) → a.std ≢ a.dst → b ≡ not c → type_when a b ≢ type_when a c
 type_differs a b c h e same = grind arith
+
+abbrev pub HasNoneIn : Alternate → ℤ → Type 0
+HasNoneIn a year = HasNoChange (AlternateAt a) (λ u. IsYearOf (u -ℤ pos 1) year)
+
+abbrev pub HasOneIn : Alternate → ℤ → Type 0
+HasOneIn a year = (d : Change) × IsChange (AlternateAt a) d × IsYearOf (d.at -ℤ pos 1) year
 
 module _ (a : Alternate) (year : ℤ) (dst : ℤ → Bool) (tells : Tells a year dst) where
   -- a change comes only where it begins or ends
@@ -158,28 +164,27 @@ module _ (a : Alternate) (rule : IsAlternateRule a) where
         (nearest_either w (AlternateAt a) _ _ found _ (asked w _ _ _ _ _ h)
         (asked w _ _ _ _ _ k))
 
-    pub none_of_one : (year : ℤ) (d : Change) → start_in a year ≡ end_in a year → IsChange (AlternateAt a) d → IsYearOf (d.at -ℤ pos 1) year → ⊥
-    none_of_one year d one is of_year = no_turn a year _ (calm_tells year) d is of_year (never_dst _ _ _ _ one)
+    pub none_of_one : (year : ℤ) → start_in a year ≡ end_in a year → HasNoneIn a year
+    none_of_one year one d is of_year = no_turn a year _ (calm_tells year) d is of_year (never_dst _ _ _ _ one)
 
   apart_by_kind : (year : ℤ) → let x = get_or (starts_of a) (kind_place year) (pos 0) in let y = get_or (ends_of a) (kind_place year) (pos 0) in
       (are_apart x y ≡ false → start_in a year ≡ end_in a year) × (are_apart x y ≡ true → start_in a year ≢ end_in a year)
   apart_by_kind year = apart _ _ (pos 86_400 *ℤ year_start year) _ _ (by_kind _ _ _ rule.start_day) (by_kind _ _ _ rule.end_day)
 
-  none_by : (year : ℤ) (d : Change) (calm : Bool) → are_calm (starts_of a) (ends_of a) ≡ calm → is_changing (starts_of a) (ends_of a) calm year ≡ false
-      → IsChange (AlternateAt a) d → IsYearOf (d.at -ℤ pos 1) year → ⊥
+  none_by : (year : ℤ) (calm : Bool) → are_calm (starts_of a) (ends_of a) ≡ calm → is_changing (starts_of a) (ends_of a) calm year ≡ false → HasNoneIn a year
   unfolding moments_near
-  none_by year d true calm none is of_year = none_of_one calm year d ((apart_by_kind year).0 none) is of_year
-  none_by year d false calm none is of_year =
+  none_by year true calm none d is of_year = none_of_one calm year ((apart_by_kind year).0 none) d is of_year
+  none_by year false calm none d is of_year =
       let near = years_near (start_in a) (end_in a) year in
       let off = none_at (flips_at near) (seconds_near near) _ (change_near a _ d rule is of_year) (ap (λ y. has_flip y) (near_by_kind year) ∙ none) in
       let low = second_low _ _ of_year in let high = second_high _ _ of_year in
       no_turn a year _ (near_tells year) d is of_year (flip_off near.first near.next d.at _ _ (omega linear) (omega linear) off)
 
-  pub none_in : (year : ℤ) (d : Change) → changes_in_year a year ≡ false → IsChange (AlternateAt a) d → IsYearOf (d.at -ℤ pos 1) year → ⊥
-  none_in _ d none is of_year = none_by _ d _ refl none is of_year
+  pub none_in : (year : ℤ) → changes_in_year a year ≡ false → HasNoneIn a year
+  none_in _ none = none_by _ _ refl none
 
   one_by : (year : ℤ) (calm : Bool) → IsRuleYear year → IsRuleYear (year +ℤ pos 1) → a.std ≢ a.dst → are_calm (starts_of a) (ends_of a) ≡ calm
-      → is_changing (starts_of a) (ends_of a) calm year ≡ true → (d : Change) × IsChange (AlternateAt a) d × IsYearOf (d.at -ℤ pos 1) year
+      → is_changing (starts_of a) (ends_of a) calm year ≡ true → HasOneIn a year
   one_by year true of_rule next types calm some = (_, turn_change calm year true of_rule types ((apart_by_kind year).1 some), (inside calm year true).1)
   one_by year false of_rule next types calm some =
       let near = years_near (start_in a) (end_in a) year in
@@ -188,8 +193,7 @@ module _ (a : Alternate) (rule : IsAlternateRule a) where
       let of_year : IsYearOf (u -ℤ pos 1) year = (omega (arith, floors), omega (arith, floors)) in
       (_, turn a year _ (near_tells year) u of_rule (rule_until u year of_year of_rule next) of_year types differ, of_year)
 
-  pub one_in : (year : ℤ) → IsRuleYear year → IsRuleYear (year +ℤ pos 1) → a.std ≢ a.dst → changes_in_year a year ≡ true
-      → (d : Change) × IsChange (AlternateAt a) d × IsYearOf (d.at -ℤ pos 1) year
+  pub one_in : (year : ℤ) → IsRuleYear year → IsRuleYear (year +ℤ pos 1) → a.std ≢ a.dst → changes_in_year a year ≡ true → HasOneIn a year
   one_in _ of_rule next types some = one_by _ _ of_rule next types refl some
 
 -- ---- by the year's key
@@ -235,7 +239,7 @@ module _ (a : Alternate) (rule : IsAlternateRule a) where
   pub steady_without : list_any (λ b. b) (keys_of a) ≡ false → NeverChanges a
   steady_without none u v s t h k =
       let never : (d : Change) → IsChange (AlternateAt a) d → ⊥ =
-      λ d is. none_in a rule _ d (sym (by_key a is.before.year) ∙ none_of_all (keys_of a) _ none) is is.before.of_second in
+      λ d is. none_in a rule _ (sym (by_key a is.before.year) ∙ none_of_all (keys_of a) _ none) d is is.before.of_second in
       by_lt_z v u (λ l. sym (unchanged v u t s (λ d is i. never d is) k h (omega linear))) (λ m. unchanged u v s t (λ d is i. never d is) h k m)
 
   pub unsteady : a.std ≢ a.dst → list_any (λ b. b) (keys_of a) ≡ true → NeverChanges a → ⊥
