@@ -3,8 +3,8 @@ use Rattle.tz_info.proofs.{
   ChangeSearch.{decided, in_ahead, nearest_moved},
   ChangingYears.{none_in, one_in, steady_alike},
   RuleChanges.{change_again, change_then, cycles_to, later_year, rule_second, same_or_not, seconds_follow, year_on, years_rise},
-  RuleLaws.{rule_year},
-  Words.{arith, Alternate, AlternateAt, AreFrom, Bool, Change, HasNoChange, HasNoneBeyond, IsAhead, IsAlternateRule, IsChange, IsNearest, IsNearestChange},
+  RuleLaws.rule_year,
+  Words.{Alternate, AlternateAt, AreFrom, Bool, Change, HasNoChange, HasNoneBeyond, IsAhead, IsAlternateRule, IsChange, IsNearest, IsNearestChange},
   Words.{IsNextChanging, IsOfYear, IsRuleYear, IsStretchAhead, IsYearNear, IsYearOf, NeverChanges, None, Option, Precedes, Some, by_lt_z, changes_in_year},
   Words.{false, inl, inr, linear, neg_ℤ, pos, true, type_exact, year_at, ℕ, ℤ, ◌+ℤ◌, ◌+◌, ◌-ℤ◌, ◌<◌, ◌≡◌, ◌⊎◌},
 }

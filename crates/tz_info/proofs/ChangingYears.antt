@@ -1,5 +1,5 @@
 -- A rule of two types changes the clocks in the years in which daylight saving time begins or ends, if the types differ.
-use Rattle.std.proofs.{Math.Bool.{beq}, lemmas.{List.Folds.{Any-from_list_any, list_any_at}}}
+use Rattle.std.proofs.{Math.Bool.beq, lemmas.List.Folds.{Any-from_list_any, list_any_at}}
 use Rattle.std.specs.List.{list_any}
 use Rattle.tz_info.proofs.{
   ChangeSearch.{IsAsked, asked, nearest_either, nearest_moved, stays},
@@ -7,19 +7,17 @@ use Rattle.tz_info.proofs.{
   Neighbours.{KeepsMargin, dst_by_three, ends_near, second_high, second_low, starts_near},
   RuleChanges.{change_near, rule_second, rule_until, same_or_not},
   RuleLaws.{alternate_at, alternate_once, rule_time, rule_year},
-  SeasonLaws.{season_made},
+  SeasonLaws.season_made,
   Words.{Alternate, AlternateAt, Bool, Change, Contains, DayTime, HasNoChange, IsAlternateRule, IsCalmRule, IsChange, IsNearest, IsOfYear, IsRuleDay},
-  Words.{IsRuleTime},
-  Words.{IsRuleYear, IsYearOf, List, LocalType, NeverChanges, Option, ap, are_calm, arith, by_lt_z, changing_keys, cond, days_at_least, days_at_most, end_in},
-  Words.{false, floor_div, floors, get_or, get_or-eq_default, get_or-map, get_or_default, inl, inr, int_le, int_lt, is_dst_by_one, key_years, kind_place},
-  Words.{length, length-map, lies_in, linear, lt_false, lt_true, margin_of, moment, moments_near, nearer_one, new_year, not, pos, refl, seconds_by_kind},
-  Words.{start_in, sym},
-  Words.{true, turn_of, type_when, year_start, year_step, ℕ, ℤ, ⊎_elim, ◌*ℤ◌, ◌+ℤ◌, ◌-ℤ◌, ◌<ℤ◌, ◌<◌, ◌∙◌, ◌≡◌, ◌≢◌, ◌≤ℤ◌, ◌⊎◌},
+  Words.{IsRuleTime, IsRuleYear, IsYearOf, List, LocalType, NeverChanges, Option, ap, are_calm, arith, by_lt_z, changing_keys, cond, days_at_least},
+  Words.{days_at_most, end_in, false, floor_div, floors, get_or, get_or-eq_default, get_or-map, get_or_default, inl, inr, int_le, int_lt, is_dst_by_one},
+  Words.{key_years, kind_place, length, length-map, lies_in, linear, lt_false, lt_true, margin_of, moment, moments_near, nearer_one, new_year, not, pos, refl},
+  Words.{seconds_by_kind, start_in, sym, true, turn_of, type_when, year_start, year_step, ℕ, ℤ, ⊎_elim, ◌*ℤ◌, ◌+ℤ◌, ◌-ℤ◌, ◌<ℤ◌, ◌<◌, ◌∙◌, ◌≡◌, ◌≢◌, ◌≤ℤ◌, ◌⊎◌},
   YearKeys.{changing_alike, key_below, key_count, keys_are},
 }
 use Rattle.tz_info.specs.{
-  Steps.AskedYears.{changes_in_year},
-  Steps.{ChangingYears.{are_apart, dst_near, flips_at, has_flip, is_changing, moment_by, seconds_near, turns_in, year_key, years_near}, Turns.{dst_by}},
+  Steps.AskedYears.changes_in_year,
+  Steps.{ChangingYears.{are_apart, dst_near, flips_at, has_flip, is_changing, moment_by, seconds_near, turns_in, year_key, years_near}, Turns.dst_by},
 }
 
 -- ---- clocks change when daylight saving time begins or ends
@@ -139,7 +137,8 @@ module _ (a : Alternate) (rule : IsAlternateRule a) where
         → IsChange (AlternateAt a) (record { at = turn_of a to_dst year; before = type_when a (not to_dst); after = type_when a to_dst })
     turn_change year to_dst of_rule types apart =
         let (own, before) = inside year to_dst in let (here, there) = turned _ _ to_dst apart in
-        rw (here, there) at (turn a year _ (calm_tells year) (turn_of a to_dst year) of_rule (rule_time _ _ own of_rule) before types (there ∙ ap not (sym here)))
+        rw (here, there) at (turn a year _ (calm_tells year) (turn_of a to_dst year) of_rule (rule_time _ _ own of_rule) before types
+        (there ∙ ap not (sym here)))
 
     -- and at no other second of the year
     at_moments : (year : ℤ) (d : Change) → IsChange (AlternateAt a) d → IsYearOf (d.at -ℤ pos 1) year → (start_in a year ≡ d.at) ⊎ (end_in a year ≡ d.at)

@@ -1,15 +1,15 @@
 -- When a rule's types give way to each other: at its moments and at turns of the year, and every 400 years alike.
-use Rattle.std.proofs.lemmas.{Bool.Decides.{Decides-int_eq}, Map.Made.{is_member-Decides}}
-use Rattle.std.specs.{Ordering.{int_eq}, Set.{is_member}}
+use Rattle.std.proofs.lemmas.{Bool.Decides.Decides-int_eq, Map.Made.is_member-Decides}
+use Rattle.std.specs.{Ordering.int_eq, Set.is_member}
 use Rattle.tz_info.proofs.{
   ChangeSearch.{decided, nearest_moved},
-  KindLaws.{kind_found},
+  KindLaws.kind_found,
   Neighbours.{IsNear, ends_near, not_earlier, not_later, place, second_high, second_low, starts_near},
   RuleLaws.{alternate_once, rule_time, rule_year},
-  Words.{Alternate, AlternateAt, Bool, Change, Contains, DayTime, IsAlternateRule, IsChange, IsDstAt, IsEarlierOf, IsInSomeYear, IsLaterOf, IsNearest, IsOfYear},
-  Words.{IsOneOf, IsRuleDay, IsRuleTime, IsRuleYear, IsYearOf, LocalType, Option, Precedes, arith, by_lt_z, days_at_least, end_in, false, floor_div, floors},
-  Words.{get_or_default, inl, inr, is_leap, kind_place, length, linear, moment, moments_near, new_year, one_year, pos, refl, start_in, starts_rise, subst, true, weekday_of},
-  Words.{year_at, year_start, year_step, ℕ, ℤ, ◌*ℤ◌, ◌+ℤ◌, ◌+◌, ◌-ℤ◌, ◌<ℤ◌, ◌↔◌, ◌∙◌, ◌≡◌, ◌≢◌, ◌≤ℤ◌, ◌⊎◌},
+  Words.{Alternate, AlternateAt, Bool, Change, Contains, DayTime, IsAlternateRule, IsChange, IsDstAt, IsEarlierOf, IsInSomeYear, IsLaterOf, IsNearest},
+  Words.{IsOfYear, IsOneOf, IsRuleDay, IsRuleTime, IsRuleYear, IsYearOf, LocalType, Option, Precedes, arith, by_lt_z, days_at_least, end_in, false, floor_div},
+  Words.{floors, get_or_default, inl, inr, is_leap, kind_place, length, linear, moment, moments_near, new_year, one_year, pos, refl, start_in, starts_rise},
+  Words.{subst, true, weekday_of, year_at, year_start, year_step, ℕ, ℤ, ◌*ℤ◌, ◌+ℤ◌, ◌+◌, ◌-ℤ◌, ◌<ℤ◌, ◌↔◌, ◌∙◌, ◌≡◌, ◌≢◌, ◌≤ℤ◌, ◌⊎◌},
 }
 
 pub rule_second : (a : Alternate) (u : ℤ) (t : LocalType) → AlternateAt a u t → IsRuleTime u
@@ -58,11 +58,14 @@ moment_again t offset fits year k =
     let start = start_again year k in
     omega (arith, floors)
 
-some_again : (f g : ℤ → ℤ) (u v k : ℤ) → ComesAgain f → ComesAgain g → v ≡ u +ℤ cycle *ℤ k → IsInSomeYear f g u → IsInSomeYear f g v
-some_again f g u v k cf cg e (y, a, b) = let h = cf y k in let m = cg y k in (y +ℤ pos 400 *ℤ k, omega linear, omega linear)
-
 -- two seconds so far apart
 module _ (u v k : ℤ) (e : v ≡ u +ℤ cycle *ℤ k) where
+  some_again : (f g : ℤ → ℤ) → ComesAgain f → ComesAgain g → IsInSomeYear f g u ↔ IsInSomeYear f g v
+  some_again f g cf cg = (
+    (λ i. let (y, a, b) = i in let h = cf y k in let m = cg y k in (y +ℤ pos 400 *ℤ k, omega linear, omega linear)),
+    (λ i. let (y, a, b) = i in let h = cf y (pos 0 -ℤ k) in let m = cg y (pos 0 -ℤ k) in (y +ℤ pos 400 *ℤ (pos 0 -ℤ k), omega linear, omega linear)),
+  )
+
   year_again : (year : ℤ) → IsYearOf u year → IsYearOf v (year +ℤ pos 400 *ℤ k)
   year_again year h =
       let a = start_again year k in
@@ -74,7 +77,6 @@ module _ (u v k : ℤ) (e : v ≡ u +ℤ cycle *ℤ k) where
   type_again : (a : Alternate) (t : LocalType) → IsAlternateRule a → AlternateAt a u t → IsRuleTime v → AlternateAt a v t
   type_again a t rule h time =
       let starts = moment_again a.start a.std.offset rule.start_day in let ends = moment_again a.end a.dst.offset rule.end_day in
-      let back : u ≡ v +ℤ cycle *ℤ (pos 0 -ℤ k) = omega linear in
       let own = year_again h.year h.of_second in
       let s = starts h.year k in let t = ends h.year k in
       record {
@@ -82,8 +84,7 @@ module _ (u v k : ℤ) (e : v ≡ u +ℤ cycle *ℤ k) where
         of_second = own;
         inside = rule_year v _ own time;
         dst = h.dst;
-        when = dst_alike _ _ h.year _ u v _ (omega linear) (some_again _ _ u v k starts ends e, some_again _ _ v u (pos 0 -ℤ k) starts ends back)
-            (some_again _ _ u v k ends starts e, some_again _ _ v u (pos 0 -ℤ k) ends starts back) h.when;
+        when = dst_alike _ _ h.year _ u v _ (omega linear) (some_again _ _ starts ends) (some_again _ _ ends starts) h.when;
         shown = h.shown;
       }
 

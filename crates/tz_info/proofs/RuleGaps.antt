@@ -2,13 +2,13 @@
 use Rattle.std.specs.Prelude.{⊤}
 use Rattle.tz_info.proofs.{
   GapLaws.{IsNever, gap_found},
-  RuleLaws.{alternate_once},
+  RuleLaws.alternate_once,
   SeasonAnswers.{amid, greater},
   WallSegments.{not_begun, rule_begun},
   Words.{Alternate as AlternateRule, AlternateAt, AreLess, Bool, Change, HasGap, IsAlternateRule, IsDecidedIn, IsNear, IsNeverFrom, IsRuleGap, IsSeason},
   Words.{IsSeasonFor, IsSeasonIn, IsSeasonOf, IsStart, IsTableLess, IsValid, IsWide, IsWindowOf, LocalType, MatchOption, None, Option, Season, Some},
-  Words.{TransitionRule, TypeAt, Zone, arith, by_lt_z, cond, false, int_lt, is_dst_by_one, length, linear, not, pos, subst, sym, table_count, true},
-  Words.{type_when, ℤ, ◌+ℤ◌, ◌-ℤ◌, ◌<ℤ◌, ◌≡◌, ◌≤ℤ◌},
+  Words.{TransitionRule, TypeAt, Zone, arith, by_lt_z, cond, false, int_lt, is_dst_by_one, length, linear, not, pos, subst, sym, table_count, true, type_when},
+  Words.{ℤ, ◌+ℤ◌, ◌-ℤ◌, ◌<ℤ◌, ◌≡◌, ◌≤ℤ◌},
   ZoneChanges.{from_rule, to_rule},
 }
 use Rattle.tz_info.specs.declared.rule.transition_rule.TransitionRule.TheVariants.{Alternate}

@@ -1,10 +1,10 @@
 -- What a season's moments decide.
 use Rattle.tz_info.proofs.{
-  KindLaws.{IsMargin},
+  KindLaws.IsMargin,
   Neighbours.{IsBeside, dst_by_one},
   RuleLaws.{alternate_at, year_found},
-  Words.{Alternate, IsSeason, IsYearOf, LiesIn, Season, ap, arith, days_at_least, end_in, floor_div, floors, inl, inr, int_le, is_dst_by_one, lies_in, neg_ℤ},
-  Words.{one_year, pos, refl, start_in, year_of, year_start, year_step, ℤ, ◌*ℤ◌, ◌+ℤ◌, ◌-ℤ◌, ◌≡◌, ◌⊎◌},
+  Words.{Alternate, IsSeason, IsYearOf, Season, ap, arith, days_at_least, end_in, floor_div, floors, inl, inr, int_le, is_dst_by_one, lies_in, neg_ℤ, one_year},
+  Words.{pos, refl, start_in, year_of, year_start, year_step, ℤ, ◌*ℤ◌, ◌+ℤ◌, ◌-ℤ◌, ◌≡◌, ◌⊎◌},
 }
 
 -- a second eight days or more from the neighbouring years lies in the year
@@ -35,4 +35,6 @@ season_made a margin year _ s kept begins from until start end = record {
 
 -- the first day of a year lies in it
 pub own_start : (year : ℤ) → year_of (year_start year) ≡ year
-own_start year = let step = year_step year in let least = days_at_least year in one_year (year_start year) _ year (lies_in _) (omega (arith, floors), omega (arith, floors))
+own_start year =
+    let step = year_step year in let least = days_at_least year in
+    one_year (year_start year) _ year (lies_in _) (omega (arith, floors), omega (arith, floors))

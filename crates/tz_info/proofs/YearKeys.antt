@@ -1,14 +1,14 @@
 -- Years of one key have changes at the same places.
-use Rattle.std.proofs.{Math.Dec.{eqb}, lemmas.Bool.{eqb-true}}
+use Rattle.std.proofs.{Math.Dec.eqb, lemmas.Bool.eqb-true}
 use Rattle.tz_info.proofs.{
-  ListLaws.{one_true},
+  ListLaws.one_true,
   Words.{Bool, IsRuleYear, List, SFits, all_below, ap, arith, cond, false, floor_div, floor_mod, floor_mod_parts, floors, get_or, int_le, int_lt, is_leap},
-  Words.{kind_place, length, linear, nat_le, nat_lt, pos, refl, true, w32, weekday_below, weekday_of, year_start, year_step, ℕ, ℤ, ◌%◌, ◌&&◌, ◌*ℤ◌, ◌+ℤ◌},
-  Words.{◌-ℤ◌, ◌<◌, ◌∙◌, ◌≡◌, ◌≤ℤ◌, ◌↔◌},
+  Words.{kind_place, length, linear, nat_le, nat_lt, pos, refl, true, w32, weekday_below, weekday_of, year_start, year_step, ℕ, ℤ, ◌%◌, ◌&&◌, ◌*ℤ◌, ◌+ℤ◌, ◌-ℤ◌},
+  Words.{◌<◌, ◌∙◌, ◌≡◌, ◌≤ℤ◌, ◌↔◌},
 }
 use Rattle.tz_info.specs.{
   Steps.ChangingYears.{dst_near, flips_at, has_flip, is_changing, key_years, leap_place, moment_by, turns_in, year_key, years_near},
-  declared.rule.{changing.YearsNear.{YearsNear}, moments.Turns.{Turns}},
+  declared.rule.{changing.YearsNear.YearsNear, moments.Turns.Turns},
 }
 
 -- ---- the same seconds, all as much later
@@ -67,7 +67,7 @@ IsSolo a b c d = (a ≡ true → b ≡ true → ⊥) × (a ≡ true → c ≡ tr
 
 solo_at : (a b c d : Bool) → IsSolo a b c d → let p = place_of a b c d in (a ≡ eqb 0 p) × (b ≡ eqb 1 p) × (c ≡ eqb 2 p) × (d ≡ eqb 3 p)
 unfolding IsSolo
-solo_at a b c d h = (grind arith, grind arith, grind arith, grind arith)
+solo_at a b c d h = grind arith
 
 leaps_solo : (x : ℤ) → IsSolo (is_leap (x -ℤ pos 1)) (is_leap x) (is_leap (x +ℤ pos 1)) (is_leap (x +ℤ pos 2))
 unfolding IsSolo
@@ -116,7 +116,8 @@ day_later s t q e = omega linear
 
 next_alike : (x y v w q : ℤ) → v ≡ x +ℤ pos 1 → w ≡ y +ℤ pos 1 → is_leap x ≡ is_leap y
     → (year_start y ≡ year_start x +ℤ pos 7 *ℤ q) ↔ (year_start w ≡ year_start v +ℤ pos 7 *ℤ q)
-next_alike x y v w q e f leap = let a = year_step x in let b = rw (← leap) at (year_step y) in rw (e, f) (λ s. omega (arith, floors), λ s. omega (arith, floors))
+next_alike x y v w q e f leap =
+    let a = year_step x in let b = rw (← leap) at (year_step y) in rw (e, f) (λ s. omega (arith, floors), λ s. omega (arith, floors))
 
 -- two years whose starts are whole weeks apart
 module _ (x y q : ℤ) (leaps : LeapsAlike x y) (start : year_start y ≡ year_start x +ℤ pos 7 *ℤ q) where

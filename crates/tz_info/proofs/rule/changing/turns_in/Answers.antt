@@ -1,5 +1,6 @@
 use Rattle.std.specs.Prelude.{neg_ℤ, slice_index_or, ◌≤ℤ◌}
-use Rattle.tz_info.{proofs.Words.{IsDay, List, SFits, arith, floors, pos, refl, to_z-of_z, w64, year_start, ℤ, ◌*ℤ◌, ◌+ℤ◌, ◌≡◌}, specs.Steps.{ChangingYears.AreWithinYears, Kinds.kind_place}}
+use Rattle.tz_info.proofs.Words.{IsDay, List, SFits, arith, floors, kind_place, pos, refl, to_z-of_z, w64, year_start, ℤ, ◌*ℤ◌, ◌+ℤ◌, ◌≡◌}
+use Rattle.tz_info.specs.Steps.ChangingYears.{AreWithinYears}
 use Rattle.tz_info.proofs.rule.changing.turns_in.Goals.{After-kind_of-kind}
 use Rattle.tz_info.proofs.rule.changing.turns_in.Goals as goal
 
@@ -11,7 +12,8 @@ fits first second day bound = (omega (arith, floors), omega (arith, floors), ome
 kind : (c : After-kind_of-kind) → c.kind_of-kind.result ≡ kind_place c.args.year
 kind c = grind (arith, to_z-of_z)
 
-bound : (c : After-kind_of-kind) (seconds : List ℤ) → AreWithinYears seconds → (neg_ℤ (pos 63_072_000) ≤ℤ slice_index_or seconds c.kind_of-kind.result (pos 0)) ×
+bound : (c : After-kind_of-kind) (seconds : List ℤ) → AreWithinYears seconds
+    → (neg_ℤ (pos 63_072_000) ≤ℤ slice_index_or seconds c.kind_of-kind.result (pos 0)) ×
     (slice_index_or seconds c.kind_of-kind.result (pos 0) ≤ℤ pos 63_072_000)
 bound c seconds within = rw (kind c) (within c.args.year)
 

@@ -1,7 +1,8 @@
 use Rattle.std.proofs.Math.Bool.{beq}
 use Rattle.tz_info.proofs.{
   SeasonAnswers.{amid, asked_in_turn, both_asked, greater},
-  Words.{arith, Bool, Bor, Counts, LocalType, SFits, ap, inl, int_lt, joined, map_of, not, refl, rules, shown_if, to_z-of_z, type_when, w32, w64, ◌-ℤ◌, ◌∙◌, ◌≡◌},
+  Words.{Bool, Bor, Counts, LocalType, SFits, ap, arith, inl, int_lt, joined, map_of, not, refl, rules, shown_if, to_z-of_z, type_when, w32, w64, ◌-ℤ◌, ◌∙◌},
+  Words.{◌≡◌},
 }
 use Rattle.tz_info.proofs.rule.alternate.AlternateTime.answer_amid.Goals.{After-second_showing-by_last}
 use Rattle.tz_info.proofs.rule.alternate.AlternateTime.answer_amid.Goals as goal
@@ -23,7 +24,8 @@ seconds c =
       c.ranges.from,
       search rules,
       search rules,
-      rw (c.offset.ensures.value ∙ ap (λ (t : LocalType). t.offset) c.std.ensures.value, c.offset-2.ensures.value ∙ ap (λ (t : LocalType). t.offset) c.dst.ensures.value) refl,
+      rw (c.offset.ensures.value ∙ ap (λ (t : LocalType). t.offset) c.std.ensures.value,
+      c.offset-2.ensures.value ∙ ap (λ (t : LocalType). t.offset) c.dst.ensures.value) refl,
       first,
       last,
       rw (c.offset-3.ensures.value, first) at (simp to_z-of_z at c.second_showing-by_first.ensures.value),

@@ -1,7 +1,7 @@
 use Rattle.tz_info.proofs.Words.{arith}
 use Rattle.tz_info.proofs.{
-  ChangingYears.{turn_change},
-  Words.{Alternate, Bool, SFits, cond, end_in, refl, rules, start_in, sym, to_z-of_z, true, turn_of, w64, ℤ, ◌∙◌, ◌≡◌, ◌≢◌},
+  ChangingYears.turn_change,
+  Words.{Alternate, Bool, SFits, cond, end_in, refl, start_in, sym, to_z-of_z, true, turn_of, w64, ℤ, ◌∙◌, ◌≡◌, ◌≢◌},
 }
 use Rattle.tz_info.proofs.rule.alternate.AlternateTime.turn_within.Goals.{After-moment-at}
 use Rattle.tz_info.proofs.rule.alternate.AlternateTime.turn_within.Goals as goal
