@@ -120,9 +120,9 @@ from_next a w _ n rule none from d is y of_year beyond =
 pub none_out : (a : Alternate) (w : Bool) (first : ℤ) (n : ℕ) → IsRuleYear first → (IsRuleYear (year_at w first n) → ⊥) → AreFrom a w first (year_at w first n)
     → HasNoneBeyond a w first
 none_out a true _ n inside out from d is y of_year beyond =
-    let on = from d is y of_year beyond in let own = of_rule a y d y is of_year in out (omega linear, omega linear)
+    let on = from d is y of_year beyond in let own = of_rule a y d y is of_year in out (omega linear)
 none_out a false first n inside out from d is y of_year beyond =
-    let on = from d is y of_year beyond in let own = of_rule a y d y is of_year in out (omega linear, omega linear)
+    let on = from d is y of_year beyond in let own = of_rule a y d y is of_year in out (omega linear)
 
 -- where 400 years have none, no later or earlier year has one
 pub never_beyond : (a : Alternate) (w : Bool) (first : ℤ) → IsAlternateRule a → IsRuleYear first → AreFrom a w first (year_at w first 401)
@@ -130,12 +130,12 @@ pub never_beyond : (a : Alternate) (w : Bool) (first : ℤ) → IsAlternateRule 
 never_beyond a true first rule inside from d is y of_year beyond =
     let on = from d is y of_year beyond in let own = of_rule a y d y is of_year in
     let (k, low, high) = cycles_to y first in
-    let (again, then) = change_again a d y k rule is of_year (omega linear, omega linear) (omega linear, omega linear) in
+    let (again, then) = change_again a d y k rule is of_year (omega linear) (omega linear) in
     let r = from (change_then d k) again _ then (omega linear) in omega linear
 never_beyond a false first rule inside from d is y of_year beyond =
     let on = from d is y of_year beyond in let own = of_rule a y d y is of_year in
     let (k, low, high) = cycles_to y (first -ℤ pos 401) in
-    let (again, then) = change_again a d y k rule is of_year (omega linear, omega linear) (omega linear, omega linear) in
+    let (again, then) = change_again a d y k rule is of_year (omega linear) (omega linear) in
     let r = from (change_then d k) again _ then (omega linear) in omega linear
 
 -- a rule that never changes the clocks has no change at all

@@ -82,7 +82,7 @@ apart : (x y k v w : ℤ) → k +ℤ x ≡ v → k +ℤ y ≡ w → (are_apart x
 apart x y k v w e f = (λ h. grind linear, λ h same. grind linear)
 
 turned : (s e : ℤ) (to_dst : Bool) → s ≢ e → (is_dst_by_one s e (cond to_dst s e) ≡ to_dst) × (is_dst_by_one s e (cond to_dst s e -ℤ pos 1) ≡ not to_dst)
-turned s e to_dst apart = (grind arith, grind arith)
+turned s e to_dst apart = grind arith
 
 never_dst : (s e u v : ℤ) → s ≡ e → is_dst_by_one s e u ≡ is_dst_by_one s e v
 never_dst s e u v one = grind arith
@@ -93,7 +93,7 @@ dst_alike s e u h k = grind linear
 amid : (moments : ℤ → ℤ) (year : ℤ) → KeepsMargin moments (pos 172_800) → IsYearOf (moments year) year × IsYearOf (moments year -ℤ pos 1) year
 amid moments year h =
     let low = h.low year in let high = h.high year in let step = year_step year in let least = days_at_least year in
-    ((omega (arith, floors), omega (arith, floors)), (omega (arith, floors), omega (arith, floors)))
+    omega (arith, floors)
 
 -- a rule
 module _ (a : Alternate) (rule : IsAlternateRule a) where
@@ -107,12 +107,12 @@ module _ (a : Alternate) (rule : IsAlternateRule a) where
   near_tells year u time low high =
       let next = year +ℤ pos 1 in
       by_lt_z u (new_year next)
-      (λ l. rw (lt_true u _ l) (own_type year u (omega (arith, floors), omega (arith, floors)) time))
+      (λ l. rw (lt_true u _ l) (own_type year u (omega (arith, floors)) time))
       (λ m.
       let step = year_step next in let least = days_at_least next in
       let e : next -ℤ pos 1 ≡ year = omega linear in
       let f : next +ℤ pos 1 ≡ year +ℤ pos 2 = omega linear in
-      rw (lt_false u _ m) (rw (e, f) at (own_type next u (omega (arith, floors), omega (arith, floors)) time)))
+      rw (lt_false u _ m) (rw (e, f) at (own_type next u (omega (arith, floors)) time)))
 
   near_by_kind : (year : ℤ) → years_near (start_in a) (end_in a) year ≡ years_near (moment_by (starts_of a)) (moment_by (ends_of a)) year
   near_by_kind year = grind (linear, starts_of, by_kind, ends_of)
@@ -126,7 +126,7 @@ module _ (a : Alternate) (rule : IsAlternateRule a) where
     pub calm_tells : (year : ℤ) → Tells a year (is_dst_by_one (start_in a year) (end_in a year))
     calm_tells year u time low high =
         let step = year_step year in let most = days_at_most year in
-        (season_made a _ _ _ _ calm_margin refl refl refl refl refl).decided u time (omega (arith, floors), omega (arith, floors))
+        (season_made a _ _ _ _ calm_margin refl refl refl refl refl).decided u time (omega (arith, floors))
 
     inside : (year : ℤ) (to_dst : Bool) → IsYearOf (turn_of a to_dst year) year × IsYearOf (turn_of a to_dst year -ℤ pos 1) year
     inside year true = amid _ year calm_margin.start
@@ -189,7 +189,7 @@ module _ (a : Alternate) (rule : IsAlternateRule a) where
       let near = years_near (start_in a) (end_in a) year in
       let (k, u, below, at, on) = Any-from_list_any (flips_at near) (seconds_near near) (ap (λ y. has_flip y) (near_by_kind year) ∙ some) in
       let (low, high, differ) = flip_on _ _ u _ _ on in
-      let of_year : IsYearOf (u -ℤ pos 1) year = (omega (arith, floors), omega (arith, floors)) in
+      let of_year : IsYearOf (u -ℤ pos 1) year = omega (arith, floors) in
       (_, turn a year _ (near_tells year) u of_rule (rule_until u year of_year of_rule next) of_year types differ, of_year)
 
   pub one_in : (year : ℤ) → IsRuleYear year → IsRuleYear (year +ℤ pos 1) → a.std ≢ a.dst → changes_in_year a year ≡ true → HasOneIn a year
@@ -229,7 +229,7 @@ module _ (a : Alternate) (rule : IsAlternateRule a) where
   still u v t none h last le =
       let first = rule_second a u t h in
       stays _ u v t (omega linear) (omega linear) le none
-      (λ w low high. (_, own_type a rule _ w (lies_in (floor_div w 86_400)) (omega linear, omega linear))) h
+      (λ w low high. (_, own_type a rule _ w (lies_in (floor_div w 86_400)) (omega linear))) h
 
   pub unchanged : (u v : ℤ) (s t : LocalType) → HasNoChange (AlternateAt a) (λ w. (u <ℤ w) × (w ≤ℤ v)) → AlternateAt a u s → AlternateAt a v t → u ≤ℤ v → s ≡ t
   unchanged u v s t none h k le = alternate_once a v s t (still u v s none h (rule_second a v t k) le) k
@@ -247,6 +247,6 @@ module _ (a : Alternate) (rule : IsAlternateRule a) where
       let few = rw (key_total a) at below in
       let bound = keys_are k few in
       let e = get_or_default (keys_of a) k false b below ∙ at ∙ on in
-      let (d, is, of_year) = one_in a rule (get_or key_years k (pos 0)) (omega linear, omega linear) (omega linear, omega linear) types
+      let (d, is, of_year) = one_in a rule (get_or key_years k (pos 0)) (omega linear) (omega linear) types
       (sym (key_at _ _ k few) ∙ e) in
       is.differ (never (d.at -ℤ pos 1) d.at d.before d.after is.before is.after)

@@ -20,7 +20,7 @@ pub rule_until : (u year : ℤ) → IsYearOf (u -ℤ pos 1) year → IsRuleYear 
 rule_until u year of_year inside next =
     let here = rule_time _ _ of_year inside in
     let step = year_step (year +ℤ pos 1) in let least = days_at_least (year +ℤ pos 1) in
-    let there = rule_time (new_year (year +ℤ pos 1)) _ (omega (arith, floors), omega (arith, floors)) next in
+    let there = rule_time (new_year (year +ℤ pos 1)) _ (omega (arith, floors)) next in
     (omega linear, omega (arith, floors))
 
 -- what some years' moments enclose at two seconds alike is daylight saving time at both, if moments come in one order
@@ -71,7 +71,7 @@ module _ (u v k : ℤ) (e : v ≡ u +ℤ cycle *ℤ k) where
       let a = start_again year k in
       let shift : (year +ℤ pos 1) +ℤ pos 400 *ℤ k ≡ (year +ℤ pos 400 *ℤ k) +ℤ pos 1 = omega linear in
       let b = rw shift at (start_again (year +ℤ pos 1) k) in
-      (omega (arith, floors), omega (arith, floors))
+      omega (arith, floors)
 
   -- the rule has the same type at both, if it answers
   type_again : (a : Alternate) (t : LocalType) → IsAlternateRule a → AlternateAt a u t → IsRuleTime v → AlternateAt a v t
@@ -128,7 +128,7 @@ change_near a year d rule is before = elim (decided _ (is_member int_eq (moments
   | inr none ↦
       let low = second_low _ _ before in let high = second_high _ _ before in
       let below : d.at <ℤ new_year (year +ℤ pos 1) = by_lt_z d.at (new_year (year +ℤ pos 1)) (λ l. l) (λ m. absurd (none (6, omega arith, omega linear))) in
-      let here : IsYearOf d.at year = (omega (arith, floors), omega (arith, floors)) in
+      let here : IsYearOf d.at year = omega (arith, floors) in
       let first = avoids _ year d.at (λ e. none (0, omega arith, e)) (λ e. none (2, omega arith, e)) (λ e. none (4, omega arith, e)) in
       let last = avoids _ year d.at (λ e. none (1, omega arith, e)) (λ e. none (3, omega arith, e)) (λ e. none (5, omega arith, e)) in
       let b = is.before in
@@ -194,4 +194,4 @@ nearest_of_year w a year after last from until found rule later earlier =
     ))
     (λ d is one.
     let l = (later (d.at -ℤ pos 1)).0 (omega linear) in let e = (earlier d.at).0 one.inside.1 in
-    (is, record { inside = (omega linear, e.0); of_year = (omega (arith, floors), omega (arith, floors)) }))
+    (is, record { inside = (omega linear, e.0); of_year = (omega (arith, floors)) }))

@@ -66,13 +66,13 @@ gap_at a s from l dst rule wide is h never =
     let most = t.most in
     let near : (w : ℤ) → u ≤ℤ w → w ≤ℤ v → IsNear w = λ w h k. (omega linear, omega (linear, near_v)) in
     let lesser : (w : ℤ) → u ≤ℤ w → w <ℤ moment → AlternateAt a w (type_when a (not dst)) =
-    λ w k m. at a s w _ h.season (near w k (omega linear)) (omega linear, omega linear) (t.before w k m) in
+    λ w k m. at a s w _ h.season (near w k (omega linear)) (omega linear) (t.before w k m) in
     record {
       near = near _ (omega linear) most;
       near_before = near _ (omega linear) (omega linear);
       since = omega linear;
       before = lesser (moment -ℤ pos 1) (omega linear) (omega linear);
-      after = at a s _ dst h.season (near _ (omega linear) most) (omega linear, omega linear) t.here;
+      after = at a s _ dst h.season (near _ (omega linear) most) (omega linear) t.here;
       more = omega linear;
       less = λ w f since_w k is. by_lt_z w u
           (λ b.

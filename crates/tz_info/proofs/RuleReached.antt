@@ -125,7 +125,7 @@ module _ (a : Alternate) (begin local low : ℤ) (rule : IsAlternateRule a) (low
       from = omega (linear, clamps);
       shown = record {
         fits = omega (linear, near);
-        type = still a rule low shown s none here (omega (linear, near), omega (linear, near)) (omega (linear, clamps));
+        type = still a rule low shown s none here (omega (linear, near)) (omega (linear, clamps));
         reached = omega (linear, clamps);
       };
       first = λ v r begun shows. by_lt_z v shown

@@ -26,7 +26,7 @@ season_made a margin year _ s kept begins from until start end = record {
       let day = floor_div u 86_400 in
       let own = year_of day in
       let found = year_found u day own refl refl within in
-      let beside : IsBeside margin year u = (omega (arith, floors), omega (arith, floors)) in
+      let beside : IsBeside margin year u = omega (arith, floors) in
       let dst = is_dst_by_one s.turns.start s.turns.end u in
       alternate_at a u day own dst refl found.0 found.1
       (dst_by_one _ _ _ _ own u dst kept.start kept.end beside
@@ -37,4 +37,4 @@ season_made a margin year _ s kept begins from until start end = record {
 pub own_start : (year : ℤ) → year_of (year_start year) ≡ year
 own_start year =
     let step = year_step year in let least = days_at_least year in
-    one_year (year_start year) _ year (lies_in _) (omega (arith, floors), omega (arith, floors))
+    one_year (year_start year) _ year (lies_in _) (omega (arith, floors))

@@ -183,4 +183,4 @@ key_below year =
 
 -- a year that a rule answers in and the years near it fit 32 bits
 pub near_fit : (year : ℤ) → IsRuleYear year → SFits w32 year × SFits w32 (year -ℤ pos 1) × SFits w32 (year +ℤ pos 1) × SFits w32 (year +ℤ pos 2)
-near_fit year h = (omega linear, omega linear, omega linear, omega linear)
+near_fit year h = omega linear

@@ -7,7 +7,7 @@ use Rattle.tz_info.proofs.rule.changing.turns_in.Goals as goal
 -- the numbers on the way fit 64 bits
 fits : (first second : ℤ) → IsDay first → (neg_ℤ (pos 63_072_000) ≤ℤ second) × (second ≤ℤ pos 63_072_000)
     → SFits w64 first × SFits w64 (pos 86_400 *ℤ first) × SFits w64 second × SFits w64 (pos 86_400 *ℤ first +ℤ second)
-fits first second day bound = (omega (arith, floors), omega (arith, floors), omega (arith, floors), omega (arith, floors))
+fits first second day bound = omega (arith, floors)
 
 kind : (c : After-kind_of-kind) → c.kind_of-kind.result ≡ kind_place c.args.year
 kind c = grind (arith, to_z-of_z)

@@ -15,14 +15,14 @@ low c = let fm : SFits w64 c.max-low.result = search rules in
 pub type_and_change-requires-clause-time : goal.type_and_change-requires-clause-time
 type_and_change-requires-clause-time c =
     let (fm, near, is) = low (goal.at.type_and_change-requires-clause-time c).After-max-low in
-    (omega (arith, ints), omega (arith, ints))
+    omega (arith, ints)
 
 -- the second at which the type in force then shows it, which is near too
 shown : (c : After-max-shown) → IsNear c.max-low.result → SFits w64 c.max-low.result → SFits w64 c.max-shown.result × IsNear c.max-shown.result
     × (c.max-shown.result ≡ int_max c.max-low.result (c.args.local -ℤ c.type_and_change.result.0.now.offset))
 shown c near fm =
     let ft : SFits w64 c.max-shown.result = search rules in
-    (ft, (omega (arith, ints, clamps), omega (arith, ints, clamps)), omega (arith, ints, clamps))
+    (ft, (omega (arith, ints, clamps)), omega (arith, ints, clamps))
 
 pub returns-in-Some-clause-first : goal.returns-in-Some-clause-first
 returns-in-Some-clause-first c =

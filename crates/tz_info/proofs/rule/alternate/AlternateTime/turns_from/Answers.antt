@@ -6,7 +6,7 @@ use Rattle.tz_info.proofs.rule.alternate.AlternateTime.turns_from.Goals as goal
 fits : (first second at : ℤ) → IsDay first → IsKept first second at
     → SFits w64 first × SFits w64 (pos 86_400 *ℤ first) × SFits w64 second × SFits w64 (pos 86_400 *ℤ first +ℤ second)
 fits first second at bound kept =
-    (omega (arith, floors), omega (arith, floors), omega (arith, floors), omega (arith, floors))
+    omega (arith, floors)
 
 pub overflow_add-result : goal.overflow_add-result
 overflow_add-result c =
