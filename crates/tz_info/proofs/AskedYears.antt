@@ -3,8 +3,8 @@ use Rattle.tz_info.proofs.{
   ChangeSearch.{decided, in_ahead, nearest_moved},
   ChangingYears.{none_in, one_in, steady_alike},
   RuleChanges.{change_again, change_then, cycles_to, later_year, rule_second, same_or_not, seconds_follow, year_on, years_rise},
-  RuleLaws.{rule_year},
-  Words.{arith, Alternate, AlternateAt, AreFrom, Bool, Change, HasNoChange, HasNoneBeyond, IsAhead, IsAlternateRule, IsChange, IsNearest, IsNearestChange},
+  RuleLaws.rule_year,
+  Words.{Alternate, AlternateAt, AreFrom, Bool, Change, HasNoChange, HasNoneBeyond, IsAhead, IsAlternateRule, IsChange, IsNearest, IsNearestChange},
   Words.{IsNextChanging, IsOfYear, IsRuleYear, IsStretchAhead, IsYearNear, IsYearOf, NeverChanges, None, Option, Precedes, Some, by_lt_z, changes_in_year},
   Words.{false, inl, inr, linear, neg_ℤ, pos, true, type_exact, year_at, ℕ, ℤ, ◌+ℤ◌, ◌+◌, ◌-ℤ◌, ◌<◌, ◌≡◌, ◌⊎◌},
 }
@@ -115,14 +115,14 @@ pub from_next : (a : Alternate) (w : Bool) (first : ℤ) (n : ℕ) → IsAlterna
     → AreFrom a w first (year_at w first n)
     → AreFrom a w first (year_at w first (n + 1))
 from_next a w _ n rule none from d is y of_year beyond =
-    year_on w _ y n (λ e. none_in a rule _ d none is (rw e at of_year)) (from d is y of_year beyond)
+    year_on w _ y n (λ e. none_in a rule _ none d is (rw e at of_year)) (from d is y of_year beyond)
 
 pub none_out : (a : Alternate) (w : Bool) (first : ℤ) (n : ℕ) → IsRuleYear first → (IsRuleYear (year_at w first n) → ⊥) → AreFrom a w first (year_at w first n)
     → HasNoneBeyond a w first
 none_out a true _ n inside out from d is y of_year beyond =
-    let on = from d is y of_year beyond in let own = of_rule a y d y is of_year in out (omega linear, omega linear)
+    let on = from d is y of_year beyond in let own = of_rule a y d y is of_year in out (omega linear)
 none_out a false first n inside out from d is y of_year beyond =
-    let on = from d is y of_year beyond in let own = of_rule a y d y is of_year in out (omega linear, omega linear)
+    let on = from d is y of_year beyond in let own = of_rule a y d y is of_year in out (omega linear)
 
 -- where 400 years have none, no later or earlier year has one
 pub never_beyond : (a : Alternate) (w : Bool) (first : ℤ) → IsAlternateRule a → IsRuleYear first → AreFrom a w first (year_at w first 401)
@@ -130,12 +130,12 @@ pub never_beyond : (a : Alternate) (w : Bool) (first : ℤ) → IsAlternateRule 
 never_beyond a true first rule inside from d is y of_year beyond =
     let on = from d is y of_year beyond in let own = of_rule a y d y is of_year in
     let (k, low, high) = cycles_to y first in
-    let (again, then) = change_again a d y k rule is of_year (omega linear, omega linear) (omega linear, omega linear) in
+    let (again, then) = change_again a d y k rule is of_year (omega linear) (omega linear) in
     let r = from (change_then d k) again _ then (omega linear) in omega linear
 never_beyond a false first rule inside from d is y of_year beyond =
     let on = from d is y of_year beyond in let own = of_rule a y d y is of_year in
     let (k, low, high) = cycles_to y (first -ℤ pos 401) in
-    let (again, then) = change_again a d y k rule is of_year (omega linear, omega linear) (omega linear, omega linear) in
+    let (again, then) = change_again a d y k rule is of_year (omega linear) (omega linear) in
     let r = from (change_then d k) again _ then (omega linear) in omega linear
 
 -- a rule that never changes the clocks has no change at all

@@ -1,11 +1,10 @@
 -- The candidates of a wall clock: each second that shows a local time is that time less the offset of a type in force there.
 use Rattle.offset_core.specs.declared.local_result.LocalResult.TheVariants.{None, Single}
 use Rattle.tz_info.proofs.{
-  AnswerLaws.{same_answer},
-  RuleLaws.{rule_once},
+  AnswerLaws.same_answer,
+  RuleLaws.rule_once,
   Words.{Alternate as AlternateRule, AlternateAt, Bool, Contains, FitsSigned, IsAskedLast, IsWallAnswer, LocalResult, LocalType, RuleAt, Shows, Some},
-  Words.{TransitionRule, TypeFrom, arith, inl, inr, joined, linear, refl, rule_offsets, type_when, w64, ℤ, ◌+ℤ◌, ◌-ℤ◌, ◌<ℤ◌, ◌≡◌, ◌≤ℤ◌},
-  Words.{◌⊎◌},
+  Words.{TransitionRule, TypeFrom, arith, inl, inr, joined, linear, rule_offsets, type_when, w64, ℤ, ◌+ℤ◌, ◌-ℤ◌, ◌<ℤ◌, ◌≡◌, ◌≤ℤ◌, ◌⊎◌},
 }
 use Rattle.tz_info.specs.declared.rule.transition_rule.TransitionRule.TheVariants.{Alternate, Fixed}
 
@@ -35,7 +34,7 @@ module _ (a : AlternateRule) (t : LocalType) where
 
   -- an alternate rule has its standard type or its daylight saving type
   pub one_of_two : (u : ℤ) → AlternateAt a u t → (t ≡ a.std) ⊎ (t ≡ a.dst)
-  one_of_two u k = one_of _ k.shown
+  one_of_two u k = grind arith
 
   pub std_or_dst : (from l u : ℤ) → Shows (TypeFrom (Alternate a) from) l u t → (u ≡ l -ℤ a.std.offset) ⊎ (u ≡ l -ℤ a.dst.offset)
   std_or_dst _ l u s = grind (arith, shown_at)
@@ -63,7 +62,7 @@ asked_found _ _ l o t _ fits since k e = grind linear
 
 pub asked_other : (rule : TransitionRule) (from l o : ℤ) (t : LocalType) (before : LocalResult LocalType) → RuleAt rule (l -ℤ o) t → (t.offset ≡ o → ⊥)
     → IsAskedLast (TypeFrom rule from) l o before before
-asked_other rule from l o t before k other = grind (linear, rule_once, other)
+asked_other rule from l o t before k other = grind (linear, rule_once)
 
 -- from the first second of 64 bits on all that show the local time are asked
 pub from_least : (rule : TransitionRule) (from l : ℤ) (answer : LocalResult LocalType) → ((u : ℤ) → FitsSigned w64 u → from ≤ℤ u)

@@ -1,5 +1,5 @@
 -- A rule of two types changes the clocks in the years in which daylight saving time begins or ends, if the types differ.
-use Rattle.std.proofs.{Math.Bool.{beq}, lemmas.{List.Folds.{Any-from_list_any, list_any_at}}}
+use Rattle.std.proofs.{Math.Bool.beq, lemmas.List.Folds.{Any-from_list_any, list_any_at}}
 use Rattle.std.specs.List.{list_any}
 use Rattle.tz_info.proofs.{
   ChangeSearch.{IsAsked, asked, nearest_either, nearest_moved, stays},
@@ -7,19 +7,17 @@ use Rattle.tz_info.proofs.{
   Neighbours.{KeepsMargin, dst_by_three, ends_near, second_high, second_low, starts_near},
   RuleChanges.{change_near, rule_second, rule_until, same_or_not},
   RuleLaws.{alternate_at, alternate_once, rule_time, rule_year},
-  SeasonLaws.{season_made},
+  SeasonLaws.season_made,
   Words.{Alternate, AlternateAt, Bool, Change, Contains, DayTime, HasNoChange, IsAlternateRule, IsCalmRule, IsChange, IsNearest, IsOfYear, IsRuleDay},
-  Words.{IsRuleTime},
-  Words.{IsRuleYear, IsYearOf, List, LocalType, NeverChanges, Option, ap, are_calm, arith, by_lt_z, changing_keys, cond, days_at_least, days_at_most, end_in},
-  Words.{false, floor_div, floors, get_or, get_or-eq_default, get_or-map, get_or_default, inl, inr, int_le, int_lt, is_dst_by_one, key_years, kind_place},
-  Words.{length, length-map, lies_in, linear, lt_false, lt_true, margin_of, moment, moments_near, nearer_one, new_year, not, pos, refl, seconds_by_kind},
-  Words.{start_in, sym},
-  Words.{true, turn_of, type_when, year_start, year_step, ℕ, ℤ, ⊎_elim, ◌*ℤ◌, ◌+ℤ◌, ◌-ℤ◌, ◌<ℤ◌, ◌<◌, ◌∙◌, ◌≡◌, ◌≢◌, ◌≤ℤ◌, ◌⊎◌},
+  Words.{IsRuleTime, IsRuleYear, IsYearOf, List, LocalType, NeverChanges, Option, ap, are_calm, arith, by_lt_z, changing_keys, cond, days_at_least},
+  Words.{days_at_most, end_in, false, floor_div, floors, get_or, get_or-eq_default, get_or-map, get_or_default, inl, inr, int_le, int_lt, is_dst_by_one},
+  Words.{key_years, kind_place, length, length-map, lies_in, linear, lt_false, lt_true, margin_of, moment, moments_near, nearer_one, new_year, not, pos, refl},
+  Words.{seconds_by_kind, start_in, sym, true, turn_of, type_when, year_start, year_step, ℕ, ℤ, ⊎_elim, ◌*ℤ◌, ◌+ℤ◌, ◌-ℤ◌, ◌<ℤ◌, ◌<◌, ◌∙◌, ◌≡◌, ◌≢◌, ◌≤ℤ◌, ◌⊎◌},
   YearKeys.{changing_alike, key_below, key_count, keys_are},
 }
 use Rattle.tz_info.specs.{
-  Steps.AskedYears.{changes_in_year},
-  Steps.{ChangingYears.{are_apart, dst_near, flips_at, has_flip, is_changing, moment_by, seconds_near, turns_in, year_key, years_near}, Turns.{dst_by}},
+  Steps.AskedYears.changes_in_year,
+  Steps.{ChangingYears.{are_apart, dst_near, flips_at, has_flip, is_changing, moment_by, seconds_near, turns_in, year_key, years_near}, Turns.dst_by},
 }
 
 -- ---- clocks change when daylight saving time begins or ends
@@ -27,8 +25,14 @@ use Rattle.tz_info.specs.{
 abbrev pub Tells : Alternate → ℤ → (ℤ → Bool) → Type 0
 Tells a year dst = (u : ℤ) → IsRuleTime u → new_year year ≤ℤ u → u ≤ℤ new_year (year +ℤ pos 1) → AlternateAt a u (type_when a (dst u))
 
-pub type_differs : (a : Alternate) (b c : Bool) → a.std ≢ a.dst → b ≡ not c → type_when a b ≢ type_when a c
+type_differs : (a : Alternate) (b c : Bool) → a.std ≢ a.dst → b ≡ not c → type_when a b ≢ type_when a c
 type_differs a b c h e same = grind arith
+
+abbrev pub HasNoneIn : Alternate → ℤ → Type 0
+HasNoneIn a year = HasNoChange (AlternateAt a) (λ u. IsYearOf (u -ℤ pos 1) year)
+
+abbrev pub HasOneIn : Alternate → ℤ → Type 0
+HasOneIn a year = (d : Change) × IsChange (AlternateAt a) d × IsYearOf (d.at -ℤ pos 1) year
 
 module _ (a : Alternate) (year : ℤ) (dst : ℤ → Bool) (tells : Tells a year dst) where
   -- a change comes only where it begins or ends
@@ -78,7 +82,7 @@ apart : (x y k v w : ℤ) → k +ℤ x ≡ v → k +ℤ y ≡ w → (are_apart x
 apart x y k v w e f = (λ h. grind linear, λ h same. grind linear)
 
 turned : (s e : ℤ) (to_dst : Bool) → s ≢ e → (is_dst_by_one s e (cond to_dst s e) ≡ to_dst) × (is_dst_by_one s e (cond to_dst s e -ℤ pos 1) ≡ not to_dst)
-turned s e to_dst apart = (grind arith, grind arith)
+turned s e to_dst apart = grind arith
 
 never_dst : (s e u v : ℤ) → s ≡ e → is_dst_by_one s e u ≡ is_dst_by_one s e v
 never_dst s e u v one = grind arith
@@ -89,7 +93,7 @@ dst_alike s e u h k = grind linear
 amid : (moments : ℤ → ℤ) (year : ℤ) → KeepsMargin moments (pos 172_800) → IsYearOf (moments year) year × IsYearOf (moments year -ℤ pos 1) year
 amid moments year h =
     let low = h.low year in let high = h.high year in let step = year_step year in let least = days_at_least year in
-    ((omega (arith, floors), omega (arith, floors)), (omega (arith, floors), omega (arith, floors)))
+    omega (arith, floors)
 
 -- a rule
 module _ (a : Alternate) (rule : IsAlternateRule a) where
@@ -103,12 +107,12 @@ module _ (a : Alternate) (rule : IsAlternateRule a) where
   near_tells year u time low high =
       let next = year +ℤ pos 1 in
       by_lt_z u (new_year next)
-      (λ l. rw (lt_true u _ l) (own_type year u (omega (arith, floors), omega (arith, floors)) time))
+      (λ l. rw (lt_true u _ l) (own_type year u (omega (arith, floors)) time))
       (λ m.
       let step = year_step next in let least = days_at_least next in
       let e : next -ℤ pos 1 ≡ year = omega linear in
       let f : next +ℤ pos 1 ≡ year +ℤ pos 2 = omega linear in
-      rw (lt_false u _ m) (rw (e, f) at (own_type next u (omega (arith, floors), omega (arith, floors)) time)))
+      rw (lt_false u _ m) (rw (e, f) at (own_type next u (omega (arith, floors)) time)))
 
   near_by_kind : (year : ℤ) → years_near (start_in a) (end_in a) year ≡ years_near (moment_by (starts_of a)) (moment_by (ends_of a)) year
   near_by_kind year = grind (linear, starts_of, by_kind, ends_of)
@@ -122,7 +126,7 @@ module _ (a : Alternate) (rule : IsAlternateRule a) where
     pub calm_tells : (year : ℤ) → Tells a year (is_dst_by_one (start_in a year) (end_in a year))
     calm_tells year u time low high =
         let step = year_step year in let most = days_at_most year in
-        (season_made a _ _ _ _ calm_margin refl refl refl refl refl).decided u time (omega (arith, floors), omega (arith, floors))
+        (season_made a _ _ _ _ calm_margin refl refl refl refl refl).decided u time (omega (arith, floors))
 
     inside : (year : ℤ) (to_dst : Bool) → IsYearOf (turn_of a to_dst year) year × IsYearOf (turn_of a to_dst year -ℤ pos 1) year
     inside year true = amid _ year calm_margin.start
@@ -133,7 +137,8 @@ module _ (a : Alternate) (rule : IsAlternateRule a) where
         → IsChange (AlternateAt a) (record { at = turn_of a to_dst year; before = type_when a (not to_dst); after = type_when a to_dst })
     turn_change year to_dst of_rule types apart =
         let (own, before) = inside year to_dst in let (here, there) = turned _ _ to_dst apart in
-        rw (here, there) at (turn a year _ (calm_tells year) (turn_of a to_dst year) of_rule (rule_time _ _ own of_rule) before types (there ∙ ap not (sym here)))
+        rw (here, there) at (turn a year _ (calm_tells year) (turn_of a to_dst year) of_rule (rule_time _ _ own of_rule) before types
+        (there ∙ ap not (sym here)))
 
     -- and at no other second of the year
     at_moments : (year : ℤ) (d : Change) → IsChange (AlternateAt a) d → IsYearOf (d.at -ℤ pos 1) year → (start_in a year ≡ d.at) ⊎ (end_in a year ≡ d.at)
@@ -158,38 +163,36 @@ module _ (a : Alternate) (rule : IsAlternateRule a) where
         (nearest_either w (AlternateAt a) _ _ found _ (asked w _ _ _ _ _ h)
         (asked w _ _ _ _ _ k))
 
-    pub none_of_one : (year : ℤ) (d : Change) → start_in a year ≡ end_in a year → IsChange (AlternateAt a) d → IsYearOf (d.at -ℤ pos 1) year → ⊥
-    none_of_one year d one is of_year = no_turn a year _ (calm_tells year) d is of_year (never_dst _ _ _ _ one)
+    pub none_of_one : (year : ℤ) → start_in a year ≡ end_in a year → HasNoneIn a year
+    none_of_one year one d is of_year = no_turn a year _ (calm_tells year) d is of_year (never_dst _ _ _ _ one)
 
   apart_by_kind : (year : ℤ) → let x = get_or (starts_of a) (kind_place year) (pos 0) in let y = get_or (ends_of a) (kind_place year) (pos 0) in
       (are_apart x y ≡ false → start_in a year ≡ end_in a year) × (are_apart x y ≡ true → start_in a year ≢ end_in a year)
   apart_by_kind year = apart _ _ (pos 86_400 *ℤ year_start year) _ _ (by_kind _ _ _ rule.start_day) (by_kind _ _ _ rule.end_day)
 
-  none_by : (year : ℤ) (d : Change) (calm : Bool) → are_calm (starts_of a) (ends_of a) ≡ calm → is_changing (starts_of a) (ends_of a) calm year ≡ false
-      → IsChange (AlternateAt a) d → IsYearOf (d.at -ℤ pos 1) year → ⊥
+  none_by : (year : ℤ) (calm : Bool) → are_calm (starts_of a) (ends_of a) ≡ calm → is_changing (starts_of a) (ends_of a) calm year ≡ false → HasNoneIn a year
   unfolding moments_near
-  none_by year d true calm none is of_year = none_of_one calm year d ((apart_by_kind year).0 none) is of_year
-  none_by year d false calm none is of_year =
+  none_by year true calm none d is of_year = none_of_one calm year ((apart_by_kind year).0 none) d is of_year
+  none_by year false calm none d is of_year =
       let near = years_near (start_in a) (end_in a) year in
       let off = none_at (flips_at near) (seconds_near near) _ (change_near a _ d rule is of_year) (ap (λ y. has_flip y) (near_by_kind year) ∙ none) in
       let low = second_low _ _ of_year in let high = second_high _ _ of_year in
       no_turn a year _ (near_tells year) d is of_year (flip_off near.first near.next d.at _ _ (omega linear) (omega linear) off)
 
-  pub none_in : (year : ℤ) (d : Change) → changes_in_year a year ≡ false → IsChange (AlternateAt a) d → IsYearOf (d.at -ℤ pos 1) year → ⊥
-  none_in _ d none is of_year = none_by _ d _ refl none is of_year
+  pub none_in : (year : ℤ) → changes_in_year a year ≡ false → HasNoneIn a year
+  none_in _ none = none_by _ _ refl none
 
   one_by : (year : ℤ) (calm : Bool) → IsRuleYear year → IsRuleYear (year +ℤ pos 1) → a.std ≢ a.dst → are_calm (starts_of a) (ends_of a) ≡ calm
-      → is_changing (starts_of a) (ends_of a) calm year ≡ true → (d : Change) × IsChange (AlternateAt a) d × IsYearOf (d.at -ℤ pos 1) year
+      → is_changing (starts_of a) (ends_of a) calm year ≡ true → HasOneIn a year
   one_by year true of_rule next types calm some = (_, turn_change calm year true of_rule types ((apart_by_kind year).1 some), (inside calm year true).1)
   one_by year false of_rule next types calm some =
       let near = years_near (start_in a) (end_in a) year in
       let (k, u, below, at, on) = Any-from_list_any (flips_at near) (seconds_near near) (ap (λ y. has_flip y) (near_by_kind year) ∙ some) in
       let (low, high, differ) = flip_on _ _ u _ _ on in
-      let of_year : IsYearOf (u -ℤ pos 1) year = (omega (arith, floors), omega (arith, floors)) in
+      let of_year : IsYearOf (u -ℤ pos 1) year = omega (arith, floors) in
       (_, turn a year _ (near_tells year) u of_rule (rule_until u year of_year of_rule next) of_year types differ, of_year)
 
-  pub one_in : (year : ℤ) → IsRuleYear year → IsRuleYear (year +ℤ pos 1) → a.std ≢ a.dst → changes_in_year a year ≡ true
-      → (d : Change) × IsChange (AlternateAt a) d × IsYearOf (d.at -ℤ pos 1) year
+  pub one_in : (year : ℤ) → IsRuleYear year → IsRuleYear (year +ℤ pos 1) → a.std ≢ a.dst → changes_in_year a year ≡ true → HasOneIn a year
   one_in _ of_rule next types some = one_by _ _ of_rule next types refl some
 
 -- ---- by the year's key
@@ -226,7 +229,7 @@ module _ (a : Alternate) (rule : IsAlternateRule a) where
   still u v t none h last le =
       let first = rule_second a u t h in
       stays _ u v t (omega linear) (omega linear) le none
-      (λ w low high. (_, own_type a rule _ w (lies_in (floor_div w 86_400)) (omega linear, omega linear))) h
+      (λ w low high. (_, own_type a rule _ w (lies_in (floor_div w 86_400)) (omega linear))) h
 
   pub unchanged : (u v : ℤ) (s t : LocalType) → HasNoChange (AlternateAt a) (λ w. (u <ℤ w) × (w ≤ℤ v)) → AlternateAt a u s → AlternateAt a v t → u ≤ℤ v → s ≡ t
   unchanged u v s t none h k le = alternate_once a v s t (still u v s none h (rule_second a v t k) le) k
@@ -235,7 +238,7 @@ module _ (a : Alternate) (rule : IsAlternateRule a) where
   pub steady_without : list_any (λ b. b) (keys_of a) ≡ false → NeverChanges a
   steady_without none u v s t h k =
       let never : (d : Change) → IsChange (AlternateAt a) d → ⊥ =
-      λ d is. none_in a rule _ d (sym (by_key a is.before.year) ∙ none_of_all (keys_of a) _ none) is is.before.of_second in
+      λ d is. none_in a rule _ (sym (by_key a is.before.year) ∙ none_of_all (keys_of a) _ none) d is is.before.of_second in
       by_lt_z v u (λ l. sym (unchanged v u t s (λ d is i. never d is) k h (omega linear))) (λ m. unchanged u v s t (λ d is i. never d is) h k m)
 
   pub unsteady : a.std ≢ a.dst → list_any (λ b. b) (keys_of a) ≡ true → NeverChanges a → ⊥
@@ -244,6 +247,6 @@ module _ (a : Alternate) (rule : IsAlternateRule a) where
       let few = rw (key_total a) at below in
       let bound = keys_are k few in
       let e = get_or_default (keys_of a) k false b below ∙ at ∙ on in
-      let (d, is, of_year) = one_in a rule (get_or key_years k (pos 0)) (omega linear, omega linear) (omega linear, omega linear) types
+      let (d, is, of_year) = one_in a rule (get_or key_years k (pos 0)) (omega linear) (omega linear) types
       (sym (key_at _ _ k few) ∙ e) in
       is.differ (never (d.at -ℤ pos 1) d.at d.before d.after is.before is.after)

@@ -1,15 +1,15 @@
 -- When a rule's types give way to each other: at its moments and at turns of the year, and every 400 years alike.
-use Rattle.std.proofs.lemmas.{Bool.Decides.{Decides-int_eq}, Map.Made.{is_member-Decides}}
-use Rattle.std.specs.{Ordering.{int_eq}, Set.{is_member}}
+use Rattle.std.proofs.lemmas.{Bool.Decides.Decides-int_eq, Map.Made.is_member-Decides}
+use Rattle.std.specs.{Ordering.int_eq, Set.is_member}
 use Rattle.tz_info.proofs.{
   ChangeSearch.{decided, nearest_moved},
-  KindLaws.{kind_found},
+  KindLaws.kind_found,
   Neighbours.{IsNear, ends_near, not_earlier, not_later, place, second_high, second_low, starts_near},
   RuleLaws.{alternate_once, rule_time, rule_year},
-  Words.{Alternate, AlternateAt, Bool, Change, Contains, DayTime, IsAlternateRule, IsChange, IsDstAt, IsEarlierOf, IsInSomeYear, IsLaterOf, IsNearest, IsOfYear},
-  Words.{IsOneOf, IsRuleDay, IsRuleTime, IsRuleYear, IsYearOf, LocalType, Option, Precedes, arith, by_lt_z, days_at_least, end_in, false, floor_div, floors},
-  Words.{get_or_default, inl, inr, is_leap, kind_place, length, linear, moment, moments_near, new_year, one_year, pos, refl, start_in, starts_rise, subst, true, weekday_of},
-  Words.{year_at, year_start, year_step, ℕ, ℤ, ◌*ℤ◌, ◌+ℤ◌, ◌+◌, ◌-ℤ◌, ◌<ℤ◌, ◌↔◌, ◌∙◌, ◌≡◌, ◌≢◌, ◌≤ℤ◌, ◌⊎◌},
+  Words.{Alternate, AlternateAt, Bool, Change, Contains, DayTime, IsAlternateRule, IsChange, IsDstAt, IsEarlierOf, IsInSomeYear, IsLaterOf, IsNearest},
+  Words.{IsOfYear, IsOneOf, IsRuleDay, IsRuleTime, IsRuleYear, IsYearOf, LocalType, Option, Precedes, arith, by_lt_z, days_at_least, end_in, false, floor_div},
+  Words.{floors, get_or_default, inl, inr, is_leap, kind_place, length, linear, moment, moments_near, new_year, one_year, pos, refl, start_in, starts_rise},
+  Words.{subst, true, weekday_of, year_at, year_start, year_step, ℕ, ℤ, ◌*ℤ◌, ◌+ℤ◌, ◌+◌, ◌-ℤ◌, ◌<ℤ◌, ◌↔◌, ◌∙◌, ◌≡◌, ◌≢◌, ◌≤ℤ◌, ◌⊎◌},
 }
 
 pub rule_second : (a : Alternate) (u : ℤ) (t : LocalType) → AlternateAt a u t → IsRuleTime u
@@ -20,7 +20,7 @@ pub rule_until : (u year : ℤ) → IsYearOf (u -ℤ pos 1) year → IsRuleYear 
 rule_until u year of_year inside next =
     let here = rule_time _ _ of_year inside in
     let step = year_step (year +ℤ pos 1) in let least = days_at_least (year +ℤ pos 1) in
-    let there = rule_time (new_year (year +ℤ pos 1)) _ (omega (arith, floors), omega (arith, floors)) next in
+    let there = rule_time (new_year (year +ℤ pos 1)) _ (omega (arith, floors)) next in
     (omega linear, omega (arith, floors))
 
 -- what some years' moments enclose at two seconds alike is daylight saving time at both, if moments come in one order
@@ -58,23 +58,25 @@ moment_again t offset fits year k =
     let start = start_again year k in
     omega (arith, floors)
 
-some_again : (f g : ℤ → ℤ) (u v k : ℤ) → ComesAgain f → ComesAgain g → v ≡ u +ℤ cycle *ℤ k → IsInSomeYear f g u → IsInSomeYear f g v
-some_again f g u v k cf cg e (y, a, b) = let h = cf y k in let m = cg y k in (y +ℤ pos 400 *ℤ k, omega linear, omega linear)
-
 -- two seconds so far apart
 module _ (u v k : ℤ) (e : v ≡ u +ℤ cycle *ℤ k) where
+  some_again : (f g : ℤ → ℤ) → ComesAgain f → ComesAgain g → IsInSomeYear f g u ↔ IsInSomeYear f g v
+  some_again f g cf cg = (
+    (λ i. let (y, a, b) = i in let h = cf y k in let m = cg y k in (y +ℤ pos 400 *ℤ k, omega linear, omega linear)),
+    (λ i. let (y, a, b) = i in let h = cf y (pos 0 -ℤ k) in let m = cg y (pos 0 -ℤ k) in (y +ℤ pos 400 *ℤ (pos 0 -ℤ k), omega linear, omega linear)),
+  )
+
   year_again : (year : ℤ) → IsYearOf u year → IsYearOf v (year +ℤ pos 400 *ℤ k)
   year_again year h =
       let a = start_again year k in
       let shift : (year +ℤ pos 1) +ℤ pos 400 *ℤ k ≡ (year +ℤ pos 400 *ℤ k) +ℤ pos 1 = omega linear in
       let b = rw shift at (start_again (year +ℤ pos 1) k) in
-      (omega (arith, floors), omega (arith, floors))
+      omega (arith, floors)
 
   -- the rule has the same type at both, if it answers
   type_again : (a : Alternate) (t : LocalType) → IsAlternateRule a → AlternateAt a u t → IsRuleTime v → AlternateAt a v t
   type_again a t rule h time =
       let starts = moment_again a.start a.std.offset rule.start_day in let ends = moment_again a.end a.dst.offset rule.end_day in
-      let back : u ≡ v +ℤ cycle *ℤ (pos 0 -ℤ k) = omega linear in
       let own = year_again h.year h.of_second in
       let s = starts h.year k in let t = ends h.year k in
       record {
@@ -82,8 +84,7 @@ module _ (u v k : ℤ) (e : v ≡ u +ℤ cycle *ℤ k) where
         of_second = own;
         inside = rule_year v _ own time;
         dst = h.dst;
-        when = dst_alike _ _ h.year _ u v _ (omega linear) (some_again _ _ u v k starts ends e, some_again _ _ v u (pos 0 -ℤ k) starts ends back)
-            (some_again _ _ u v k ends starts e, some_again _ _ v u (pos 0 -ℤ k) ends starts back) h.when;
+        when = dst_alike _ _ h.year _ u v _ (omega linear) (some_again _ _ starts ends) (some_again _ _ ends starts) h.when;
         shown = h.shown;
       }
 
@@ -127,7 +128,7 @@ change_near a year d rule is before = elim (decided _ (is_member int_eq (moments
   | inr none ↦
       let low = second_low _ _ before in let high = second_high _ _ before in
       let below : d.at <ℤ new_year (year +ℤ pos 1) = by_lt_z d.at (new_year (year +ℤ pos 1)) (λ l. l) (λ m. absurd (none (6, omega arith, omega linear))) in
-      let here : IsYearOf d.at year = (omega (arith, floors), omega (arith, floors)) in
+      let here : IsYearOf d.at year = omega (arith, floors) in
       let first = avoids _ year d.at (λ e. none (0, omega arith, e)) (λ e. none (2, omega arith, e)) (λ e. none (4, omega arith, e)) in
       let last = avoids _ year d.at (λ e. none (1, omega arith, e)) (λ e. none (3, omega arith, e)) (λ e. none (5, omega arith, e)) in
       let b = is.before in
@@ -193,4 +194,4 @@ nearest_of_year w a year after last from until found rule later earlier =
     ))
     (λ d is one.
     let l = (later (d.at -ℤ pos 1)).0 (omega linear) in let e = (earlier d.at).0 one.inside.1 in
-    (is, record { inside = (omega linear, e.0); of_year = (omega (arith, floors), omega (arith, floors)) }))
+    (is, record { inside = (omega linear, e.0); of_year = (omega (arith, floors)) }))

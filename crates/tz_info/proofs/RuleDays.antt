@@ -48,8 +48,8 @@ weekday_lies year month week weekday fits =
 closed_within : (form : DayForm) (year : ℤ) → IsRuleDay form
     → (year_start year ≤ℤ closed_day form year) × (closed_day form year ≤ℤ (year_start year +ℤ pos 365))
 unfolding closed_day
-closed_within (Julian1 n) year fits = let most = julian_at_most (is_leap year) n fits.1 in (omega (arith, floors), omega (arith, floors))
-closed_within (Julian0 n) year fits = (omega (arith, floors), omega (arith, floors))
+closed_within (Julian1 n) year fits = let most = julian_at_most (is_leap year) n fits.1 in omega (arith, floors)
+closed_within (Julian0 n) year fits = omega (arith, floors)
 closed_within (MonthWeekday month week weekday) year fits =
     let lies = weekday_lies year _ _ _ fits in
     let next = year_step year in grind (arith, days_at_most, floors)

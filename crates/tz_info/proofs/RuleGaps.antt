@@ -2,13 +2,13 @@
 use Rattle.std.specs.Prelude.{⊤}
 use Rattle.tz_info.proofs.{
   GapLaws.{IsNever, gap_found},
-  RuleLaws.{alternate_once},
+  RuleLaws.alternate_once,
   SeasonAnswers.{amid, greater},
   WallSegments.{not_begun, rule_begun},
   Words.{Alternate as AlternateRule, AlternateAt, AreLess, Bool, Change, HasGap, IsAlternateRule, IsDecidedIn, IsNear, IsNeverFrom, IsRuleGap, IsSeason},
   Words.{IsSeasonFor, IsSeasonIn, IsSeasonOf, IsStart, IsTableLess, IsValid, IsWide, IsWindowOf, LocalType, MatchOption, None, Option, Season, Some},
-  Words.{TransitionRule, TypeAt, Zone, arith, by_lt_z, cond, false, int_lt, is_dst_by_one, length, linear, not, pos, subst, sym, table_count, true},
-  Words.{type_when, ℤ, ◌+ℤ◌, ◌-ℤ◌, ◌<ℤ◌, ◌≡◌, ◌≤ℤ◌},
+  Words.{TransitionRule, TypeAt, Zone, arith, by_lt_z, cond, false, int_lt, is_dst_by_one, length, linear, not, pos, subst, sym, table_count, true, type_when},
+  Words.{ℤ, ◌+ℤ◌, ◌-ℤ◌, ◌<ℤ◌, ◌≡◌, ◌≤ℤ◌},
   ZoneChanges.{from_rule, to_rule},
 }
 use Rattle.tz_info.specs.declared.rule.transition_rule.TransitionRule.TheVariants.{Alternate}
@@ -66,13 +66,13 @@ gap_at a s from l dst rule wide is h never =
     let most = t.most in
     let near : (w : ℤ) → u ≤ℤ w → w ≤ℤ v → IsNear w = λ w h k. (omega linear, omega (linear, near_v)) in
     let lesser : (w : ℤ) → u ≤ℤ w → w <ℤ moment → AlternateAt a w (type_when a (not dst)) =
-    λ w k m. at a s w _ h.season (near w k (omega linear)) (omega linear, omega linear) (t.before w k m) in
+    λ w k m. at a s w _ h.season (near w k (omega linear)) (omega linear) (t.before w k m) in
     record {
       near = near _ (omega linear) most;
       near_before = near _ (omega linear) (omega linear);
       since = omega linear;
       before = lesser (moment -ℤ pos 1) (omega linear) (omega linear);
-      after = at a s _ dst h.season (near _ (omega linear) most) (omega linear, omega linear) t.here;
+      after = at a s _ dst h.season (near _ (omega linear) most) (omega linear) t.here;
       more = omega linear;
       less = λ w f since_w k is. by_lt_z w u
           (λ b.

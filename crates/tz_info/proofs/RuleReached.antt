@@ -1,10 +1,10 @@
 -- What the clocks of a rule show from a second on: the last local time up to another second, and the first second at or after a local time.
-use Rattle.std.{proofs.lemmas.Int.{clamps}, specs.Int.{int_max}}
+use Rattle.std.{proofs.lemmas.Int.clamps, specs.Int.int_max}
 use Rattle.tz_base.specs.declared.change.Change.{Change}
 use Rattle.tz_info.proofs.{
   ChangingYears.{still, unchanged},
   Words.{Alternate, AlternateAt, Bool, HasNoChange, IsAhead, IsAlternateRule, IsNear, IsNearestChange, IsUtOffset, IsWide, LocalType, RuleAt, Shows},
-  Words.{ShowsAtOrAfter, ap, by_lt_z, false, inl, inr, linear, pos, refl, sym, true, type_when, ℤ, ◌+ℤ◌, ◌-ℤ◌, ◌<ℤ◌, ◌∙◌, ◌≡◌, ◌≤ℤ◌, ◌⊎◌},
+  Words.{ShowsAtOrAfter, ap, by_lt_z, false, inl, inr, linear, pos, sym, true, type_when, ℤ, ◌+ℤ◌, ◌-ℤ◌, ◌<ℤ◌, ◌∙◌, ◌≡◌, ◌≤ℤ◌, ◌⊎◌},
 }
 use Rattle.tz_info.specs.{
   Steps.Since.{IsFirstSince, IsReachedSince},
@@ -23,7 +23,8 @@ alternate_reached a _ t l h = grind linear
 module _ (a : Alternate) (begin t l : ℤ) (s : LocalType) (rule : IsAlternateRule a) (wide : IsWide t) (order : begin ≤ℤ t) (here : AlternateAt a t s)
     (offset : IsUtOffset s.offset) where
   -- it is shown at the second
-  reached_now : l ≡ t +ℤ s.offset → ((m u : ℤ) (r : LocalType) → begin ≤ℤ u → u ≤ℤ t → Shows (AlternateAt a) m u r → m ≤ℤ l) → IsReachedSince (AlternateAt a) begin t l
+  reached_now : l ≡ t +ℤ s.offset → ((m u : ℤ) (r : LocalType) → begin ≤ℤ u → u ≤ℤ t → Shows (AlternateAt a) m u r → m ≤ℤ l)
+      → IsReachedSince (AlternateAt a) begin t l
   reached_now is last = record {
     at = t;
     local_type = s;
@@ -69,7 +70,8 @@ module _ (a : Alternate) (begin t l : ℤ) (s : LocalType) (rule : IsAlternateRu
         → IsReachedSince (AlternateAt a) begin t l
     changed_reached offset_before is since =
         let inside = last.inside in
-        let all : (m u : ℤ) (r : LocalType) → begin ≤ℤ u → u ≤ℤ t → Shows (AlternateAt a) m u r → m ≤ℤ l = λ m u r from come shows. elim (at_most m u r come shows) [
+        let all : (m u : ℤ) (r : LocalType) → begin ≤ℤ u → u ≤ℤ t → Shows (AlternateAt a) m u r → m ≤ℤ l =
+        λ m u r from come shows. elim (at_most m u r come shows) [
           | inl less ↦ omega (linear, clamps, less, is)
           | inr less ↦ omega (linear, clamps, less, is)
         ] in
@@ -123,7 +125,7 @@ module _ (a : Alternate) (begin local low : ℤ) (rule : IsAlternateRule a) (low
       from = omega (linear, clamps);
       shown = record {
         fits = omega (linear, near);
-        type = still a rule low shown s none here (omega (linear, near), omega (linear, near)) (omega (linear, clamps));
+        type = still a rule low shown s none here (omega (linear, near)) (omega (linear, clamps));
         reached = omega (linear, clamps);
       };
       first = λ v r begun shows. by_lt_z v shown

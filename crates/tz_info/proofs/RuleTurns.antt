@@ -37,15 +37,15 @@ sides f g year u rf rg e (inr (before, after)) = inr (omega linear, (year, omega
 -- at a start that comes between ends daylight saving time begins
 begins : (f g : ℤ → ℤ) (year u : ℤ) → Rise f → Rise g → u ≡ f year → IsBetween g f year → IsDstAt f g year u true × IsDstAt f g year (u -ℤ pos 1) false
 begins f g year u rf rg e between = elim (sides f g year u rf rg e between) [
-  | inl (order, there, out) ↦ (grind linear, grind linear)
-  | inr (order, there, out) ↦ (grind linear, grind linear)
+  | inl (order, there, out) ↦ grind linear
+  | inr (order, there, out) ↦ grind linear
 ]
 
 -- and at an end that comes between starts it is over
 is_over : (f g : ℤ → ℤ) (year u : ℤ) → Rise f → Rise g → u ≡ g year → IsBetween f g year → IsDstAt f g year u false × IsDstAt f g year (u -ℤ pos 1) true
 is_over f g year u rf rg e between = elim (sides g f year u rg rf e between) [
-  | inl (order, there, out) ↦ (grind linear, grind linear)
-  | inr (order, there, out) ↦ (grind linear, grind linear)
+  | inl (order, there, out) ↦ grind linear
+  | inr (order, there, out) ↦ grind linear
 ]
 
 pub starts : (a : Alternate) (year day u : ℤ) → IsAlternateRule a → IsRuleYear year → IsDayOf a.start.day year day

@@ -23,7 +23,7 @@ pub greater : (a : AlternateRule) (dst : Bool) → dst ≡ int_lt a.std.offset a
 greater a dst e = grind arith
 
 pub alike : (a : AlternateRule) (dst : Bool) → ((type_when a dst).offset ≡ (type_when a (not dst)).offset) ↔ (a.std.offset ≡ a.dst.offset)
-alike a dst = (grind linear, grind linear)
+alike a dst = grind linear
 
 pub std_too : (a : AlternateRule) (dst : Bool) → a.std.offset ≡ a.dst.offset → (type_when a dst).offset ≡ a.std.offset
 std_too a dst e = grind arith

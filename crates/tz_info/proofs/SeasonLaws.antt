@@ -1,10 +1,10 @@
 -- What a season's moments decide.
 use Rattle.tz_info.proofs.{
-  KindLaws.{IsMargin},
+  KindLaws.IsMargin,
   Neighbours.{IsBeside, dst_by_one},
   RuleLaws.{alternate_at, year_found},
-  Words.{Alternate, IsSeason, IsYearOf, LiesIn, Season, ap, arith, days_at_least, end_in, floor_div, floors, inl, inr, int_le, is_dst_by_one, lies_in, neg_ℤ},
-  Words.{one_year, pos, refl, start_in, year_of, year_start, year_step, ℤ, ◌*ℤ◌, ◌+ℤ◌, ◌-ℤ◌, ◌≡◌, ◌⊎◌},
+  Words.{Alternate, IsSeason, IsYearOf, Season, ap, arith, days_at_least, end_in, floor_div, floors, inl, inr, int_le, is_dst_by_one, lies_in, neg_ℤ, one_year},
+  Words.{pos, refl, start_in, year_of, year_start, year_step, ℤ, ◌*ℤ◌, ◌+ℤ◌, ◌-ℤ◌, ◌≡◌, ◌⊎◌},
 }
 
 -- a second eight days or more from the neighbouring years lies in the year
@@ -26,7 +26,7 @@ season_made a margin year _ s kept begins from until start end = record {
       let day = floor_div u 86_400 in
       let own = year_of day in
       let found = year_found u day own refl refl within in
-      let beside : IsBeside margin year u = (omega (arith, floors), omega (arith, floors)) in
+      let beside : IsBeside margin year u = omega (arith, floors) in
       let dst = is_dst_by_one s.turns.start s.turns.end u in
       alternate_at a u day own dst refl found.0 found.1
       (dst_by_one _ _ _ _ own u dst kept.start kept.end beside
@@ -35,4 +35,6 @@ season_made a margin year _ s kept begins from until start end = record {
 
 -- the first day of a year lies in it
 pub own_start : (year : ℤ) → year_of (year_start year) ≡ year
-own_start year = let step = year_step year in let least = days_at_least year in one_year (year_start year) _ year (lies_in _) (omega (arith, floors), omega (arith, floors))
+own_start year =
+    let step = year_step year in let least = days_at_least year in
+    one_year (year_start year) _ year (lies_in _) (omega (arith, floors))

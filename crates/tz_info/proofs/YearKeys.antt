@@ -1,14 +1,14 @@
 -- Years of one key have changes at the same places.
-use Rattle.std.proofs.{Math.Dec.{eqb}, lemmas.Bool.{eqb-true}}
+use Rattle.std.proofs.{Math.Dec.eqb, lemmas.Bool.eqb-true}
 use Rattle.tz_info.proofs.{
-  ListLaws.{one_true},
+  ListLaws.one_true,
   Words.{Bool, IsRuleYear, List, SFits, all_below, ap, arith, cond, false, floor_div, floor_mod, floor_mod_parts, floors, get_or, int_le, int_lt, is_leap},
-  Words.{kind_place, length, linear, nat_le, nat_lt, pos, refl, true, w32, weekday_below, weekday_of, year_start, year_step, ℕ, ℤ, ◌%◌, ◌&&◌, ◌*ℤ◌, ◌+ℤ◌},
-  Words.{◌-ℤ◌, ◌<◌, ◌∙◌, ◌≡◌, ◌≤ℤ◌, ◌↔◌},
+  Words.{kind_place, length, linear, nat_le, nat_lt, pos, refl, true, w32, weekday_below, weekday_of, year_start, year_step, ℕ, ℤ, ◌%◌, ◌&&◌, ◌*ℤ◌, ◌+ℤ◌, ◌-ℤ◌},
+  Words.{◌<◌, ◌∙◌, ◌≡◌, ◌≤ℤ◌, ◌↔◌},
 }
 use Rattle.tz_info.specs.{
   Steps.ChangingYears.{dst_near, flips_at, has_flip, is_changing, key_years, leap_place, moment_by, turns_in, year_key, years_near},
-  declared.rule.{changing.YearsNear.{YearsNear}, moments.Turns.{Turns}},
+  declared.rule.{changing.YearsNear.YearsNear, moments.Turns.Turns},
 }
 
 -- ---- the same seconds, all as much later
@@ -57,9 +57,6 @@ record LeapsAlike (x y : ℤ) : Type 0 where
 leap_fourth : (z : ℤ) → is_leap z ≡ true → floor_mod z 4 ≡ 0
 leap_fourth z h = grind linear
 
-one_leap : (z w : ℤ) (n : ℕ) → w ≡ z +ℤ pos n → 0 < n → n < 4 → is_leap z ≡ true → is_leap w ≡ true → ⊥
-one_leap z w n e low high h k = grind (linear, leap_fourth)
-
 -- at most one of these tests holds, so its place gives the result of each
 abbrev place_of : Bool → Bool → Bool → Bool → ℕ
 place_of a b c d = cond a 0 (cond b 1 (cond c 2 (cond d 3 4)))
@@ -70,17 +67,17 @@ IsSolo a b c d = (a ≡ true → b ≡ true → ⊥) × (a ≡ true → c ≡ tr
 
 solo_at : (a b c d : Bool) → IsSolo a b c d → let p = place_of a b c d in (a ≡ eqb 0 p) × (b ≡ eqb 1 p) × (c ≡ eqb 2 p) × (d ≡ eqb 3 p)
 unfolding IsSolo
-solo_at a b c d h = (grind arith, grind arith, grind arith, grind arith)
+solo_at a b c d h = grind arith
 
 leaps_solo : (x : ℤ) → IsSolo (is_leap (x -ℤ pos 1)) (is_leap x) (is_leap (x +ℤ pos 1)) (is_leap (x +ℤ pos 2))
 unfolding IsSolo
 leaps_solo x = (
-  one_leap (x -ℤ pos 1) x 1 (omega linear) (omega arith) (omega arith),
-  one_leap (x -ℤ pos 1) (x +ℤ pos 1) 2 (omega linear) (omega arith) (omega arith),
-  one_leap (x -ℤ pos 1) (x +ℤ pos 2) 3 (omega linear) (omega arith) (omega arith),
-  one_leap x _ 1 refl (omega arith) (omega arith),
-  one_leap x _ 2 refl (omega arith) (omega arith),
-  one_leap (x +ℤ pos 1) (x +ℤ pos 2) 1 (omega linear) (omega arith) (omega arith),
+  λ h k. grind (linear, leap_fourth),
+  λ h k. grind (linear, leap_fourth),
+  λ h k. grind (linear, leap_fourth),
+  λ h k. grind (linear, leap_fourth),
+  λ h k. grind (linear, leap_fourth),
+  λ h k. grind (linear, leap_fourth),
 )
 
 leaps_alike : (x y : ℤ) → leap_place x ≡ leap_place y → LeapsAlike x y
@@ -114,9 +111,13 @@ module _ (x y q : ℤ) (leap : is_leap x ≡ is_leap y) (start : year_start y �
   turns_moved _ _ = rw (moment_moved _, moment_moved _)
 
 -- so are the starts of the years after them, and of those before
+day_later : (s t q : ℤ) → t ≡ s +ℤ pos 7 *ℤ q → pos 86_400 *ℤ t ≡ pos 86_400 *ℤ s +ℤ pos 86_400 *ℤ (pos 7 *ℤ q)
+day_later s t q e = omega linear
+
 next_alike : (x y v w q : ℤ) → v ≡ x +ℤ pos 1 → w ≡ y +ℤ pos 1 → is_leap x ≡ is_leap y
     → (year_start y ≡ year_start x +ℤ pos 7 *ℤ q) ↔ (year_start w ≡ year_start v +ℤ pos 7 *ℤ q)
-next_alike x y v w q e f leap = let a = year_step x in let b = rw (← leap) at (year_step y) in rw (e, f) (λ s. omega (arith, floors), λ s. omega (arith, floors))
+next_alike x y v w q e f leap =
+    let a = year_step x in let b = rw (← leap) at (year_step y) in rw (e, f) (λ s. omega (arith, floors), λ s. omega (arith, floors))
 
 -- two years whose starts are whole weeks apart
 module _ (x y q : ℤ) (leaps : LeapsAlike x y) (start : year_start y ≡ year_start x +ℤ pos 7 *ℤ q) where
@@ -127,13 +128,11 @@ module _ (x y q : ℤ) (leaps : LeapsAlike x y) (start : year_start y ≡ year_s
       let before = (next_alike (x -ℤ pos 1) (y -ℤ pos 1) x y q (omega linear) (omega linear) leaps.before).1 start in
       let after = (next_alike x y _ _ q refl refl leaps.here).0 start in
       let later = (next_alike (x +ℤ pos 1) (y +ℤ pos 1) (x +ℤ pos 2) (y +ℤ pos 2) q (omega linear) (omega linear) leaps.after).0 after in
-      let first : pos 86_400 *ℤ year_start y ≡ pos 86_400 *ℤ year_start x +ℤ pos 86_400 *ℤ (pos 7 *ℤ q) = rw start (omega linear) in
-      let next : pos 86_400 *ℤ year_start (y +ℤ pos 1) ≡ pos 86_400 *ℤ year_start (x +ℤ pos 1) +ℤ pos 86_400 *ℤ (pos 7 *ℤ q) = rw after (omega linear) in
       let a = turns_moved _ _ q leaps.before before starts ends in
       let b = turns_moved x y q leaps.here start starts ends in
       let c = turns_moved _ _ q leaps.after after starts ends in
       let d = turns_moved (x +ℤ pos 2) (y +ℤ pos 2) q leaps.later later starts ends in
-      rw (a, b, c, d, first, next)
+      rw (a, b, c, d, day_later _ _ q start, day_later _ _ q after)
 
   by_calm : (starts ends : List ℤ) (calm : Bool) → is_changing starts ends calm y ≡ is_changing starts ends calm x
   by_calm _ _ true = rw (kind_same x y q leaps.here start)
@@ -184,4 +183,4 @@ key_below year =
 
 -- a year that a rule answers in and the years near it fit 32 bits
 pub near_fit : (year : ℤ) → IsRuleYear year → SFits w32 year × SFits w32 (year -ℤ pos 1) × SFits w32 (year +ℤ pos 1) × SFits w32 (year +ℤ pos 2)
-near_fit year h = (omega linear, omega linear, omega linear, omega linear)
+near_fit year h = omega linear

@@ -1,4 +1,4 @@
-use Rattle.tz_info.proofs.{RuleDays.{behind_december}, Words.{arith}}
+use Rattle.tz_info.proofs.{RuleDays.behind_december, Words.arith}
 use Rattle.tz_info.proofs.rule.day_places.date_in_year.Goals as goal
 
 pub returns-then-place-days_in_year : goal.returns-then-place-days_in_year

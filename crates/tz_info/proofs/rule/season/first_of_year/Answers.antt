@@ -7,4 +7,4 @@ returns c =
     let bound = c.requires.bound in
     let own = rw (← c.requires.place) at (day_of_year_is c.args.day).0 in
     let begins = own_start_in_range _ c.requires.day in
-    record { value = omega (arith, floors); bound = (omega (arith, floors), omega (arith, floors)) }
+    record { value = omega (arith, floors); bound = (omega (arith, floors)) }

@@ -1,15 +1,16 @@
 use Rattle.std.proofs.Math.Bool.{beq}
 use Rattle.tz_info.proofs.{
   SeasonAnswers.{amid, asked_in_turn, both_asked, greater},
-  Words.{arith, Bool, Bor, Counts, LocalType, SFits, ap, inl, int_lt, joined, map_of, not, refl, rules, shown_if, to_z-of_z, type_when, w32, w64, ◌-ℤ◌, ◌∙◌, ◌≡◌},
-  rule.alternate.AlternateTime.answer_amid.Goals.{After-second_showing-by_last},
+  Words.{Bool, Bor, Counts, LocalType, SFits, ap, arith, inl, int_lt, joined, map_of, not, refl, rules, shown_if, to_z-of_z, type_when, w32, w64, ◌-ℤ◌, ◌∙◌},
+  Words.{◌≡◌},
 }
+use Rattle.tz_info.proofs.rule.alternate.AlternateTime.answer_amid.Goals.{After-second_showing-by_last}
 use Rattle.tz_info.proofs.rule.alternate.AlternateTime.answer_amid.Goals as goal
 
 -- what was given fits, and so do the seconds that are asked, that of the greater offset first
 seconds : (c : After-second_showing-by_last) → (dst : Bool) × SFits w64 c.args.local × SFits w64 c.args.from
     × SFits w64 c.second_showing-by_first.result × SFits w64 c.second_showing-by_last.result
-    × (dst ≡ int_lt c.offset.result c.offset-2.result) × (c.type_when-first.result.now ≡ type_when c.args.self.now dst)
+    × (dst ≡ int_lt c.args.self.now.std.offset c.args.self.now.dst.offset) × (c.type_when-first.result.now ≡ type_when c.args.self.now dst)
     × (c.type_when-last.result.now ≡ type_when c.args.self.now (not dst))
     × (c.second_showing-by_first.result ≡ c.args.local -ℤ (type_when c.args.self.now dst).offset)
     × (c.second_showing-by_last.result ≡ c.args.local -ℤ (type_when c.args.self.now (not dst)).offset)
@@ -23,7 +24,8 @@ seconds c =
       c.ranges.from,
       search rules,
       search rules,
-      refl,
+      rw (c.offset.ensures.value ∙ ap (λ (t : LocalType). t.offset) c.std.ensures.value,
+      c.offset-2.ensures.value ∙ ap (λ (t : LocalType). t.offset) c.dst.ensures.value) refl,
       first,
       last,
       rw (c.offset-3.ensures.value, first) at (simp to_z-of_z at c.second_showing-by_first.ensures.value),
@@ -41,9 +43,7 @@ returns c =
     let (dst, fl, ff, f1, f2, is, first, last, by_first, by_last) = seconds (goal.at.returns c).After-second_showing-by_last in
     let a = c.args.self.now in
     let g1 : SFits w32 c.offset.result = search rules in let g2 : SFits w32 c.offset-2.result = search rules in
-    let es = c.offset.ensures.value ∙ ap (λ (t : LocalType). t.offset) c.std.ensures.value in
-    let ed = c.offset-2.ensures.value ∙ ap (λ (t : LocalType). t.offset) c.dst.ensures.value in
-    let order = greater a dst (is ∙ rw (es, ed)) in
+    let order = greater a dst is in
     let sooner = amid a c.args.season c.args.from c.args.local dst c.requires.season in
     let later = amid a _ _ _ _ c.requires.season in
     let two : map_of (λ (r : Bor LocalType). r.now) c.answer_of_two.result

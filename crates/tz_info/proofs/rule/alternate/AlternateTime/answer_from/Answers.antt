@@ -1,9 +1,9 @@
 use Rattle.tz_info.proofs.{
   Candidates.{asked_both, asked_one, one_second},
-  QuestionLaws.{asked_once},
+  QuestionLaws.asked_once,
   SeasonAnswers.{alike, asked_in_turn, either, season_for, std_too},
   Words.{Bool, SFits, and_parts, arith, linear, not, rules, to_z-of_z, type_when, w32, w64, ◌∙◌, ◌≡◌, ◌≢◌, ◌≤ℤ◌},
-  rule.alternate.AlternateTime.answer_from.Goals.{After-offset-last},
+  rule.alternate.AlternateTime.answer_from.Goals.After-offset-last,
 }
 use Rattle.tz_info.proofs.rule.alternate.AlternateTime.answer_from.Goals as goal
 

@@ -1,4 +1,4 @@
-use Rattle.tz_info.proofs.{Candidates.{asked_found, asked_other}, Words.{SFits, arith, linear, to_z-of_z, w32, w64, ◌-ℤ◌, ◌≡◌}}
+use Rattle.tz_info.proofs.{Candidates.{asked_found, asked_other}, Words.{SFits, linear, to_z-of_z, w32, w64, ◌-ℤ◌, ◌≡◌}}
 use Rattle.tz_info.proofs.rule.alternate.AlternateTime.ask.Goals as goal
 use Rattle.tz_info.proofs.rule.alternate.AlternateTime.ask.Goals.{After-offset}
 
@@ -7,10 +7,7 @@ known : (c : After-offset)
     → SFits w64 c.args.local × SFits w32 c.args.offset × SFits w64 c.args.from × SFits w64 (c.args.local -ℤ c.args.offset)
     × SFits w64 c.second_showing-second.result × SFits w32 c.offset.result
     × (c.second_showing-second.result ≡ c.args.local -ℤ c.args.offset)
-known c =
-    let fl = c.ranges.local in let fo = c.ranges.offset in
-    let is = simp to_z-of_z at c.second_showing-second.ensures.value in
-    (fl, fo, c.ranges.from, omega linear, omega arith, omega arith, is)
+known c = grind (linear, to_z-of_z)
 
 pub returns-then-offset-clause-asked : goal.returns-then-offset-clause-asked
 returns-then-offset-clause-asked c =

@@ -1,4 +1,4 @@
-use Rattle.std.{proofs.lemmas.Int.{clamps}, specs.Int.{int_max}}
+use Rattle.std.{proofs.lemmas.Int.clamps, specs.Int.int_max}
 use Rattle.tz_info.proofs.{Fits.fits, RuleReached.{changed_first, still_first}}
 use Rattle.tz_info.proofs.Words.{IsNear, SFits, ap, arith, ints, rules, w64, ◌-ℤ◌, ◌∙◌, ◌≡◌, ◌≤ℤ◌}
 use Rattle.tz_info.proofs.rule.alternate.AlternateTime.first_since.Goals.{After-max-low, After-max-shown, in_default-via-in-Some+else-change-shown}
@@ -8,23 +8,21 @@ use Rattle.tz_info.proofs.rule.alternate.AlternateTime.first_since.Goals as goal
 -- the first second that may show it, which is near
 low : (c : After-max-low) → SFits w64 c.max-low.result × IsNear c.max-low.result
     × (c.max-low.result ≡ int_max c.args.begin (c.args.local -ℤ int_max c.args.self.now.std.offset c.args.self.now.dst.offset))
-low c =
-    let fm : SFits w64 c.max-low.result = search rules in
+low c = let fm : SFits w64 c.max-low.result = search rules in
     let std = c.offset.ensures.value ∙ ap (λ t. t.offset) c.std.ensures.value in
-    let dst = c.offset-2.ensures.value ∙ ap (λ t. t.offset) c.dst.ensures.value in
-    (fm, (omega (arith, ints, clamps), omega (arith, ints, clamps)), omega (arith, ints, clamps))
+    let dst = c.offset-2.ensures.value ∙ ap (λ t. t.offset) c.dst.ensures.value in omega (arith, ints, clamps)
 
 pub type_and_change-requires-clause-time : goal.type_and_change-requires-clause-time
 type_and_change-requires-clause-time c =
     let (fm, near, is) = low (goal.at.type_and_change-requires-clause-time c).After-max-low in
-    (omega (arith, ints), omega (arith, ints))
+    omega (arith, ints)
 
 -- the second at which the type in force then shows it, which is near too
 shown : (c : After-max-shown) → IsNear c.max-low.result → SFits w64 c.max-low.result → SFits w64 c.max-shown.result × IsNear c.max-shown.result
     × (c.max-shown.result ≡ int_max c.max-low.result (c.args.local -ℤ c.type_and_change.result.0.now.offset))
 shown c near fm =
     let ft : SFits w64 c.max-shown.result = search rules in
-    (ft, (omega (arith, ints, clamps), omega (arith, ints, clamps)), omega (arith, ints, clamps))
+    (ft, (omega (arith, ints, clamps)), omega (arith, ints, clamps))
 
 pub returns-in-Some-clause-first : goal.returns-in-Some-clause-first
 returns-in-Some-clause-first c =

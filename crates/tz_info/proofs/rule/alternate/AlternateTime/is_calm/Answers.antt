@@ -1,13 +1,9 @@
-use Rattle.std.proofs.lemmas.Bool.{cases_Bool}
-use Rattle.tz_info.proofs.{Fits.fits, Words.{List, SFits, are_calm, arith, inl, inr, ints, lt_is, margin_of, pos, rules, true, w64, ℤ, ◌<ℤ◌, ◌≡◌}}
+use Rattle.tz_info.proofs.{Fits.fits, Words.{List, SFits, are_calm, arith, ints, lt_is, margin_of, pos, rules, true, w64, ℤ, ◌<ℤ◌, ◌≡◌}}
 use Rattle.tz_info.proofs.rule.alternate.AlternateTime.is_calm.Goals as goal
 
 above : (starts ends : List ℤ) → pos 0 <ℤ margin_of starts ends → are_calm starts ends ≡ true
 unfolding margin_of
-above starts ends h = elim (cases_Bool _) [
-  | inl on ↦ on
-  | inr off ↦ absurd (let low = rw off at h in omega (arith, ints))
-]
+above starts ends h = grind (arith, ints)
 
 pub returns : goal.returns
 returns c =

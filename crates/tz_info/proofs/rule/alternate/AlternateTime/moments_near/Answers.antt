@@ -3,4 +3,4 @@ use Rattle.tz_info.proofs.rule.alternate.AlternateTime.moments_near.Goals as goa
 
 pub returns-clause-moments : goal.returns-clause-moments
 unfolding moments_near
-returns-clause-moments c = let (f, last, next, late) = near_fit c.args.year (omega linear, omega linear) in grind (arith, to_z-of_z)
+returns-clause-moments c = let (f, last, next, late) = near_fit c.args.year (omega linear) in grind (arith, to_z-of_z)

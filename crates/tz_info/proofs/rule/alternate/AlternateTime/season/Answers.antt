@@ -6,11 +6,7 @@ use Rattle.tz_info.proofs.rule.alternate.AlternateTime.season.Goals as goal
 -- what was given fits, and so do the day and the first day of its year, which lies in that year
 begun : (c : After-first_of_year-first) → SFits w64 c.args.unix_time × SFits w64 c.day_of-day.result × SFits w64 c.first_of_year-first.result
     × (c.first_of_year-first.result ≡ year_start (year_of c.day_of-day.result)) × (year_of c.first_of_year-first.result ≡ year_of c.day_of-day.result)
-begun c =
-    let at_second = c.ranges.unix_time in
-    let at_day : SFits w64 c.day_of-day.result = omega (arith, floors) in
-    let begins : c.first_of_year-first.result ≡ year_start _ = simp fits at c.first_of_year-first.ensures.value in
-    (at_second, at_day, omega (arith, floors), begins, ap year_of begins ∙ own_start _)
+begun c = grind (arith, floors, to_z-of_z, own_start)
 
 kept : (c : After-self) → IsMargin c.args.self.now c.self.inside.margin
 kept c = rw (← c.self.view_is) (margin_kept _ _ c.self.invariant.0 c.self.invariant.3)

@@ -1,19 +1,16 @@
 use Rattle.tz_info.proofs.Words.{arith}
 use Rattle.tz_info.proofs.{
-  ChangingYears.{turn_change},
-  Words.{Alternate, Bool, SFits, cond, end_in, refl, rules, start_in, sym, to_z-of_z, true, turn_of, w64, ℤ, ◌∙◌, ◌≡◌, ◌≢◌},
-  rule.alternate.AlternateTime.turn_within.Goals.{After-moment-at},
+  ChangingYears.turn_change,
+  Words.{Alternate, Bool, SFits, cond, end_in, refl, start_in, sym, to_z-of_z, true, turn_of, w64, ℤ, ◌∙◌, ◌≡◌, ◌≢◌},
 }
+use Rattle.tz_info.proofs.rule.alternate.AlternateTime.turn_within.Goals.{After-moment-at}
 use Rattle.tz_info.proofs.rule.alternate.AlternateTime.turn_within.Goals as goal
 
 turn_is : (a : Alternate) (to_dst : Bool) (year start end : ℤ) → start ≡ start_in a year → end ≡ end_in a year → cond to_dst start end ≡ turn_of a to_dst year
 turn_is a to_dst year start end s e = grind arith
 
 at : (c : After-moment-at) → SFits w64 c.moment-at.result × (c.moment-at.result ≡ turn_of c.args.self.now c.args.to_dst c.args.asked.year)
-at c =
-    let asked = c.requires.asked in
-    let fm : SFits w64 _ = search rules in
-    (fm, c.moment-at.ensures ∙ turn_is c.args.self.now _ _ _ _ asked.start asked.end)
+at c = grind (arith, turn_is)
 
 pub returns-then-has : goal.returns-then-has
 returns-then-has c =

@@ -6,7 +6,7 @@ use Rattle.tz_info.proofs.rule.alternate.AlternateTime.turns_from.Goals as goal
 fits : (first second at : ℤ) → IsDay first → IsKept first second at
     → SFits w64 first × SFits w64 (pos 86_400 *ℤ first) × SFits w64 second × SFits w64 (pos 86_400 *ℤ first +ℤ second)
 fits first second at bound kept =
-    (omega (arith, floors), omega (arith, floors), omega (arith, floors), omega (arith, floors))
+    omega (arith, floors)
 
 pub overflow_add-result : goal.overflow_add-result
 overflow_add-result c =
@@ -15,7 +15,9 @@ overflow_add-result c =
     omega (arith, floors)
 
 pub returns-clause-start : goal.returns-clause-start
-returns-clause-start c = let kept = moment_by_kind _ _ _ _ (pos 0) _ _ c.self.invariant.0.start_day (starts_near _ c.self.invariant.0) c.self.invariant.1 c.requires.kind c.requires.first in
+returns-clause-start c =
+    let kept = moment_by_kind _ _ _ _ (pos 0) _ _ c.self.invariant.0.start_day
+    (starts_near _ c.self.invariant.0) c.self.invariant.1 c.requires.kind c.requires.first in
     let (at_first, at_midnight, at_seconds, at_sum) = fits _ _ _ c.requires.day kept in grind (arith, to_z-of_z)
 
 pub overflow_add-result-2 : goal.overflow_add-result-2
@@ -28,5 +30,4 @@ pub returns-clause-end : goal.returns-clause-end
 returns-clause-end c =
     let kept = moment_by_kind _ _ _ _ (pos 0) _ _ c.self.invariant.0.end_day
     (ends_near _ c.self.invariant.0) c.self.invariant.2 c.requires.kind c.requires.first in
-    let (at_first, at_midnight, at_seconds, at_sum) = fits _ _ _ c.requires.day kept in
-    simp to_z-of_z (rw (← c.self.view_is) kept.0)
+    let (at_first, at_midnight, at_seconds, at_sum) = fits _ _ _ c.requires.day kept in grind (arith, to_z-of_z)

@@ -1,4 +1,4 @@
-use Rattle.tz_info.proofs.{RuleDays.{rule_day_closed}, Words.{arith, closed_day, inl, linear, number_after, sym, to_z-of_z, ◌+◌, ◌∙◌}}
+use Rattle.tz_info.proofs.{RuleDays.rule_day_closed, Words.{arith, closed_day, inl, linear, number_after, sym, to_z-of_z, ◌+◌, ◌∙◌}}
 use Rattle.tz_info.proofs.rule.day.RuleDay.transition_date.Goals as goal
 
 pub returns-in-Julian1-clause-date : goal.returns-in-Julian1-clause-date
