@@ -147,7 +147,7 @@ asked_for_window z l low _ n d p q valid w h later e = nowhere _ p q (λ u k.
 
 -- ---- by instant
 pub asked_at_time : (z : Zone) (u x : ℤ) (p q : ℕ) → (0 < length z.transitions → IsLeapTime z.leaps u x) → IsAskedAtLeapTime z x p q → IsAskedAt z u p q
-asked_at_time z u x p q time (inl (rule, is, from, e)) = inl (record { rule = rule; of_zone = is; leap_time = x; of_second = time; from_last = from }, e)
+asked_at_time z u x p q time (inl (rule, is, from, e)) = inl (grind linear, e)
 asked_at_time z u x p q time (inr (inl (none, e))) = inr ((λ a. cc), e)
 asked_at_time z u x p q time (inr (inr (before, e))) = grind (linear, same_passed)
 

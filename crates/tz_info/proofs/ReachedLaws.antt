@@ -36,7 +36,7 @@ module _ (z : Zone) (e : Entries) (k : ℕ) (t : ℤ) (valid : IsValid z) (made 
         near = near;
         from = begun_by _ k t made.rising within (omega (arith, place)) fits;
         not_after = omega linear;
-        shown = record { fits = fits; type = table.in_force t s near (omega (arith, place)) (rw place has); shown = sym is };
+        shown = grind linear;
         last = λ m u r from come shows.
             let low = come_by _ k u made.rising within from in
             let high = places_rise _ u t made.rising come in
@@ -138,10 +138,10 @@ one_reached z t l m h k =
 pub adjoint : (z : Zone) (local u t m : ℤ) (s : LocalType) → IsFirstAtOrAfter (TypeAt z) local u s → IsLastReached (TypeAt z) t m → (u ≤ℤ t) ↔ (local ≤ℤ m)
 adjoint z _ u t m s first h = (
   λ come.
-      let most = h.last (u +ℤ s.offset) u s come (record { fits = first.shown.fits; type = first.shown.type; shown = refl }) in
+      let most = h.last (u +ℤ s.offset) u s come (grind linear) in
       let reached = first.shown.reached in omega (linear, most, reached),
   λ less.
       let come = h.not_after in
-      let least = first.first h.at h.local_type (record { fits = h.shown.fits; type = h.shown.type; reached = omega linear }) in
+      let least = first.first h.at h.local_type (grind linear) in
       omega linear,
 )

@@ -117,4 +117,4 @@ one_first z local u v s t h k = grind (linear, one_end)
 pub first_rises : (z : Zone) (local later u v : ℤ) (s t : LocalType) → local ≤ℤ later → IsFirstAtOrAfter (TypeAt z) local u s
     → IsFirstAtOrAfter (TypeAt z) later v t → u ≤ℤ v
 first_rises z _ _ u v s t rise h k = let reached = k.shown.reached in
-    h.first v t (record { fits = k.shown.fits; type = k.shown.type; reached = omega linear })
+    h.first v t (grind linear)

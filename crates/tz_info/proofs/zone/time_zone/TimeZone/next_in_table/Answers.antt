@@ -22,6 +22,7 @@ pub returns-then-is_last : goal.returns-then-is_last
 returns-then-is_last c =
     let e = c.self.inside.changes in
     let (valid, list, n) = given (goal.at.returns-then-is_last c).After-count_near-place in
+    let fs = c.second.type_inv in
     let some : c.count_near-place.result < length e.items = grind arith in
     let last : e.all ≤ c.count_near-place.result + 1 = grind arith in
     next_by_last _ e _ _ (option_map change_held _) valid list (rw n at some) (rw n at last)

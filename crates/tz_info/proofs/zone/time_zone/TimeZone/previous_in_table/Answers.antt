@@ -32,6 +32,7 @@ returns-then-not-is_last c =
 pub returns-in-Some : goal.returns-in-Some
 returns-in-Some c =
     let (valid, list, n) = given (goal.at.returns-in-Some c).After-count_near-count in
+    let fs = c.second.type_inv in
     let found = simp fits at c.in-Some.ensures in
     previous_at _ c.self.inside.changes _ _ (c.count_near-count.result - 1) _ valid list (omega arith) c.second.ensures found.0 found.1
 
@@ -39,6 +40,7 @@ pub returns-then-count-eq1 : goal.returns-then-count-eq1
 returns-then-count-eq1 c =
     let e = c.self.inside.changes in
     let (valid, list, n) = given (goal.at.returns-then-count-eq1 c).After-count_near-count in
+    let fs = c.second.type_inv in
     let one : c.count_near-count.result - 1 ≡ 0 = omega arith in
     previous_none _ e _ valid list
     (idle_more _ e _ _ 0 (sym n ∙ c.if-count-eq1.true) (rw one at c.second.ensures) (simp fits at c.in_default.ensures))
@@ -47,6 +49,7 @@ pub returns : goal.returns
 returns c =
     let e = c.self.inside.changes in
     let (valid, list, n) = given (goal.at.returns c).After-count_near-count in
+    let fs = c.second.type_inv in
     let k = c.count_near-count.result - 2 in
     let before : c.count_near-count.result - 1 ≡ k + 1 = omega arith in
     previous_by_entry _ e _ k (option_map change_held _) valid list (omega arith) (omega arith)
