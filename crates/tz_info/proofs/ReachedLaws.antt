@@ -26,7 +26,6 @@ module _ (z : Zone) (e : Entries) (k : ℕ) (t : ℤ) (valid : IsValid z) (made 
       → l ≡ t +ℤ s.offset → IsReachedSince (TypeAt z) (begin_of e.items k) t l
   reached_in l s place own has offset is =
       let table = table_of z e valid made in
-      let most = place_most _ t made.rising in
       let within : k ≤ length e.items = omega arith in
       let fits : SFits w64 t = omega (linear, wide) in
       let near : IsNear t = (omega (linear, wide), omega (linear, wide)) in
@@ -141,7 +140,6 @@ adjoint z _ u t m s first h = (
       let most = h.last (u +ℤ s.offset) u s come (grind linear) in
       let reached = first.shown.reached in omega (linear, most, reached),
   λ less.
-      let come = h.not_after in
       let least = first.first h.at h.local_type (grind linear) in
       omega linear,
 )

@@ -32,7 +32,7 @@ module _ (z : Zone) (from until low high start end : ℤ) (t : LocalType) (all :
       let k = subst (ShowsWithin (TypeAt z) from until u) (type_once z u s t h.type (type u low high)) h in grind linear
 
   to_run : (u : ℤ) → SFits w64 u → IsWithinRun start end (from -ℤ t.offset) (until -ℤ t.offset) u → ShowsWithin (TypeAt z) from until u t
-  to_run u fits is = let here = type u is.low is.high in grind linear
+  to_run u fits is = grind linear
 
   -- what the next run leaves, if it has none
   pub goes_on : (w : Bool) → IsNextRun w low high start end → ((u : ℤ) → IsWithinRun start end (from -ℤ t.offset) (until -ℤ t.offset) u → ⊥)
@@ -116,5 +116,4 @@ one_first z local u v s t h k = grind (linear, one_end)
 
 pub first_rises : (z : Zone) (local later u v : ℤ) (s t : LocalType) → local ≤ℤ later → IsFirstAtOrAfter (TypeAt z) local u s
     → IsFirstAtOrAfter (TypeAt z) later v t → u ≤ℤ v
-first_rises z _ _ u v s t rise h k = let reached = k.shown.reached in
-    h.first v t (grind linear)
+first_rises z _ _ u v s t rise h k = h.first v t (grind linear)

@@ -224,14 +224,12 @@ module _ (z : Zone) (a b : Span) (u x : ℤ) (same : a.local_time_type ≡ b.loc
   -- an end of one of two spans that share a second, and have one type, lies outside the other
   begin_outside : a.from ≡ Some x → IsSince b.from (x -ℤ pos 1) → ⊥
   begin_outside is since =
-      let end = rw is at h.begins in let from : x ≤ℤ u = rw is at i.since in
-      end.out (rw (← same) at (k.each (x -ℤ pos 1)
+      let end = rw is at h.begins in end.out (rw (← same) at (k.each (x -ℤ pos 1)
       (grind linear)))
 
   end_outside : a.until ≡ Some x → IsUntil b.until x → ⊥
   end_outside is until =
-      let end = rw is at h.ends in let before : u <ℤ x = rw is at i.until in
-      end.out (rw (← same) at (k.each x (grind linear)))
+      let end = rw is at h.ends in end.out (rw (← same) at (k.each x (grind linear)))
 
 same_begin : (p q : Option ℤ) → ((x : ℤ) → p ≡ Some x → IsSince q (x -ℤ pos 1) → ⊥) → ((x : ℤ) → q ≡ Some x → IsSince p (x -ℤ pos 1) → ⊥) → p ≡ q
 same_begin None None h k = refl
