@@ -101,7 +101,7 @@ two_seconds asks c d p q r other both j k = asked_more _ c p q r j (one_second (
 -- ---- those of a rule
 asked_since : (rule : TransitionRule) (from l o : ℤ) (p q : ℕ) → Contains (rule_offsets (Some rule)) o → IsAskedSince from (l -ℤ o) p q
     → IsAskedIf (IsSecondFrom rule from l) (l -ℤ o) p q
-asked_since rule from l o p q of_rule (inl (since, e)) = grind (linear, since)
+asked_since rule from l o p q of_rule (inl (since, e)) = grind linear
 asked_since rule from l o p q of_rule (inr (early, e)) = grind linear
 
 pub asked_fixed : (f : LocalType) (from l : ℤ) (p q : ℕ) → IsAskedSince from (l -ℤ f.offset) p q → IsAskedFrom (Fixed f) from l p q

@@ -38,14 +38,14 @@ module _ (z : Zone) (from until low high start end : ℤ) (t : LocalType) (all :
   pub goes_on : (w : Bool) → IsNextRun w low high start end → ((u : ℤ) → IsWithinRun start end (from -ℤ t.offset) (until -ℤ t.offset) u → ⊥)
       → AreWithin z from until (if w then end else low) (if w then high else start)
   goes_on true run none = record {
-    near_low = (omega linear, omega (linear, all.near_high));
+    near_low = (omega linear, omega linear);
     near_high = all.near_high;
     within = λ u s h. let (since, before) = all.within u s h in
         (by_lt_z u end (λ l. absurd (none u (in_run u s (omega linear) l h))) (λ m. m), before);
   }
   goes_on false run none = record {
     near_low = all.near_low;
-    near_high = (omega (linear, all.near_low), omega (linear, all.near_high));
+    near_high = (omega linear, omega linear);
     within = λ u s h. let (since, before) = all.within u s h in
         (since, by_lt_z u start (λ l. l) (λ m. absurd (none u (in_run u s m (omega linear) h))));
   }

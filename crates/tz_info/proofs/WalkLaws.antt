@@ -162,7 +162,7 @@ walked_more z _ _ place x a b c within w item le cost = rw cost (record {
 })
 
 pub one_look : (b c : Counts) → c ≡ reads_more b 1 → RoseWithin b c 1 2
-one_look b c cost = grind (linear, cost)
+one_look b c cost = grind linear
 
 pub rose_by_walk : (z : Zone) (l low high : ℤ) (first place n : ℕ) (a b c : Counts) → IsWindow z l low high → Between z.transitions low first first
     → place ≤ length z.transitions → Walked z high first place a b → n ≤ 1 → RoseWithin b c n 2 → RoseByWalk z l a c
