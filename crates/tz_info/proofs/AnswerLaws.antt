@@ -6,7 +6,7 @@ use Rattle.tz_info.proofs.Words.{IsWallAnswer, LocalResult, arith, joined, linea
 pub same_answer : {T : Type 0} (p q : ℤ → T → Type 0) (a : LocalResult T) → ((u : ℤ) (t : T) → p u t → q u t) → ((u : ℤ) (t : T) → q u t → p u t)
     → IsWallAnswer p a → IsWallAnswer q a
 same_answer p q None to from h = grind linear
-same_answer p q (Single a) to from h = record { second = h.second; shown = to _ _ h.shown; only = λ u t k. h.only u t (from u t k) }
+same_answer p q (Single a) to from h = grind arith
 same_answer p q (Ambiguous a b) to from h = grind arith
 
 -- r takes what p takes and what q takes, and p's seconds come before q's
@@ -27,7 +27,7 @@ of_one : {T : Type 0} {p : ℤ → T → Type 0} {a : T} → (h : IsWallAnswer p
 of_one h = grind arith
 
 of_several : {T : Type 0} {p : ℤ → T → Type 0} {a b : T} → (h : IsWallAnswer p (Ambiguous a b)) → Ends p h.first h.last a b
-of_several h = record { at_first = h.at_first; at_last = h.at_last; not_before = h.not_before; not_after = h.not_after }
+of_several h = grind arith
 
 -- r takes the first of p's seconds first, and the last of q's last
 both : {T : Type 0} {p q r : ℤ → T → Type 0} {f l m n : ℤ} {a b c d : T} → Parts p q r → Ends p f l a b → Ends q m n c d → IsWallAnswer r (Ambiguous a d)

@@ -11,8 +11,8 @@ same_sides g h p q r = λ i. record { before = p i; after = q i; at = r i }
 
 one_gap : (z : Zone) (l : ℤ) (g h : Change) → HasGap (TypeAt z) l g.before g.after g.at → HasGap (TypeAt z) l h.before h.after h.at → g ≡ h
 one_gap z l g h a b =
-    let less = a.least h.at (record { type = h.after; here = b.here; more = b.more }) in
-    let more = b.least g.at (record { type = g.after; here = a.here; more = a.more }) in
+    let less = a.least h.at (grind linear) in
+    let more = b.least g.at (grind linear) in
     let same : g.at ≡ h.at = omega linear in
     same_sides g h
     (type_once z _ _ _ (subst (λ u. TypeAt z (u -ℤ pos 1) g.before) same a.earlier) b.earlier)

@@ -79,6 +79,6 @@ window_made z from until g h first last fits_g fits_h greatest least =
     let same : from -ℤ (from -ℤ g) ≡ g = omega linear in let alike : until -ℤ (until -ℤ h) ≡ h = omega linear in record {
       greatest = rw same greatest;
       least = rw alike least;
-      near_low = (omega linear, omega (linear, first));
-      near_high = (omega linear, omega (linear, last));
+      near_low = (omega linear, omega linear);
+      near_high = (omega linear, omega linear);
     }

@@ -15,8 +15,8 @@ module _ (z : Zone) (last : LastSpan) (e : Extremes) (extremes : AreExtremes (of
     (after : (u : ℤ) → SFits w64 u → last.after <ℤ u → IsSince last.span.from u) where
   each : (u : ℤ) → SFits w64 u → last.after <ℤ u → u ≤ℤ last.last → IsSpanAt (TypeAt z) u last.span
   each u is l most =
-      let inside : IsInSpan last.span u = record { fits = is; since = after u is l; until = until_less _ u _ h.inside.until most } in
-      record { in_force_then = h.span.each u inside; inside = inside; span = h.span }
+      let inside : IsInSpan last.span u = grind linear in
+      grind linear
 
   -- a second that shows a later local time by a type of the zone comes after that one
   shows_after : (local u v : ℤ) (t : LocalType) → IsWide local → (last.after +ℤ e.greatest) <ℤ local → TypeAt z v t → u +ℤ t.offset ≡ local

@@ -15,7 +15,7 @@ without_transitions _ z u (Ok t) e k =
     record {
       leap_time = u;
       of_second = λ p. absurd (omega arith);
-      in_force = record { before_last = λ q. absurd (omega arith); from_last = λ _. rw f k };
+      in_force = grind arith;
     }
 without_transitions view z u (Err x) e k =
     let f = no_items _ e in
@@ -25,5 +25,5 @@ without_transitions view z u (Err x) e k =
 pub with_transitions : {T : Type 0} (view : T → LocalType) (z : Zone) (u x : ℤ) (r : Result T Error) → IsLeapTime z.leaps u x
     → MatchResult r (λ t. TypeAtLeapTime z u x (view t)) (λ e. (e ≡ FindLocalTimeType YearThatRuleAnswersIn) × IsFromLast z x × IsRefusedBy z.rule u)
     → MatchResult r (λ t. TypeAt z u (view t)) (IsTypeError z u)
-with_transitions _ z u x (Ok t) l k = record { leap_time = x; of_second = λ _. l; in_force = k }
+with_transitions _ z u x (Ok t) l k = grind arith
 with_transitions view z u x (Err e) l k = (by_rule x (λ _. l) k.1 k.2, k.0)

@@ -101,7 +101,7 @@ two_seconds asks c d p q r other both j k = asked_more _ c p q r j (one_second (
 -- ---- those of a rule
 asked_since : (rule : TransitionRule) (from l o : ℤ) (p q : ℕ) → Contains (rule_offsets (Some rule)) o → IsAskedSince from (l -ℤ o) p q
     → IsAskedIf (IsSecondFrom rule from l) (l -ℤ o) p q
-asked_since rule from l o p q of_rule (inl (since, e)) = grind (linear, since)
+asked_since rule from l o p q of_rule (inl (since, e)) = grind linear
 asked_since rule from l o p q of_rule (inr (early, e)) = grind linear
 
 pub asked_fixed : (f : LocalType) (from l : ℤ) (p q : ℕ) → IsAskedSince from (l -ℤ f.offset) p q → IsAskedFrom (Fixed f) from l p q
@@ -147,7 +147,7 @@ asked_for_window z l low _ n d p q valid w h later e = nowhere _ p q (λ u k.
 
 -- ---- by instant
 pub asked_at_time : (z : Zone) (u x : ℤ) (p q : ℕ) → (0 < length z.transitions → IsLeapTime z.leaps u x) → IsAskedAtLeapTime z x p q → IsAskedAt z u p q
-asked_at_time z u x p q time (inl (rule, is, from, e)) = inl (record { rule = rule; of_zone = is; leap_time = x; of_second = time; from_last = from }, e)
+asked_at_time z u x p q time (inl (rule, is, from, e)) = inl (grind linear, e)
 asked_at_time z u x p q time (inr (inl (none, e))) = inr ((λ a. cc), e)
 asked_at_time z u x p q time (inr (inr (before, e))) = grind (linear, same_passed)
 

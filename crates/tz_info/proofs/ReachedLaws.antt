@@ -26,23 +26,22 @@ module _ (z : Zone) (e : Entries) (k : ℕ) (t : ℤ) (valid : IsValid z) (made 
       → l ≡ t +ℤ s.offset → IsReachedSince (TypeAt z) (begin_of e.items k) t l
   reached_in l s place own has offset is =
       let table = table_of z e valid made in
-      let most = place_most _ t made.rising in
       let within : k ≤ length e.items = omega arith in
-      let fits : SFits w64 t = omega (linear, wide) in
-      let near : IsNear t = (omega (linear, wide), omega (linear, wide)) in
+      let fits : SFits w64 t = omega linear in
+      let near : IsNear t = (omega linear, omega linear) in
       record {
         at = t;
         local_type = s;
         near = near;
-        from = begun_by _ k t made.rising within (omega (arith, place)) fits;
+        from = begun_by _ k t made.rising within (omega arith) fits;
         not_after = omega linear;
-        shown = record { fits = fits; type = table.in_force t s near (omega (arith, place)) (rw place has); shown = sym is };
+        shown = grind linear;
         last = λ m u r from come shows.
             let low = come_by _ k u made.rising within from in
             let high = places_rise _ u t made.rising come in
-            let same = type_there z _ _ k u r s table own shows.fits has (omega (arith, place)) shows.type in
-            let o = ap (λ x. x.offset) same in let shown = shows.shown in omega (linear, o, shown, come, is);
-        least = omega (linear, is, offset);
+            let same = type_there z _ _ k u r s table own shows.fits has (omega arith) shows.type in
+            let o = ap (λ x. x.offset) same in let shown = shows.shown in omega linear;
+        least = omega linear;
       }
 
   -- ---- the segments before
@@ -57,13 +56,13 @@ module _ (z : Zone) (e : Entries) (k : ℕ) (t : ℤ) (valid : IsValid z) (made 
               let top = top_least z.rule e made.more in
               let least = since.least in
               let shown = shows.shown in let most = at_most_greatest z u g s greatest shows.type in
-              let near : IsNear m = (omega (linear, wide, least, low, more), omega (linear, wide, fit, most, shown, come)) in
-              let fits : SFits w64 m = omega (linear, near) in
-              let none : IsReached _ e.items k m → ⊥ = λ r. let less = (latest m fits).1 r in omega (linear, less, high, more) in
+              let near : IsNear m = (omega linear, omega linear) in
+              let fits : SFits w64 m = omega linear in
+              let none : IsReached _ e.items k m → ⊥ = λ r. let less = (latest m fits).1 r in omega linear in
               let less = shows_less z e.items _ k m u s (table_of z e valid made) within near none shows.fits before (omega arith) shows.type in
-              omega (linear, less, shown)
+              omega linear
           | inr not ↦
-              let most = since.last m u s (begun_by _ k u made.rising within (omega arith) shows.fits) come shows in omega (linear, most, low)
+              let most = since.last m u s (begun_by _ k u made.rising within (omega arith) shows.fits) come shows in omega linear
         ])
         (λ not. not)
 
@@ -72,31 +71,31 @@ module _ (z : Zone) (e : Entries) (k : ℕ) (t : ℤ) (valid : IsValid z) (made 
         → IsLastReached (TypeAt z) t (end -ℤ pos 1)
     ended zero less begun some inside later = absurd (omega arith)
     ended (suc j) less begun some inside later =
-        let below = index_below z e j valid made (omega (arith, inside, within)) in
+        let below = index_below z e j valid made (omega arith) in
         let (s, has) = inside_listed _ _ below in
         let low = since.least in
         let most = listed_at_most z _ g s greatest below has in
-        let order = (come_from e.items (suc j) (begin_of e.items k) made.rising some (omega (arith, inside, within))).0
-            (let all = place_begin _ k made.rising (omega (arith, inside)) within in omega (arith, all, inside)) in
+        let order = (come_from e.items (suc j) (begin_of e.items k) made.rising some (omega arith)).0
+            (let all = place_begin _ k made.rising (omega arith) within in omega arith) in
         let next : ℤ = begin_of e.items (suc j) in
-        let limit : IsNear (t +ℤ pos 2_147_483_648) = (omega (linear, wide), omega (linear, wide)) in
-        let ahead = (saturated (next +ℤ s.offset) _ limit).1 (omega (linear, order, begun, most, fit)) in
+        let limit : IsNear (t +ℤ pos 2_147_483_648) = (omega linear, omega linear) in
+        let ahead = (saturated (next +ℤ s.offset) _ limit).1 (omega linear) in
         let ends = rw (end_at _ _ j s has) at later in
-        let near : IsNear (end -ℤ pos 1) = (omega (linear, low, less, wide), omega (linear, ends, ahead, limit)) in
+        let near : IsNear (end -ℤ pos 1) = (omega linear, omega linear) in
         let past : (end -ℤ pos 1) <ℤ (next +ℤ s.offset) = by_lt_z (end -ℤ pos 1) (next +ℤ s.offset) (λ m. m)
-        (λ m. let back = (saturated _ _ near).1 m in omega (linear, back, ends)) in
-        let near_at : IsNear (next -ℤ pos 1) = (omega (linear, past, near, most, fit), omega (linear, order, begun, wide)) in
-        let fits : SFits w64 (next -ℤ pos 1) = omega (linear, near_at.0, near_at.1) in
-        let place = place_before e.items j made.rising (omega (arith, inside, within)) in
+        (λ m. let back = (saturated _ _ near).1 m in omega linear) in
+        let near_at : IsNear (next -ℤ pos 1) = (omega linear, omega linear) in
+        let fits : SFits w64 (next -ℤ pos 1) = omega linear in
+        let place = place_before e.items j made.rising (omega arith) in
         let top = top_least z.rule e made.more in
         let last = none_later (end -ℤ pos 1) in
-        let type = (table_of z e valid made).in_force (next -ℤ pos 1) s near_at (omega (arith, place, top, inside, within)) (rw place has) in
-        let most = last _ (next -ℤ pos 1) s (omega linear) (omega linear) (omega (linear, order, begun)) (record { fits = fits; type = type; shown = refl }) in
+        let type = (table_of z e valid made).in_force (next -ℤ pos 1) s near_at (omega arith) (rw place has) in
+        let most = last _ (next -ℤ pos 1) s (omega linear) (omega linear) (omega linear) (record { fits = fits; type = type; shown = refl }) in
         record {
           at = next -ℤ pos 1;
           local_type = s;
-          not_after = omega (linear, order, begun);
-          shown = record { fits = fits; type = type; shown = omega (linear, past, most) };
+          not_after = omega linear;
+          shown = record { fits = fits; type = type; shown = omega linear };
           last = λ m u s. last m u s (omega linear) (omega linear);
         }
 
@@ -104,7 +103,7 @@ module _ (z : Zone) (e : Entries) (k : ℕ) (t : ℤ) (valid : IsValid z) (made 
     pub at_end : begin_of e.items k ≤ℤ t → SFits w64 end → reached <ℤ end → IsLastReached (TypeAt z) t (end -ℤ pos 1)
     at_end begun fits less =
         let least = since.least in
-        let by = (latest (end -ℤ pos 1) (omega (linear, wide, least, fits, less))).0 (omega linear) in
+        let by = (latest (end -ℤ pos 1) (omega linear)).0 (omega linear) in
         ended by.by less begun by.some by.within by.later
 
     -- else it is that of the segment
@@ -114,7 +113,7 @@ module _ (z : Zone) (e : Entries) (k : ℕ) (t : ℤ) (valid : IsValid z) (made 
       local_type = since.local_type;
       not_after = since.not_after;
       shown = since.shown;
-      last = λ m u s. none_later _ m u s (omega linear) (omega (linear, not));
+      last = λ m u s. none_later _ m u s (omega linear) (omega linear);
     }
 
 -- if no segment has passed, `first` is the least second
@@ -138,10 +137,9 @@ one_reached z t l m h k =
 pub adjoint : (z : Zone) (local u t m : ℤ) (s : LocalType) → IsFirstAtOrAfter (TypeAt z) local u s → IsLastReached (TypeAt z) t m → (u ≤ℤ t) ↔ (local ≤ℤ m)
 adjoint z _ u t m s first h = (
   λ come.
-      let most = h.last (u +ℤ s.offset) u s come (record { fits = first.shown.fits; type = first.shown.type; shown = refl }) in
-      let reached = first.shown.reached in omega (linear, most, reached),
+      let most = h.last (u +ℤ s.offset) u s come (grind linear) in
+      let reached = first.shown.reached in omega linear,
   λ less.
-      let come = h.not_after in
-      let least = first.first h.at h.local_type (record { fits = h.shown.fits; type = h.shown.type; reached = omega linear }) in
+      let least = first.first h.at h.local_type (grind linear) in
       omega linear,
 )

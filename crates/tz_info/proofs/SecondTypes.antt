@@ -57,12 +57,12 @@ at_leap_time z u x valid limits of_second =
       | inl before ↦
           let t = inside_listed _ i below in
           let test : nat_lt (length (passed z.transitions x)) (length z.transitions) ≡ true = grind arith in
-          rw (test, t.1) (record { leap_time = x; of_second = of_second; in_force = record { before_last = λ _. t.1; from_last = λ l. absurd (omega arith) } })
+          rw (test, t.1) (grind arith)
       | inr last ↦
           let test : nat_lt (length (passed z.transitions x)) (length z.transitions) ≡ false = grind arith in
           rw test (moved _ ((t : LocalType) → TypeAt z u t → ⊥) (λ t. RuleOrType z u i t) _ _
           (λ refused t h. type_not_refused z u t h (by_rule x of_second last refused))
-          (λ t h. record { leap_time = x; of_second = of_second; in_force = record { before_last = λ l. absurd (omega arith); from_last = λ _. h } })
+          (λ t h. grind arith)
           (or_told _ z u i below limits))
     ]
 

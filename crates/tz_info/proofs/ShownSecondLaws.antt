@@ -32,20 +32,20 @@ module _ (z : Zone) (from until low high start end : ℤ) (t : LocalType) (all :
       let k = subst (ShowsWithin (TypeAt z) from until u) (type_once z u s t h.type (type u low high)) h in grind linear
 
   to_run : (u : ℤ) → SFits w64 u → IsWithinRun start end (from -ℤ t.offset) (until -ℤ t.offset) u → ShowsWithin (TypeAt z) from until u t
-  to_run u fits is = let here = type u is.low is.high in grind linear
+  to_run u fits is = grind linear
 
   -- what the next run leaves, if it has none
   pub goes_on : (w : Bool) → IsNextRun w low high start end → ((u : ℤ) → IsWithinRun start end (from -ℤ t.offset) (until -ℤ t.offset) u → ⊥)
       → AreWithin z from until (if w then end else low) (if w then high else start)
   goes_on true run none = record {
-    near_low = (omega linear, omega (linear, all.near_high));
+    near_low = (omega linear, omega linear);
     near_high = all.near_high;
     within = λ u s h. let (since, before) = all.within u s h in
         (by_lt_z u end (λ l. absurd (none u (in_run u s (omega linear) l h))) (λ m. m), before);
   }
   goes_on false run none = record {
     near_low = all.near_low;
-    near_high = (omega (linear, all.near_low), omega (linear, all.near_high));
+    near_high = (omega linear, omega linear);
     within = λ u s h. let (since, before) = all.within u s h in
         (since, by_lt_z u start (λ l. l) (λ m. absurd (none u (in_run u s m (omega linear) h))));
   }
@@ -116,5 +116,4 @@ one_first z local u v s t h k = grind (linear, one_end)
 
 pub first_rises : (z : Zone) (local later u v : ℤ) (s t : LocalType) → local ≤ℤ later → IsFirstAtOrAfter (TypeAt z) local u s
     → IsFirstAtOrAfter (TypeAt z) later v t → u ≤ℤ v
-first_rises z _ _ u v s t rise h k = let reached = k.shown.reached in
-    h.first v t (record { fits = k.shown.fits; type = k.shown.type; reached = omega linear })
+first_rises z _ _ u v s t rise h k = h.first v t (grind linear)

@@ -28,7 +28,7 @@ early es v x valid h l =
 early_unix : (es : List LeapSecond) (x u : ℤ) → AreLeapSeconds es → x <ℤ pos 0 → IsUnixTime es x u → u ≡ x
 early_unix es x u valid h is =
     let none : pos 0 ≡ correction_before es x = before_found es (record { unix_leap_time = pos 0; correction = pos 0 }) valid 0 x _ (omega arith)
-    (record { value = refl; before = λ k d l. absurd (omega arith) })
+    (grind linear)
     (λ some. let f = (valid.first (record { unix_leap_time = pos 0; correction = pos 0 }) some).since_epoch in omega linear) in
     omega linear
 
@@ -224,14 +224,12 @@ module _ (z : Zone) (a b : Span) (u x : ℤ) (same : a.local_time_type ≡ b.loc
   -- an end of one of two spans that share a second, and have one type, lies outside the other
   begin_outside : a.from ≡ Some x → IsSince b.from (x -ℤ pos 1) → ⊥
   begin_outside is since =
-      let end = rw is at h.begins in let from : x ≤ℤ u = rw is at i.since in
-      end.out (rw (← same) at (k.each (x -ℤ pos 1)
-      (record { fits = end.fits; since = since; until = until_less _ _ u j.until (omega linear) })))
+      let end = rw is at h.begins in end.out (rw (← same) at (k.each (x -ℤ pos 1)
+      (grind linear)))
 
   end_outside : a.until ≡ Some x → IsUntil b.until x → ⊥
   end_outside is until =
-      let end = rw is at h.ends in let before : u <ℤ x = rw is at i.until in
-      end.out (rw (← same) at (k.each x (record { fits = end.fits; since = since_more _ u x j.since (omega linear); until = until })))
+      let end = rw is at h.ends in end.out (rw (← same) at (k.each x (grind linear)))
 
 same_begin : (p q : Option ℤ) → ((x : ℤ) → p ≡ Some x → IsSince q (x -ℤ pos 1) → ⊥) → ((x : ℤ) → q ≡ Some x → IsSince p (x -ℤ pos 1) → ⊥) → p ≡ q
 same_begin None None h k = refl
@@ -260,13 +258,7 @@ begin_changes z s u t h is before =
     let (v, i) = h.some in
     let end = rw is at h.begins in let from = rw is at i.since in
     let here : SFits w64 u = omega linear in
-    record {
-      fits = here;
-      fits_before = end.fits;
-      before = before;
-      after = h.each u (record { fits = here; since = rw is (omega linear); until = until_less _ u v i.until from });
-      differ = λ e. end.out (subst (TypeAt z (u -ℤ pos 1)) e before);
-    }
+    grind linear
 
 pub end_changes : (z : Zone) (s : Span) (u : ℤ) (t : LocalType) → IsSpan (TypeAt z) s → s.until ≡ Some u → TypeAt z u t
     → IsChange (TypeAt z) (record { at = u; before = s.local_time_type; after = t })
@@ -274,11 +266,4 @@ end_changes z s u t h is after =
     let (v, i) = h.some in
     let end = rw is at h.ends in let until = rw is at i.until in
     let there : SFits w64 (u -ℤ pos 1) = omega linear in
-    record {
-      fits = end.fits;
-      fits_before = there;
-      before = h.each (u -ℤ pos 1)
-          (record { fits = there; since = since_more _ v _ i.since (omega linear); until = rw is (omega linear) });
-      after = after;
-      differ = λ e. end.out (subst (TypeAt z u) (sym e) after);
-    }
+    grind linear

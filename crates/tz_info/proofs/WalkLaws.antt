@@ -30,7 +30,7 @@ tested : (z : Zone) (i : ℕ) (since x : ℤ) (until : Option ℤ) → AreRising
 tested z i _ x _ r w b (inl (d, h, e)) = (
   λ t. between_of _ i x r w (record { since = rw b at t.from; until = λ f l. rw (get_or_default z.transitions i f d l) (t.before _ e) }),
   λ f t. let k = within_of _ i x f t in
-      record { from = rw b k.since; before = λ end is. let same : (get_or z.transitions i d).unix_leap_time ≡ end = cc in rw same at (k.until d h) },
+      grind linear,
 )
 tested z i since x until r w b (inr (h, e)) = grind (arith, between_of, within_of)
 
@@ -44,9 +44,9 @@ tried_segment z l i _ _ _ _ valid inside own begin next k s =
     let c = l -ℤ k.type.offset in
     let test = tested z i _ _ _ rising inside begin next in
     let old : (u : ℤ) (f : LocalType) → IsShownIn z l i u f → IsShownIn z l (i + 1) u f =
-    λ u f h. record { shows = h.shows; from = omega arith; below = let b = h.below in omega arith } in
+    λ u f h. grind arith in
     let only : (u : ℤ) (f : LocalType) → IsShownIn z l (i + 1) u f → IsShownIn z l i u f ⊎ ((u ≡ c) × (segment_of z u ≡ i)) = λ u f h. ⊎_elim
-    (λ m. inl (record { shows = h.shows; from = omega arith; below = m }))
+    (λ m. inl (grind arith))
     (λ m.
     let e : segment_of z u ≡ i = omega arith in
     let o = offset_here z i u f _ valid own k.candidate.listed e h.shows.type in grind linear)
@@ -67,7 +67,7 @@ pub with_rule : (z : Zone) (rule : TransitionRule) (start l : ℤ) → IsValid z
     → IsWide l → AreUtOffsets rule
     → Parts (IsShownIn z l (length z.transitions)) (Shows (TypeFrom rule start) l) (IsShownIn z l (length z.transitions + 1))
 with_rule z rule _ l valid is begun wide offsets = record {
-  first = λ u t k. record { shows = k.shows; from = omega arith; below = let b = k.below in omega arith };
+  first = λ u t k. grind arith;
   last = λ u t k.
       let near = near u t k.type.type k.shown in
       let there = (rule_begun z u _ valid near begun).1 k.type.since in
@@ -75,9 +75,9 @@ with_rule z rule _ l valid is begun wide offsets = record {
       let b =
       rw (sym time.1.sum) at (segment_at z u _ valid.transitions.rising there) in
       let type = type_in_from z u _ t time.1 b (rw is k.type.type) in
-      record { shows = record { fits = k.fits; type = type.type; shown = k.shown }; from = omega arith; below = omega arith };
+      grind linear;
   all = λ u t k. elim (cases_lt (segment_of z u) (length z.transitions)) [
-    | inl h ↦ inl (record { shows = k.shows; from = omega arith; below = h })
+    | inl h ↦ inl (grind arith)
     | inr h ↦
         let there : segment_of z u ≡ length z.transitions = let b = k.below in omega arith in
         let type = rw is at (type_from z u t valid.transitions.rising (record { type = k.shows.type; segment = there })) in
@@ -162,7 +162,7 @@ walked_more z _ _ place x a b c within w item le cost = rw cost (record {
 })
 
 pub one_look : (b c : Counts) → c ≡ reads_more b 1 → RoseWithin b c 1 2
-one_look b c cost = grind (linear, cost)
+one_look b c cost = grind linear
 
 pub rose_by_walk : (z : Zone) (l low high : ℤ) (first place n : ℕ) (a b c : Counts) → IsWindow z l low high → Between z.transitions low first first
     → place ≤ length z.transitions → Walked z high first place a b → n ≤ 1 → RoseWithin b c n 2 → RoseByWalk z l a c
@@ -170,7 +170,7 @@ rose_by_walk z l low high _ _ n a b c window split within w one r =
     let walked = walked_most _ low _ _ _ split within w.inside in
     record {
       window = length (come_between z.transitions low high);
-      counted = record { low = low; high = high; window = window; count = refl };
+      counted = grind linear;
       most = grind linear;
       least = λ h. omega arith;
     }

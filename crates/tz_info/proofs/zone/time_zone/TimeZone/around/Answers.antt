@@ -1,7 +1,7 @@
 use Rattle.tz_info.proofs.{
   Fits.fits,
   TableLaws.{gap_by_index, reach_of, rose_by_wall},
-  Words.{IsShownAmong, SFits, ap, arith, length, rules, top_of, w32, ◌≡◌},
+  Words.{HasReach, IsShownAmong, ap, arith, length, rules, top_of, ◌≡◌},
   zone.time_zone.TimeZone.around.Goals.{After-answer-shown, After-answer_behind-season},
 }
 use Rattle.tz_info.specs.{Looks.RoseByWallClock, Steps.Entries.AreEntries}
@@ -17,6 +17,10 @@ said c =
 entries : (c : After-answer-shown) → AreEntries c.args.self.now c.self.inside.changes
 entries c = rw (← c.self.view_is) c.self.invariant.list
 
+reach : (c : After-answer-shown) → HasReach c.args.self.now c.args.local
+reach c =
+    reach_of _ _ c.self.inside.extremes c.requires.local (search rules) (search rules) (rw (← c.self.view_is) c.self.invariant.extremes)
+
 pub answer_behind-season-requires-clause-shown : goal.answer_behind-season-requires-clause-shown
 answer_behind-season-requires-clause-shown c =
     let fl = c.ranges.local in
@@ -26,17 +30,13 @@ answer_behind-season-requires-clause-shown c =
 pub gap_at-requires-clause-reach : goal.gap_at-requires-clause-reach
 gap_at-requires-clause-reach c =
     let fl = c.ranges.local in
-    let fg : SFits w32 c.self.inside.extremes.greatest = search rules in
-    let fh : SFits w32 c.self.inside.extremes.least = search rules in
-    simp fits (reach_of _ _ _ c.requires.local fg fh (rw (← c.self.view_is) c.self.invariant.extremes))
+    simp fits (reach (goal.at.gap_at-requires-clause-reach c).After-answer-shown)
 
 pub gap_at-requires-clause-jump : goal.gap_at-requires-clause-jump
 gap_at-requires-clause-jump c =
     let fl = c.ranges.local in
     let d = (goal.at.gap_at-requires-clause-jump c).After-answer-shown in
-    let fg : SFits w32 c.self.inside.extremes.greatest = search rules in
-    let fh : SFits w32 c.self.inside.extremes.least = search rules in
-    let reach = reach_of _ _ _ c.requires.local fg fh (rw (← c.self.view_is) c.self.invariant.extremes) in
+    let reach = reach d in
     simp fits (gap_by_index _ _ _ reach.0 reach.1 _ _ (rw c.self.view_is at c.self.invariant.valid) (rw (← c.self.view_is) c.self.invariant.limits)
     (entries d) (rw c.in-None.is at (simp fits at c.answer_behind-season.ensures.found)) reach.2 (said d)
     (rw (c.deref.ensures.value, ap (λ z. z.types) c.self.view_is) at c.jump-jump.ensures.jump))

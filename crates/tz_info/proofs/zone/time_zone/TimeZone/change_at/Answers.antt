@@ -1,9 +1,4 @@
-use Rattle.tz_info.proofs.{
-  ChangeSearch.{change_made, none_before, none_here},
-  Fits.fits,
-  Words.{SFits, TypeAt, change_held, option_map, w64},
-  ZoneLaws.{type_not_refused, type_once},
-}
+use Rattle.tz_info.proofs.{ChangeSearch.{change_made, none_before, none_here}, Fits.fits, Words.{SFits, TypeAt, w64}, ZoneLaws.{type_not_refused, type_once}}
 use Rattle.tz_info.proofs.zone.time_zone.TimeZone.change_at.Goals as goal
 
 pub returns-in_default : goal.returns-in_default
@@ -26,5 +21,5 @@ returns c =
     let s = simp fits at c.in_ok-second_before.ensures in
     let fb : SFits w64 c.in_ok-second_before.second_before = rw s.1 s.0 in
     let before = rw s.1 at (simp fits at c.in-Ok.ensures) in
-    change_made (TypeAt c.args.self.now) _ _ _ (option_map change_held _) (type_once _) fs s.0 before
+    change_made (TypeAt c.args.self.now) _ _ _ _ (type_once _) fs s.0 before
     (simp fits at c.in-Ok-find_local_time_type.ensures) (simp fits at c.change_between.ensures)

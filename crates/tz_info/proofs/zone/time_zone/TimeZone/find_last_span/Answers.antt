@@ -10,7 +10,7 @@ returns c =
     let offset = c.from.type_inv in
     let is_offset = simp fits at c.from.ensures in
     let last : SFits w64 c.last_typed-last.result = search rules in
-    simp fits (last_spans _ _ c.self.inside.extremes (rw (← c.self.view_is) c.self.invariant.extremes) (search rules) greatest after last c.last_typed-last.ensures
-    (simp fits at c.in-Ok.ensures)
+    simp fits (last_spans _ _ c.self.inside.extremes (rw (← c.self.view_is) c.self.invariant.extremes) (search rules) greatest after last
+    c.last_typed-last.ensures (simp fits at c.in-Ok.ensures)
     (λ u is later. ((c.start_by.ensures u).0 ((simp fits at (c.second_before-after.ensures u (omega linear))).0 later)).1)
     (rw is_offset at (simp fits at c.cut_at.ensures)) (simp fits at c.previous_change.ensures))

@@ -5,7 +5,7 @@ use Rattle.tz_info.proofs.{
   RuleSegments.first_by_rule,
   SegmentEndLaws.{begun_near, first_there},
   TableLaws.{reach_of, table_of, top_least},
-  Words.{HasReach, IsRuleOrNone, IsValid, SFits, Zone, ap, arith, cases_eq, digits, digits-more, inl, inr, linear, rules, w32, w64, ℕ, ◌*◌, ◌+◌, ◌<◌, ◌≤◌},
+  Words.{HasReach, IsRuleOrNone, IsValid, SFits, ap, arith, cases_eq, digits, digits-more, inl, inr, linear, rules, w64, ℕ, ◌*◌, ◌+◌, ◌<◌, ◌≤◌},
   zone.time_zone.TimeZone.first_at_or_after.Goals.{After-first_reaching-place},
 }
 use Rattle.tz_info.specs.{Steps.Entries.AreEntries, Steps.SegmentEnds.IsFirstSegment}
@@ -19,10 +19,7 @@ valid : (c : After-first_reaching-place) → IsValid c.args.self.now
 valid c = rw (← c.self.view_is) c.self.invariant.valid
 
 reach : (c : After-first_reaching-place) → HasReach c.args.self.now c.args.local
-reach c =
-    let fg : SFits w32 c.self.inside.extremes.greatest = search rules in
-    let fh : SFits w32 c.self.inside.extremes.least = search rules in
-    reach_of _ _ _ c.requires.local fg fh (rw (← c.self.view_is) c.self.invariant.extremes)
+reach c = reach_of _ _ c.self.inside.extremes c.requires.local (search rules) (search rules) (rw (← c.self.view_is) c.self.invariant.extremes)
 
 first : (c : After-first_reaching-place) → IsFirstSegment c.args.self.now.types c.self.inside.changes.items c.args.local c.first_reaching-place.result
 first c =
@@ -40,8 +37,8 @@ returns-in_default c =
     let fl = c.ranges.local in
     let z = c.args.self.now in
     let limits : IsRuleOrNone z.rule = rw (← c.self.view_is) c.self.invariant.limits in
-    let own = rw (ap (λ (z : Zone). z.rule) c.self.view_is) at c.in_default.ensures in
-    let is = rw (c.deref-in_default.ensures.value, ap (λ (z : Zone). z.types) c.self.view_is) at (simp fits at c.first_of.ensures.first) in
+    let own = rw (ap (λ z. z.rule) c.self.view_is) at c.in_default.ensures in
+    let is = rw (c.deref-in_default.ensures.value, ap (λ z. z.types) c.self.view_is) at (simp fits at c.first_of.ensures.first) in
     let bound = fewer _ _ (entries d).few in
     record {
       found = first_there z _ _ _ _ (table_of z _ (valid d) (entries d)) c.requires.local (first d) _ _ _ _ (valid d) limits own (reach d).2 is;
@@ -66,6 +63,7 @@ pub returns : goal.returns
 returns c =
     let d = (goal.at.returns c).After-first_reaching-place in
     let fl = c.ranges.local in
+    let fb : SFits w64 c.begin_of-begin.result.1 = search rules in
     let is = rw (ap (λ z. z.rule) c.self.view_is) at c.in-Some.ensures in
     let bound = fewer _ _ (entries d).few in
     record {

@@ -9,7 +9,8 @@ use Rattle.tz_info.proofs.zone.time_zone.TimeZone.gap_by_search.Goals as goal
 
 near : (c : After-first_at_or_after-first)
     → SFits w64 c.first_at_or_after-first.result.at × SFits w64 (c.first_at_or_after-first.result.at -ℤ pos 1)
-    × (c.requires.reach.0 ≤ℤ c.first_at_or_after-first.result.at) × (c.first_at_or_after-first.result.at ≤ℤ c.requires.reach.1) × IsNear (c.first_at_or_after-first.result.at -ℤ pos 1)
+    × (c.requires.reach.0 ≤ℤ c.first_at_or_after-first.result.at)
+    × (c.first_at_or_after-first.result.at ≤ℤ c.requires.reach.1) × IsNear (c.first_at_or_after-first.result.at -ℤ pos 1)
 near c =
     let ff : SFits w64 c.first_at_or_after-first.result.at = search rules in
     let first = c.first_at_or_after-first.result in
@@ -34,5 +35,6 @@ type_at-requires c =
 pub returns : goal.returns
 returns c =
     let (ff, fb, low, high, near) = near (goal.at.returns c).After-first_at_or_after-first in
+    let fl = c.ranges.local in
     simp fits (gap_at_first _ _ _ _ _ _ _
     c.requires.never c.requires.reach.2 low high (simp fits at c.first_at_or_after-first.ensures.found) (simp fits at c.type_at.ensures))

@@ -1,14 +1,14 @@
-use Rattle.tz_info.proofs.{Fits.fits, Words.{change_held, option_map, ◌<ℤ◌}, ZoneChanges.{rule_first, table_first}}
+use Rattle.tz_info.proofs.{Fits.fits, ZoneChanges.{rule_first, table_first}}
 use Rattle.tz_info.proofs.zone.time_zone.TimeZone.next_change_near.Goals as goal
 
 pub returns-in-Some : goal.returns-in-Some
 returns-in-Some c =
     let fa = c.ranges.after in
-    table_first _ (λ u. c.args.after <ℤ u) _ (rw (← c.self.view_is) c.self.invariant.valid)
+    table_first _ _ _ (rw (← c.self.view_is) c.self.invariant.valid)
     (simp fits at c.in-Some.ensures)
 
 pub returns-in-None : goal.returns-in-None
 returns-in-None c =
     let fa = c.ranges.after in
-    rule_first _ (λ u. c.args.after <ℤ u) (option_map change_held _) (rw (← c.self.view_is) c.self.invariant.valid)
+    rule_first _ _ _ (rw (← c.self.view_is) c.self.invariant.valid)
     (simp fits at c.in-None.ensures) (simp fits at c.change_by_rule.ensures)

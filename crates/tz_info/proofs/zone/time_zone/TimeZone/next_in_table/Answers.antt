@@ -1,7 +1,7 @@
 use Rattle.tz_info.proofs.{
   EntryChanges.{next_by_entry, next_by_last, next_none},
   Fits.fits,
-  Words.{IsValid, ap, arith, change_held, length, option_map, passed, sym, ◌+◌, ◌<◌, ◌∙◌, ◌≡◌, ◌≤◌},
+  Words.{IsValid, ap, arith, length, passed, sym, ◌+◌, ◌<◌, ◌∙◌, ◌≡◌, ◌≤◌},
   zone.time_zone.TimeZone.next_in_table.Goals.{After-count_near-place},
 }
 use Rattle.tz_info.specs.Steps.Entries.{AreEntries}
@@ -22,9 +22,10 @@ pub returns-then-is_last : goal.returns-then-is_last
 returns-then-is_last c =
     let e = c.self.inside.changes in
     let (valid, list, n) = given (goal.at.returns-then-is_last c).After-count_near-place in
+    let fs = c.second.type_inv in
     let some : c.count_near-place.result < length e.items = grind arith in
     let last : e.all ≤ c.count_near-place.result + 1 = grind arith in
-    next_by_last _ e _ _ (option_map change_held _) valid list (rw n at some) (rw n at last)
+    next_by_last _ e _ _ _ valid list (rw n at some) (rw n at last)
     (rw n at c.second.ensures) (simp fits at c.change_at.ensures)
 
 pub returns : goal.returns
@@ -33,5 +34,5 @@ returns c =
     let (valid, list, n) = given (goal.at.returns c).After-count_near-place in
     let some : c.count_near-place.result < length e.items = grind arith in
     let more : c.count_near-place.result + 1 < e.all = grind arith in
-    next_by_entry _ e _ (option_map change_held _) valid list (rw n at some) (rw n at more) c.ranges.after
+    next_by_entry _ e _ _ valid list (rw n at some) (rw n at more) c.ranges.after
     (rw n at (rw (c.deref.ensures.value ∙ (ap (λ y. y.types) c.self.view_is)) at c.change_at-2.ensures))

@@ -18,7 +18,7 @@ returns-in-Ok c =
     simp fits (record {
       each = λ u low high. let since = (c.start_by.ensures u).0 low in (
         c.in-Ok.span.local_time_type,
-        at.span.each u (record { fits = omega (arith, ints); since = since.1; until = ((c.end_by.ensures u).0 high).1 }),
+        at.span.each u (grind (arith, ints)),
         c.offset.ensures.value,
       );
       at = ((c.start_by.ensures u).1 (omega (arith, ints), at.inside.since), (c.end_by.ensures u).1 (below, at.inside.until));

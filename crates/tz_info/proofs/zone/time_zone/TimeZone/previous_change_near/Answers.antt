@@ -1,16 +1,16 @@
-use Rattle.tz_info.proofs.{Fits.fits, Words.{change_held, option_map, ◌≤ℤ◌}, ZoneChanges.{rule_is_last, table_is_last}}
+use Rattle.tz_info.proofs.{Fits.fits, ZoneChanges.{rule_is_last, table_is_last}}
 use Rattle.tz_info.proofs.zone.time_zone.TimeZone.previous_change_near.Goals as goal
 
 pub returns-in-Some : goal.returns-in-Some
 returns-in-Some c =
     let fa = c.ranges.before_or_at in
-    rule_is_last _ (λ u. u ≤ℤ _) _ (rw (← c.self.view_is) c.self.invariant.valid)
+    rule_is_last _ _ _ (rw (← c.self.view_is) c.self.invariant.valid)
     (simp fits at c.in-Some.ensures)
 
 pub returns-in-None : goal.returns-in-None
 returns-in-None c =
     let fa = c.ranges.before_or_at in
-    table_is_last _ (λ u. u ≤ℤ _) (option_map change_held _)
+    table_is_last _ _ _
     (rw (← c.self.view_is) c.self.invariant.valid)
     (simp fits at c.in-None.ensures) (simp fits at c.previous_in_table.ensures)
 

@@ -18,7 +18,7 @@ reached_since-reached-requires-clause-order c =
     let fb : SFits w64 c.begin_of-index.result.1 = search rules in
     let made = rw c.self.view_is at c.self.invariant.list in
     let place = simp fits at c.count-place.ensures.count in
-    simp fits (rw c.begin_of-index.ensures.begin (begun_by _ _ _ made.rising c.count-place.ensures.within (omega (arith, place)) fs))
+    simp fits (rw c.begin_of-index.ensures.begin (begun_by _ _ _ made.rising c.count-place.ensures.within (omega arith) fs))
 
 -- from the begin of the segment on
 since : (c : After-latest_end-end)
@@ -100,7 +100,7 @@ returns-then-reached-end c =
     record {
       reached = simp fits (at_end _ _ _ _ (rw c.self.view_is at c.self.invariant.valid) made c.requires.second _ _ _ fg
           (rw (← c.self.view_is) c.self.invariant.extremes.greatest) c.count-place.ensures.within (since d) (latest d)
-          (begun_by _ _ _ made.rising c.count-place.ensures.within (omega (arith, place)) fs) fe (omega (arith, ints)));
+          (begun_by _ _ _ made.rising c.count-place.ensures.within (omega arith) fs) fe (omega (arith, ints)));
       cost = ended d;
     }
 

@@ -14,13 +14,12 @@ index-requires c =
 pub returns : goal.returns
 returns c =
     let fu = c.ranges.unix_time in
-    let z = c.args.self.now in
     let e = c.self.inside.changes in
     let valid = rw c.self.view_is at c.self.invariant.valid in
     let list = rw c.self.view_is at c.self.invariant.list in
     let low : SFits w64 c.in-Some.between.from = search rules in
     let high : SFits w64 c.in-Some.between.until = search rules in
     let h = simp fits at c.in-Some.ensures in
-    let has : slice_get z.types c.in-Some.between.index ≡ Some c.index.result.now = let below =
+    let has : slice_get c.args.self.now.types c.in-Some.between.index ≡ Some c.index.result.now = let below =
     index_between _ e _ _ valid list h in grind (arith, slice_get_read) in
     simp fits (span_between _ e _ _ _ valid list h (grind arith) fu low high has)

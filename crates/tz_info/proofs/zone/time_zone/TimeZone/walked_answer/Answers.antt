@@ -80,9 +80,11 @@ transition-next-requires-clause-room c = grind (arith, digits-le)
 pub returns-then-high-next : goal.returns-then-high-next
 returns-then-high-next c =
     let at = goal.at.returns-then-high-next c in
+    let fh = c.leap_time_near-high.type_inv in
     let (window, split) = begun at.After-passed_count-first in
     let valid = rw c.self.view_is at c.self.invariant.valid in
     let walked = simp fits at c.loop-place.invariant.walked in
+    let time = ap (λ t. t.unix_leap_time) c.transition-next.ensures.item in
     record {
       found = none_behind _ _ _ _ c.loop-place.place valid window c.transition-next.result (omega arith) (omega linear) _
           (tried at.After-try_until-answer);
@@ -114,7 +116,9 @@ try_last-requires-clause-seen c =
 
 pub returns : goal.returns
 returns c =
+    let fl = c.ranges.local in
     let valid = rw c.self.view_is at c.self.invariant.valid in
+    let fh = c.leap_time_near-high.type_inv in
     let (window, split) = begun (goal.at.returns c).After-passed_count-first in
     record {
       found = all_segments _ _ _ valid.transitions.rising (simp fits at c.try_last.ensures.found);
