@@ -173,8 +173,7 @@ module _ (z : Zone) (old kept entries : List Transition) (k : ℕ) (s : ℤ) (t 
               come = λ m u x l.
                   let first = last_come z.transitions k t x h.valid.transitions.rising m in
                   let last = last_come full (length kept) t u longer (omega arith) in
-                  let reach = h.start.reached u x l in
-                  ((λ q. last.1 (rw own_last (reach.0 (rw (← h.item) at (first.0 q))))), (λ q. first.1 (rw (← h.item) (reach.1 (rw own_last at (last.0 q))))));
+                  let reach = h.start.reached u x l in let item = h.item in grind arith;
               some = λ _ _. omega arith;
               differ = λ j l m. elim (cases_lt j (length kept)) [
                 | inl b ↦ rw (index_left kept (entry ∷ []) j (omega arith), index_left kept (entry ∷ []) (j + 1) (omega arith)) (differ j b)
