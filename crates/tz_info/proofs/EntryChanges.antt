@@ -112,6 +112,7 @@ module _ (z : Zone) (e : Entries) (valid : IsValid z) (made : AreEntries z e) wh
   earlier_time : (u v y : ℤ) → u ≤ℤ v → IsLeapTime z.leaps v y → (x : ℤ) × IsLeapTime z.leaps u x
   earlier_time u v y h l = elim (leap_time_decided z.leaps u) [ inl x ↦ x | inr r ↦ absurd (refused_on _ u v y valid.leaps h r l) ]
 
+  -- the type in force is the one after the entries that have come
   type_here : (u x : ℤ) (n : ℕ) → SFits w64 u → IsLeapTime z.leaps u x → count_at e u ≡ n
       → slice_get z.types (index_at z x) ≡ slice_get z.types (index_of e.items n)
   type_here u x n fits l count = let named = made.named u x fits l in let index = index_there e u made.rising in grind arith
@@ -186,6 +187,7 @@ module _ (z : Zone) (e : Entries) (valid : IsValid z) (made : AreEntries z e) wh
       let seg = come_at_time z (c.at -ℤ pos 1) is.before.leap_time l in grind (arith, segment_most)
 
   -- ---- the nearest change of the table
+  -- a change at an entry is the nearest one if no change at an entry ahead precedes it
   found : (w : Bool) (s : ℤ) (k : ℕ) (c : Change) → k < length e.items → IsChange (TypeAt z) c → c.at ≡ time_at e k → IsAhead w s c.at
       → ((j : ℕ) (d : Change) → j < length e.items → IsChange (TypeAt z) d → time_at e j ≡ d.at → IsAhead w s d.at → Precedes w c.at d.at)
       → IsNearestChange w (TypeAt z) (IsInTable z (IsAhead w s)) c

@@ -131,6 +131,7 @@ module _ (z : Zone) (old kept entries : List Transition) (k : ℕ) (s : ℤ) (t 
   named_from : (u x : ℤ) → IsLeapTime z.leaps u x → s ≤ℤ u → last_index (passed (take (k + 1) z.transitions) x) ≡ t.type_index
   named_from u x l late = rw (taken, passed_in (take k z.transitions) t x ((h.start.reached u x l).1 late), last_more) refl
 
+  -- then the entries are those of one transition more
   pub turned : AreMadeOf z entries (k + 1)
   turned =
       let few = keep.few in
@@ -172,8 +173,7 @@ module _ (z : Zone) (old kept entries : List Transition) (k : ℕ) (s : ℤ) (t 
               come = λ m u x l.
                   let first = last_come z.transitions k t x h.valid.transitions.rising m in
                   let last = last_come full (length kept) t u longer (omega arith) in
-                  let reach = h.start.reached u x l in
-                  ((λ q. last.1 (rw own_last (reach.0 (rw (← h.item) at (first.0 q))))), (λ q. first.1 (rw (← h.item) (reach.1 (rw own_last at (last.0 q))))));
+                  let reach = h.start.reached u x l in let item = h.item in grind arith;
               some = λ _ _. omega arith;
               differ = λ j l m. elim (cases_lt j (length kept)) [
                 | inl b ↦ rw (index_left kept (entry ∷ []) j (omega arith), index_left kept (entry ∷ []) (j + 1) (omega arith)) (differ j b)
@@ -257,6 +257,7 @@ own_entries z valid none differ =
     }
 
 -- ---- the second at which a transition comes
+-- a leap time comes at no second if its first one is too late, or has no leap time
 module _ (leaps : List LeapSecond) (x start : ℤ) (reached : (u y : ℤ) → IsLeapTime leaps u y → (x ≤ℤ y) ↔ (start ≤ℤ u)) where
   pub never_then : pos 9_223_372_036_854_775_807 <ℤ start → NeverComes leaps x
   never_then late u y f l = let a = reached u y l in grind linear

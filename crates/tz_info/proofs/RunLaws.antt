@@ -3,8 +3,8 @@ use Rattle.std.specs.Prelude.{IfSome, if◌then◌else◌}
 use Rattle.tz_base.specs.declared.span.Span.{Span}
 use Rattle.tz_info.proofs.{
   SpanLaws.{since_more},
-  Words.{Bool, HaveOneTypeFrom, IsNear, IsNextRun, IsOutOfForce, IsRunUntil, LocalType, None, Option, Some, TypeAt, Zone, by_lt_z, false, linear, pos, true, ℤ},
-  Words.{◌-ℤ◌, ◌<ℤ◌, ◌↔◌, ◌≡◌, ◌≤ℤ◌},
+  Words.{Bool, HaveOneTypeFrom, IsNear, IsNextRun, IsOutOfForce, IsRunUntil, LocalType, None, Option, Some, TypeAt, Zone, false, linear, pos, true, ℤ, ◌-ℤ◌},
+  Words.{◌<ℤ◌, ◌↔◌, ◌≡◌, ◌≤ℤ◌},
   ZoneLaws.{type_once},
 }
 use Rattle.tz_info.specs.Spans.{IsInSpan, IsSince, IsSpan, IsSpanAt, IsUntil}
