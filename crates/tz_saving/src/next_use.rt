@@ -1,12 +1,12 @@
 //! The next use of a type.
 
-ghost use Rattle.std.specs.Prelude.{◌≡◌, ◌↔◌, true, IsTrue};
+ghost use Rattle.std.specs.Prelude.{◌≡◌, true};
 ghost use Rattle.tz_info.specs.Zones.{TypeAt};
 ghost use Rattle.tz_saving.specs.{Amounts.{IsNextCandidate}, Steps.Walks.{IsOnlyCandidate, IsSecondOfNextUse}};
 ghost use Rattle.tz_saving.specs.Sides.{IsFound};
 
 use crate::candidates::{candidates_at, only_of};
-use crate::sides::REACH;
+use crate::turns::nearest_turn;
 use tz_info::{LocalTimeType, TimeZone};
 
 // The only candidate that the type, which has the DST flag, has when it is next used after the second.
@@ -34,23 +34,8 @@ fn only_candidate(zone: &TimeZone, second: i64, local: &LocalTimeType) -> Option
 fn next_use(zone: &TimeZone, second: i64, local: &LocalTimeType) -> Option<i64>
     ensures { IsSecondOfNextUse (TypeAt zone.now) local.now second result }
 {
-    let mut reached = second;
-    let mut left = REACH;
-    'changes: while left > 0 {
-        let Some(change) = zone.next_held_change(reached) else {
-            return None;
-        };
-        if is_same_type(change.after, local) {
-            return Some(change.at);
-        }
-        reached = change.at;
-        left -= 1;
+    match nearest_turn(zone, second, true, false, local) {
+        Some(change) => Some(change.at),
+        None => None,
     }
-    None
-}
-
-fn is_same_type(a: &LocalTimeType, b: &LocalTimeType) -> bool
-    ensures { IsTrue result ↔ (a.now ≡ b.now) }
-{
-    *a == *b
 }

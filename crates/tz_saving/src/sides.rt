@@ -5,10 +5,8 @@ ghost use Rattle.tz_info.specs.Zones.{TypeAt};
 ghost use Rattle.tz_saving.specs.Sides.{HasNoStandard, IsAfter, IsBefore, IsFirstAfter, IsFound};
 ghost use Rattle.tz_saving.specs.Sides.{IsRuleStandard, IsSoonAfter};
 
+use crate::turns::nearest_turn;
 use tz_info::{LocalTimeType, TimeZone, TransitionRule};
-
-// How many clock changes away standard time, or the next use of a type, may be.
-pub(crate) const REACH: u32 = 64;
 
 // The offset of the last standard second before that one, at which a type with the DST flag is in
 // force; none if it is out of reach.
@@ -18,20 +16,10 @@ pub(crate) fn standard_before(zone: &TimeZone, second: i64, local: &LocalTimeTyp
     ensures { IsFound (IsBefore (TypeAt zone.now) second) result }
 {
     zone.valid_law();
-    let mut reached = second;
-    let mut left = REACH;
-    'changes: while left > 0 {
-        let Some(change) = zone.previous_held_change(reached) else {
-            return None;
-        };
-        if change.before.is_dst() {
-            reached = change.at - 1;
-        } else {
-            return Some(change.before.offset());
-        }
-        left -= 1;
+    match nearest_turn(zone, second, false, true, local) {
+        Some(change) => Some(change.before.offset()),
+        None => None,
     }
-    None
 }
 
 // The offset of the first standard second after it or, if none is within reach, that of the rule's
@@ -55,20 +43,10 @@ fn first_standard_after(zone: &TimeZone, second: i64, local: &LocalTimeType) -> 
         (IsFirstAfter (TypeAt zone.now) second) }
 {
     zone.valid_law();
-    let mut reached = second;
-    let mut left = REACH;
-    'changes: while left > 0 {
-        let Some(change) = zone.next_held_change(reached) else {
-            return None;
-        };
-        if change.after.is_dst() {
-            reached = change.at;
-        } else {
-            return Some(change.after.offset());
-        }
-        left -= 1;
+    match nearest_turn(zone, second, true, true, local) {
+        Some(change) => Some(change.after.offset()),
+        None => None,
     }
-    None
 }
 
 // The offset of standard time of the zone's rule, if that has two types.
