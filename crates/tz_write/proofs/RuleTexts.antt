@@ -1,16 +1,274 @@
 -- The text of a rule: it spells the rule, and each other one is longer.
-use Rattle.tz_write.proofs.Words.{Alternate, AreInPairs, AreTimesOf, Bool, CanBeSpelled, DayTime, IsAlternateRule, IsName, IsNamed, IsPlainTime, IsRule}
-use Rattle.tz_write.proofs.Words.{IsTextTime, IsTzText, IsWithinDay, IsWrittenText, List, LocalType, NoneFirst, Spells, TransitionRule, ap, append-nil}
-use Rattle.tz_write.proofs.Words.{append_assoc, arith, both_ways, comma, spelled_day, spelled_dst_offset, false, inl, inr, ints, is_letter, length, name_of}
-use Rattle.tz_write.proofs.Words.{name_or_none, spelled_name, named_type, nat_tests, not, offset_fits, spelled_offset, refl, spelled_rule, true, ℕ, ℤ, []}
-use Rattle.tz_write.proofs.Words.{◌++◌, ◌<◌, ◌↔◌, ◌∙◌, ◌∷◌, ◌≡◌, ◌⊎◌}
-use Rattle.tz_write.proofs.{Clocks.{Stops, comma_stops, offset_begins, offset_front, offset_writes}, Decimals.{Begins}}
-use Rattle.tz_write.proofs.PieceTexts.{by_hour, day_front, day_plain, day_writes, dst_offset_front, dst_offset_writes, name_begins, name_front, name_writes}
-use Rattle.tz_write.proofs.Shortest.{Best, front_cons, front_then, front_whole}
-use Rattle.tz_write.proofs.TextBytes.{writes_here}
-use Rattle.tz_write.proofs.TextBytes.{AreTextBytes, Writes, writes_byte, writes_last, writes_more, writes_then}
+use Rattle.tz_base.proofs.RunLaws.{all_of}
+use Rattle.tz_base.specs.Grammar.{Number, Run, Then}
+use Rattle.tz_info.specs.declared.rule.day.DayForm.TheVariants.{Julian0, Julian1, MonthWeekday}
+use Rattle.tz_write.proofs.TextBytes.{AreTextBytes, Begins, Best, Front, Writes, all_others, first_optional, front_cons, front_longer, front_nothing}
+use Rattle.tz_write.proofs.TextBytes.{front_optional, front_then, front_unless, front_whole, names_are, number_begins, number_front, number_writes}
+use Rattle.tz_write.proofs.TextBytes.{pair_front, pair_writes, pairs_over, two_digits, writes_at, writes_byte, writes_check, writes_colon, writes_first}
+use Rattle.tz_write.proofs.TextBytes.{writes_here, writes_last, writes_mark, writes_more, writes_nothing, writes_optional, writes_other, writes_then}
+use Rattle.tz_write.proofs.Words.{AllOf, Alternate, AreInPairs, AreTimesOf, Bool, CanBeSpelled, DayForm, DayTime, Decides-int_eq, IsAlternateRule, IsName}
+use Rattle.tz_write.proofs.Words.{IsNamed, IsPlainTime, IsRule, IsRuleDay, IsTextTime, IsTzText, IsWithinDay, IsWrittenText, List, LocalType, NoneFirst}
+use Rattle.tz_write.proofs.Words.{Spells, TransitionRule, Without, [], and_from, and_parts, ap, append-nil, append_assoc, arith, both_ways, clock_max, colon}
+use Rattle.tz_write.proofs.Words.{comma, cond, date_max, day_max, false, greater, inl, inr, int_eq, ints, is_digit, is_letter, is_name_byte, is_not_greater}
+use Rattle.tz_write.proofs.Words.{le-ltb, length, length-append, less, list_all, minus, name_of, name_or_none, named_type, nat_tests, neg_ℤ, not, offset_fits}
+use Rattle.tz_write.proofs.Words.{pos, refl, slash, spelled_clock, spelled_date, spelled_day, spelled_dst_offset, spelled_name, spelled_offset, spelled_pair}
+use Rattle.tz_write.proofs.Words.{spelled_rule, spelled_time, time_after, time_limit, true, unsigned_abs, ℕ, ℤ, ◌%◌, ◌&&◌, ◌*◌, ◌++◌, ◌+ℤ◌, ◌+◌, ◌/◌, ◌<ℤ◌}
+use Rattle.tz_write.proofs.Words.{◌<◌, ◌==◌, ◌↔◌, ◌∙◌, ◌∷◌, ◌≡◌, ◌≢◌, ◌≤◌, ◌⊎◌}
+use Rattle.tz_write.specs.Steps.TextPieces.{is_negative, is_positive, spelled_hands, spelled_minutes, spelled_seconds, spelled_signed}
 use Rattle.tz_info.specs.TzGrammar as tz
 use Rattle.tz_info.specs.declared.rule.transition_rule.TransitionRule.TheVariants as rules
+
+-- ==== The texts of offsets and of times of day.
+
+-- nothing that goes on with an offset, a day or a time
+abbrev pub Stops : List ℕ → Type 0
+Stops rest = NoneFirst is_digit rest × Without colon rest × Without slash rest
+
+pub comma_stops : (rest : List ℕ) → Stops (comma ∷ rest)
+comma_stops rest = grind (arith, nat_tests)
+
+-- ---- numbers with a sign
+abbrev signed : Bool → ℕ → ℤ
+signed negative n = cond negative (neg_ℤ (pos n)) (pos n)
+
+abs_signed : (negative : Bool) (n : ℕ) → unsigned_abs (signed negative n) ≡ n
+abs_signed negative n = grind (arith, ints)
+
+-- seconds below n hours, before or after midnight
+hours_within : (hours : ℕ) (z : ℤ) → (neg_ℤ (pos (3600 * hours)) <ℤ z) × (z <ℤ pos (3600 * hours)) → unsigned_abs z / 3600 < hours
+hours_within hours z h = grind (arith, ints)
+
+time_within : (extended : Bool) (time : ℤ) → IsTextTime extended time
+    → (unsigned_abs time / 3600 ≤ time_limit extended) × (extended ≡ false → is_negative time ≡ false)
+time_within extended time h = grind (arith, hours_within, le-ltb)
+
+clock_begins : (n : ℕ) (rest : List ℕ) → n / 3600 < 1000 → Begins 48 57 (spelled_clock n ++ rest)
+unfolding spelled_clock
+clock_begins n rest l = grind (arith, append_assoc, number_begins)
+
+-- an offset begins with a digit or a minus
+pub offset_begins : (east : ℤ) (rest : List ℕ) → IsWithinDay east → Begins 45 57 (spelled_offset east ++ rest)
+unfolding spelled_offset
+offset_begins east rest h = grind (arith, clock_begins, hours_within)
+
+-- ---- what is written before a rest that ends it
+module _ (rest : List ℕ) (stops : Stops rest) where
+  seconds_writes : (s : ℕ) → s ≤ 59 → Writes tz.seconds (spelled_seconds s) s rest
+  unfolding tz.seconds
+  seconds_writes s h = grind (arith, writes_optional, writes_colon, two_digits, pair_writes)
+
+  minutes_writes : (m s : ℕ) → m ≤ 59 → s ≤ 59 → Writes tz.optional_minutes (spelled_minutes m s) (m, s) rest
+  unfolding tz.optional_minutes tz.minutes_seconds
+  minutes_writes m s a b = let stop = first_optional is_digit (s == 0) colon _ rest refl stops.0 in
+      writes_optional ((m == 0) && (s == 0)) (grind (arith, nat_tests)) stops.1 (λ _. writes_colon (two_digits m _ (omega arith) stop)
+      (writes_then (pair_writes clock_max m _ (omega arith) stop (omega arith)) (writes_last (seconds_writes s b) (refl, refl))))
+
+  hours_writes : (h m s : ℕ) → h ≤ clock_max → m ≤ 59 → s ≤ 59 → Writes tz.hours_minutes_seconds (spelled_hands h m s) (h, m, s) rest
+  unfolding tz.hours_minutes_seconds
+  hours_writes h m s l a b =
+      writes_then (number_writes clock_max h _ l (grind (arith, nat_tests)) (omega arith))
+      (writes_last (minutes_writes m s a b) (refl, refl))
+
+  -- n seconds are z, but for the sign
+  module _ (limit n : ℕ) (z : ℤ) (l : n / 3600 ≤ limit) (k : limit < 1000) where
+    duration_writes : (negative : Bool) → z ≡ signed negative n → Writes (tz.duration limit negative) (spelled_clock n) z rest
+    unfolding spelled_clock tz.duration
+    duration_writes negative v =
+        let e : 3600 * (n / 3600) + 60 * (n / 60 % 60) + n % 60 ≡ n = omega arith in
+        writes_here (writes_last (hours_writes (n / 3600) (n / 60 % 60) (n % 60) (omega arith) (omega arith) (omega arith))
+        ((l, omega arith, omega arith), rw e v, refl))
+
+    -- a minus, if there is to be one, and a duration, whose sign follows from the minus
+    signed_writes : (signs : Bool) (f : Bool → Bool) (negative : Bool) → (signs ≡ false → negative ≡ false) → z ≡ signed (f negative) n
+        → Writes (Then (tz.time_sign signs) (λ m. tz.duration limit (f m))) (spelled_signed negative n) z rest
+    unfolding tz.time_sign tz.sign
+    signed_writes true f true may v =
+        writes_then (writes_other (grind arith) (writes_mark refl (writes_nothing refl))) (duration_writes (f true) v)
+    signed_writes true f false may v = let first = clock_begins n rest (omega arith) in
+        writes_first false (inr (grind arith, inr (grind arith, (refl, refl))))
+        (duration_writes (f false) v)
+    signed_writes false f true may v = let e = may refl in cc
+    signed_writes false f false may v = writes_first false (refl, refl) (duration_writes (f false) v)
+
+  pub offset_writes : (east : ℤ) → IsWithinDay east → Writes tz.offset (spelled_offset east) east rest
+  unfolding spelled_offset tz.offset tz.time_sign
+  offset_writes east h = signed_writes 23 (unsigned_abs east) east (omega (arith, hours_within 24 east h)) (omega arith) true not (is_positive east) (λ e. cc)
+      (grind (arith, ints))
+
+  pub time_writes : (extended : Bool) (time : ℤ) → IsTextTime extended time → Writes (tz.time extended) (spelled_time time) time rest
+  unfolding spelled_time tz.time
+  time_writes extended time h = let (l, may) = time_within extended time h in
+      signed_writes (time_limit extended) (unsigned_abs time) time l (grind (arith, nat_tests)) extended (λ m. m) (is_negative time) may (grind (arith, ints))
+
+-- ---- the front of bytes that spell the same
+seconds_front : {bytes rest : List ℕ} (s : ℕ) → Spells tz.seconds bytes s rest → Front (spelled_seconds s) bytes rest
+unfolding tz.seconds
+seconds_front s h = front_optional colon 0 (Number clock_max) (s == 0) (λ after is p. pair_front is p) (λ z. rw z refl) h
+
+minutes_given : {bytes rest : List ℕ} (after : List ℕ) (m s : ℕ) → bytes ≡ colon ∷ after → Spells tz.minutes_seconds after (m, s) rest
+    → Front (spelled_pair m ++ spelled_seconds s) bytes rest
+unfolding tz.minutes_seconds
+minutes_given after m s e (x, behind, minutes, (y, end, seconds, (value, same))) =
+    let front = front_then (pair_front e minutes) (seconds_front y seconds) in grind arith
+
+minutes_front : {bytes rest : List ℕ} (m s : ℕ) → Spells tz.optional_minutes bytes (m, s) rest → Front (spelled_minutes m s) bytes rest
+unfolding tz.optional_minutes
+minutes_front m s h =
+    front_optional colon (0, 0) tz.minutes_seconds ((m == 0) && (s == 0)) (λ after is p. minutes_given after m s is p) (grind (arith, nat_tests)) h
+
+hours_front : {bytes rest : List ℕ} (h m s : ℕ) → Spells tz.hours_minutes_seconds bytes (h, m, s) rest → Front (spelled_hands h m s) bytes rest
+unfolding tz.hours_minutes_seconds
+hours_front h m s (x, after, hours, ((y, z), end, others, (value, same))) =
+    let front = front_then (number_front {max = clock_max} (omega arith) hours) (minutes_front y z others) in grind arith
+
+duration_front : {bytes rest : List ℕ} (limit : ℕ) (negative : Bool) (z : ℤ) → Spells (tz.duration limit negative) bytes z rest
+    → Front (spelled_clock (unsigned_abs z)) bytes rest
+unfolding spelled_clock tz.duration
+duration_front limit negative z h = grind (arith, abs_signed, hours_front)
+
+-- there is a minus if one is needed, and otherwise nothing
+sign_front : {text bytes unsigned rest : List ℕ} (signs needed negative : Bool) → Spells (tz.time_sign signs) bytes negative unsigned
+    → (needed ≡ true → negative ≡ true) → Front text unsigned rest → Front (cond needed (minus ∷ text) text) bytes rest
+unfolding tz.time_sign tz.sign
+sign_front signs needed negative h need f = grind (arith, both_ways, front_cons, front_longer)
+
+pub offset_front : {bytes rest : List ℕ} (east : ℤ) → Spells tz.offset bytes east rest → Front (spelled_offset east) bytes rest
+unfolding spelled_offset tz.offset tz.time_sign tz.duration
+offset_front east (negative, unsigned, sign, d) =
+    sign_front true (is_positive east) negative sign (let v = d.3.1 in grind (arith, ints)) (duration_front 23 (not negative) east d)
+
+pub time_front : {bytes rest : List ℕ} (extended : Bool) (time : ℤ) → Spells (tz.time extended) bytes time rest → Front (spelled_time time) bytes rest
+unfolding spelled_time tz.time tz.duration
+time_front extended time (negative, unsigned, sign, d) =
+    sign_front extended (is_negative time) negative sign (let v = d.3.1 in grind (arith, ints)) (duration_front (time_limit extended) negative time d)
+
+-- a text without extensions has no other times
+pub time_plain : (bytes : List ℕ) (time : ℤ) (rest : List ℕ) → Spells (tz.time false) bytes time rest → IsPlainTime time
+unfolding tz.time tz.time_sign tz.duration
+time_plain bytes time rest (negative, _, sign, ((h, m, s), _, _, ((a, b, c), value, _))) = grind (arith, ints, nat_tests)
+
+-- ==== The texts of names and days, of the times after days, and of the offset of daylight saving time.
+
+-- the test p passes on each byte
+module _ (p : ℕ → Bool) where
+  all_from : (bs : List ℕ) → list_all p bs ≡ true → AllOf p bs
+  all_from [] h = tt
+  all_from (b ∷ bs) h = let k = and_parts (p b) (list_all p bs) h in (k.0, all_from bs k.1)
+
+  all_to : (bs : List ℕ) → AllOf p bs → list_all p bs ≡ true
+  all_to [] h = refl
+  all_to (b ∷ bs) h = and_from (p b) (list_all p bs) h.0 (all_to bs h.1)
+
+not_colon : (b : ℕ) → is_name_byte b ≡ true → b ≢ colon
+not_colon b h e = grind arith
+
+-- letters are above `<`, which comes in front of other names
+letters_begin : (bs rest : List ℕ) → 0 < length bs → AllOf is_letter bs → Begins 65 122 (bs ++ rest)
+letters_begin [] rest some each = absurd (omega arith)
+letters_begin (b ∷ bs) rest some each = grind arith
+
+run_writes : (p : ℕ → Bool) (name rest : List ℕ) → AllOf p name → AllOf is_name_byte name → NoneFirst p rest → Writes (Run p) name name rest
+run_writes p name rest each all none = grind (arith, names_are, pairs_over, not_colon)
+
+abbrev quoted : List ℕ → List ℕ
+quoted name = less ∷ name ++ (greater ∷ [])
+
+-- a name of letters is its own text, and any other has marks around it
+by_letters : (P : List ℕ → Type 0) (name : List ℕ) → (AllOf is_letter name → P name) → P (quoted name) → P (spelled_name name)
+by_letters P name letters others = grind (arith, all_from)
+
+pub name_writes : (name rest : List ℕ) → IsName name → NoneFirst is_letter rest → Writes tz.name (spelled_name name) name rest
+unfolding tz.name tz.quoted
+name_writes name rest h none = let all : AllOf is_name_byte name = all_of is_name_byte name h.2 in let l = h.0 in
+    by_letters (λ s. Writes tz.name s name rest) name
+    (λ each. writes_other (grind (arith, letters_begin)) (run_writes is_letter name rest each all none))
+    (writes_mark refl
+    (writes_then (run_writes is_not_greater name (greater ∷ rest) (all_others is_name_byte is_not_greater (λ b h. grind (arith, nat_tests)) name all) all refl)
+    (writes_byte refl (writes_nothing refl))))
+
+quoted_best : (t : Bool) (name : List ℕ) → Best (cond t name (quoted name)) (quoted name)
+quoted_best t name = grind (arith, length-append)
+
+pub name_front : {bytes rest : List ℕ} (name : List ℕ) → Spells tz.name bytes name rest → Front (spelled_name name) bytes rest
+unfolding tz.name tz.quoted
+name_front name (inl (_, is, (text, _, run, (_, end, close, (value, same))))) = rw (value, ← same)
+    (record { front = quoted text; whole = grind (arith, append_assoc); best = λ _. quoted_best (list_all is_letter text) text })
+name_front name (inr (_, run)) = record { front = name; whole = run.whole; best = λ _. rw (all_to is_letter name run.each) (inl refl) }
+
+-- a name's text begins with a letter or `<`
+pub name_begins : (name rest : List ℕ) → IsName name → Begins 60 122 (spelled_name name ++ rest)
+name_begins name rest h = let l = h.0 in grind (arith, by_letters, all_from, letters_begin)
+
+-- ---- dates
+date_writes : (form : DayForm) (rest : List ℕ) → IsRuleDay form → NoneFirst is_digit rest → Writes tz.date (spelled_date form) form rest
+unfolding tz.date tz.month_date tz.julian_date tz.numbered_day tz.checked_day
+date_writes (Julian1 n) rest h none = let l = h.1 in
+    writes_other (grind arith) (writes_mark refl (writes_here (writes_last (number_writes day_max n rest (omega arith) none (omega arith)) (h, refl, refl))))
+date_writes (Julian0 n) rest h none = let first = number_begins n rest (omega arith) in
+    writes_other (grind arith) (writes_other (grind arith)
+    (writes_here (writes_last (number_writes day_max n rest (omega arith) none (omega arith)) (h, refl, refl))))
+date_writes (MonthWeekday m w d) rest h none =
+    let a = h.1 in let b = h.3 in let c = h.4 in
+    writes_mark refl (writes_here (writes_then (number_writes date_max m _ (omega arith) refl (omega arith)) (writes_byte refl
+    (writes_here (writes_then (number_writes date_max w _ (omega arith) refl (omega arith))
+    (writes_byte refl (writes_here (writes_last (number_writes date_max d rest (omega arith) none (omega arith)) (h, refl, refl)))))))))
+
+date_front : {bytes rest : List ℕ} (form : DayForm) → Spells tz.date bytes form rest → Front (spelled_date form) bytes rest
+unfolding tz.date tz.month_date tz.julian_date tz.numbered_day tz.checked_day
+date_front form (inl (_, is, (_, _, month, (_, _, first, (_, _, week, (_, _, second, (_, _, weekday, (_, value, same)))))))) =
+    rw (value, ← same) (front_cons is (front_then (number_front (omega arith) month) (front_cons first
+    (front_then (number_front (omega arith) week) (front_cons second (number_front (omega arith) weekday))))))
+date_front form (inr (_, inl (_, is, (_, _, number, (_, value, same))))) = rw (value, ← same) (front_cons is (number_front (omega arith) number))
+date_front form (inr (_, inr (_, (_, _, number, (_, value, same))))) = rw (value, ← same) (number_front (omega arith) number)
+
+-- ---- times after dates, and days
+-- what is written before a rest that ends it
+module _ (rest : List ℕ) (stops : Stops rest) (extended : Bool) where
+  after_writes : (time : ℤ) → IsTextTime extended time → Writes (tz.optional_time extended) (time_after time) time rest
+  unfolding tz.optional_time
+  after_writes time h = writes_optional (int_eq time (pos 7_200)) ((Decides-int_eq time (pos 7_200)).0) stops.2
+      (λ _. writes_mark refl (time_writes rest stops extended time h))
+
+  pub day_writes : (d : DayTime) → IsRuleDay d.day → IsTextTime extended d.time → Writes (tz.day extended) (spelled_day d) d rest
+  unfolding tz.day
+  day_writes d h t = writes_then (date_writes d.day _ h (grind (arith, nat_tests)))
+      (writes_last (after_writes d.time t) (refl, refl))
+
+after_front : {bytes rest : List ℕ} (extended : Bool) (time : ℤ) → Spells (tz.optional_time extended) bytes time rest → Front (time_after time) bytes rest
+unfolding tz.optional_time
+after_front extended time h = front_optional slash (pos 7_200) (tz.time extended) (int_eq time (pos 7_200))
+    (λ after is p. front_cons is (time_front extended time p)) ((Decides-int_eq time (pos 7_200)).1) h
+
+pub day_front : {bytes rest : List ℕ} (extended : Bool) (d : DayTime) → Spells (tz.day extended) bytes d rest → Front (spelled_day d) bytes rest
+unfolding tz.day
+day_front extended d h = grind (arith, front_then, date_front, after_front)
+
+pub day_plain : (bytes : List ℕ) (d : DayTime) (rest : List ℕ) → Spells (tz.day false) bytes d rest → IsPlainTime d.time
+unfolding tz.day tz.optional_time
+day_plain bytes d rest (_, after, _, (at, end, time, (value, _))) = rw value (grind (arith, time_plain))
+
+-- ---- the offset of daylight saving time
+-- it is left out if it is an hour more
+pub by_hour : (P : List ℕ → Type 0) (std dst : ℤ) → (dst ≡ std +ℤ pos 3_600 → P []) → P (spelled_offset dst) → P (spelled_dst_offset std dst)
+by_hour P std dst hour other = let same = Decides-int_eq dst (std +ℤ pos 3_600) in grind arith
+
+-- the offset has its comma after it
+pub dst_offset_writes : (std dst : ℤ) (rest : List ℕ) → IsWithinDay dst → Writes (tz.dst_offset std) (spelled_dst_offset std dst ++ (comma ∷ [])) dst rest
+unfolding tz.dst_offset tz.next_hour tz.given_offset tz.more
+dst_offset_writes std dst rest h =
+    let first : Begins 45 57 ((spelled_offset dst ++ (comma ∷ [])) ++ rest) = rw append_assoc (offset_begins dst (comma ∷ rest) h) in
+    by_hour (λ s. Writes (tz.dst_offset std) (s ++ (comma ∷ [])) dst rest) std dst
+    (λ v. writes_here (writes_mark refl (writes_at (rw v (writes_check (let l = h.1 in omega (arith, ints)))))))
+    (writes_here (writes_other (grind arith) (writes_first tt (inr (grind arith, (refl, refl)))
+    (writes_then (offset_writes _ (comma_stops rest) dst h) (writes_first tt (inr ((λ e. cc), (refl, refl))) (writes_byte refl (writes_nothing refl)))))))
+
+given_front : {bytes rest : List ℕ} (dst : ℤ) → Spells tz.given_offset bytes dst rest → Front (spelled_offset dst) bytes (comma ∷ rest)
+unfolding tz.given_offset tz.more
+given_front dst h = grind (arith, offset_front)
+
+pub dst_offset_front : {bytes rest : List ℕ} (std dst : ℤ) → Spells (tz.dst_offset std) bytes dst rest → Front (spelled_dst_offset std dst) bytes (comma ∷ rest)
+unfolding tz.dst_offset tz.next_hour
+dst_offset_front std dst h = grind (arith, front_nothing, front_unless, int_eq, given_front)
 
 -- ---- what a text that spells a rule shows
 -- the rule can be spelled, has times that need no extensions if the text has none, and its own text is the shortest

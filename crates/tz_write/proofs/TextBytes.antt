@@ -1,9 +1,75 @@
--- Texts that spell a value, made of their pieces. Their bytes are letters, digits, and those of `+ - , . / : < >`: so they are ASCII, and
--- have no white space.
-use Rattle.tz_base.specs.{Grammar.{At, Byte, Check, Ended, Grammar, Here, Marked, Nothing, Optional, Then}, Refusals.{Refusal}, Tests.{Test}}
-use Rattle.tz_write.proofs.Words.{AllDigits, AllOf, AreInPairs, BeginsBare, Bool, EndsBare, IsTrimmed, List, Spells, TwoDigits, Without, append-nil}
-use Rattle.tz_write.proofs.Words.{HasNoZero, NoneFirst, append_assoc, arith, colon, comma, cond, dot, false, greater, is_ascii_whitespace, is_digit}
-use Rattle.tz_write.proofs.Words.{is_name_byte, less, nat_tests, not, refl, slash, sym, true, ℕ, [], ◌&&◌, ◌++◌, ◌==◌, ◌||◌, ◌∷◌, ◌<◌, ◌≡◌, ◌≢◌}
+-- Decimal digits without zeros in front are the shortest that spell a number.
+use Rattle.std.proofs.lemmas.Fmt.{decimal-digits_value, decimal_nonempty, digits_decimal, digits_value-decimal}
+use Rattle.std.proofs.lemmas.Str.Parse.{IsNumeralModel, numerals_by_fold}
+use Rattle.tz_base.specs.Grammar.{At, Byte, Check, Ended, Grammar, Here, Marked, Nothing, Number, Optional, Then}
+use Rattle.tz_base.specs.Refusals.{Refusal}
+use Rattle.tz_base.specs.Tests.{Test}
+use Rattle.tz_write.proofs.Words.{AllDigits, AllOf, AreInPairs, BeginsBare, Bool, EndsBare, HasNoZero, IsNumber, IsTrimmed, List, NoneFirst, Spells}
+use Rattle.tz_write.proofs.Words.{TwoDigits, Without, [], append-nil, append_assoc, arith, both_ways, cases_eq, colon, comma, cond, decimal, dot, false}
+use Rattle.tz_write.proofs.Words.{greater, inl, inr, is_ascii_whitespace, is_digit, is_name_byte, length, length-append, less, nat_tests, not, refl, rules}
+use Rattle.tz_write.proofs.Words.{slash, spelled_pair, sym, true, value_from, ℕ, ◌%◌, ◌&&◌, ◌++◌, ◌+◌, ◌/◌, ◌<◌, ◌==◌, ◌^◌, ◌||◌, ◌∷◌, ◌≡◌, ◌≢◌, ◌≤◌, ◌⊎◌}
+
+-- ==== What is not longer than what spells the same: the front of bytes compared with a text.
+
+-- the front is the text, or longer
+abbrev pub Best : List ℕ → List ℕ → Type 0
+Best text front = (front ≡ text) ⊎ (length text < length front)
+
+-- the bytes before the rest are the text, or more of them, if each colon has two digits after it
+pub record Front (text bytes rest : List ℕ) : Type 0 where
+  pub front : List ℕ
+  pub whole : bytes ≡ front ++ rest
+  pub best : AreInPairs bytes → Best text front
+
+pub pairs_rest : (front rest : List ℕ) → AreInPairs (front ++ rest) → AreInPairs rest
+pairs_rest [] rest h = h
+pairs_rest (b ∷ bs) rest h = pairs_rest bs rest h.1
+
+best_append : (a b x y : List ℕ) → Best a x → Best b y → Best (a ++ b) (x ++ y)
+best_append a b x y p q = let m = length-append a b in let n = length-append x y in grind arith
+
+-- nothing is the shortest
+best_nothing : (x : List ℕ) → Best [] x
+best_nothing [] = inl refl
+best_nothing (b ∷ bs) = inr (omega arith)
+
+-- the bytes, and the rest after their front
+module _ {bytes rest : List ℕ} where
+  pub front_nothing : bytes ≡ rest → Front [] bytes rest
+  front_nothing e = grind arith
+
+  front_any : {a : List ℕ} → Front a bytes rest → Front [] bytes rest
+  front_any p = grind (arith, best_nothing)
+
+  front_byte : {t : ℕ} → bytes ≡ t ∷ rest → Front (t ∷ []) bytes rest
+  front_byte {t = t} e = record { front = t ∷ []; whole = e; best = λ _. inl refl }
+
+  -- it is the text a, or longer
+  module _ {a : List ℕ} where
+    pub front_then : {b middle : List ℕ} → Front a bytes middle → Front b middle rest → Front (a ++ b) bytes rest
+    front_then p q = record { front = p.front ++ q.front; whole = grind (arith, append_assoc); best = grind (arith, best_append, pairs_rest) }
+
+    pub front_unless : (b : Bool) → Front a bytes rest → Front (cond b [] a) bytes rest
+    front_unless b p = grind (arith, front_any)
+
+    -- a piece that may be left out, and is if the test passes
+    pub front_optional : {X : Type 0} (tag : ℕ) (v : X) (g : Grammar X) {x : X} (b : Bool)
+        → ((after : List ℕ) → bytes ≡ tag ∷ after → Spells g after x rest → Front a bytes rest)
+        → (x ≡ v → b ≡ true) → Spells (Optional tag v g) bytes x rest → Front (cond b [] a) bytes rest
+    front_optional tag v g b given out h = grind (arith, front_unless, front_nothing)
+
+pub front_whole : {text bytes : List ℕ} → Front text bytes [] → AreInPairs bytes → Best text bytes
+front_whole f pairs = grind (arith, append-nil)
+
+-- a byte of the text, or one that it lacks
+module _ {t : ℕ} {a bytes after rest : List ℕ} (e : bytes ≡ t ∷ after) (p : Front a after rest) where
+  pub front_cons : Front (t ∷ a) bytes rest
+  front_cons = front_then (front_byte e) p
+
+  pub front_longer : Front a bytes rest
+  front_longer = front_then (front_any (front_byte e)) p
+
+-- ==== Texts that spell a value, made of their pieces. Their bytes are letters, digits, and those of `+ - , . / : < >`: so they are ASCII, and have no white space.
 
 -- a letter, a digit or one of the signs
 abbrev pub is_text_byte : ℕ → Bool
@@ -124,3 +190,61 @@ ends_bare (b ∷ c ∷ cs) h = ends_bare (c ∷ cs) h.1
 pub trimmed_text : (text : List ℕ) → AreTextBytes text → IsTrimmed text text
 trimmed_text text h =
     record { before = []; after = []; whole = sym (append-nil text); space_before = tt; space_after = tt; first = begins_bare text h; last = ends_bare text h }
+
+own : IsNumeralModel AllDigits (value_from 0)
+own = numerals_by_fold AllDigits (search rules) value_from (search rules)
+
+digit_within : (b : ℕ) → is_digit b ≡ true → (48 ≤ b) × (b ≤ 57)
+digit_within b h = grind (arith, nat_tests)
+
+-- ---- what comes first
+-- the bytes begin with one between those two
+abbrev pub Begins : ℕ → ℕ → List ℕ → Type 0
+Begins low high [] = ⊥
+Begins low high (first ∷ others) = (low ≤ first) × (first ≤ high)
+
+digits_begin : (ds rest : List ℕ) → AllDigits ds → 0 < length ds → Begins 48 57 (ds ++ rest)
+digits_begin [] rest each some = absurd (omega arith)
+digits_begin (d ∷ ds) rest each some = digit_within d each.0
+
+pub number_begins : (n : ℕ) (rest : List ℕ) → n < 2 ^ 64 → Begins 48 57 (decimal n ++ rest)
+number_begins n rest h = digits_begin (decimal n) rest (digits_decimal own n h) (decimal_nonempty n h)
+
+-- ---- what they spell
+pub two_digits : (n : ℕ) (rest : List ℕ) → n < 100 → NoneFirst is_digit rest → TwoDigits ((48 + n / 10) ∷ (48 + n % 10) ∷ rest)
+two_digits n rest h none = grind (arith, nat_tests)
+
+-- the number n is within its limit, and no digit follows it
+module _ (max n : ℕ) (rest : List ℕ) (l : n ≤ max) (none : NoneFirst is_digit rest) where
+  digits_write : (ds : List ℕ) → AllDigits ds → 0 < length ds → value_from 0 ds ≡ n → Writes (Number max) ds n rest
+  digits_write ds each some value = grind (arith, digits_are, pairs_over)
+
+  pub number_writes : n < 2 ^ 64 → Writes (Number max) (decimal n) n rest
+  number_writes h = digits_write (decimal n) (digits_decimal own n h) (decimal_nonempty n h) (digits_value-decimal own n h)
+
+  pub pair_writes : n < 100 → Writes (Number max) ((48 + n / 10) ∷ (48 + n % 10) ∷ []) n rest
+  pair_writes h = let d = two_digits n [] h tt in digits_write ((48 + n / 10) ∷ (48 + n % 10) ∷ []) (d.0, (d.1, tt)) (omega arith) (omega arith)
+
+-- ---- no fewer digits do
+-- zeros in front may go, and then the digits are those of the number
+decimal_best : (n : ℕ) (ds : List ℕ) → n < 2 ^ 64 → AllDigits ds → 0 < length ds → value_from 0 ds ≡ n → Best (decimal n) ds
+decimal_best n [] h each some value = absurd (omega arith)
+decimal_best n (d ∷ []) h each some value = inl (cc (decimal-digits_value own (d ∷ []) each some (λ _. refl) (omega arith)))
+decimal_best n (d ∷ e ∷ ds) h each some value = elim (cases_eq d 48) [
+  | inl zero ↦ let b = decimal_best n (e ∷ ds) h each.1 (omega arith) (rw zero at value) in inr (grind arith)
+  | inr other ↦ inl (cc (decimal-digits_value own (d ∷ e ∷ ds) each some (λ z. absurd (other z)) (omega arith)))
+]
+
+pub number_front : {max n : ℕ} {bytes rest : List ℕ} → max < 2 ^ 64 → IsNumber max bytes n rest → Front (decimal n) bytes rest
+number_front h p = grind (arith, decimal_best)
+
+-- two digits and no third are those of the number
+paired : (ds rest : List ℕ) (n : ℕ) → AllDigits ds → 0 < length ds → NoneFirst is_digit rest → value_from 0 ds ≡ n → TwoDigits (ds ++ rest)
+    → ds ≡ (48 + n / 10) ∷ (48 + n % 10) ∷ []
+paired [] rest n each some none value pair = absurd (omega arith)
+paired (d ∷ []) rest n each some none value pair = grind (arith, nat_tests, both_ways)
+paired (d ∷ e ∷ []) rest n each some none value pair = grind arith
+paired (d ∷ e ∷ f ∷ ds) rest n each some none value pair = absurd (both_ways _ pair.2 each.1.1.0)
+
+pub pair_front : {max n : ℕ} {bytes after rest : List ℕ} → bytes ≡ colon ∷ after → IsNumber max after n rest → Front (spelled_pair n) bytes rest
+pair_front {n = n} {rest = rest} e p = record { front = colon ∷ p.digits; whole = grind arith; best = grind (arith, paired) }

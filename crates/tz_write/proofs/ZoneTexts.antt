@@ -4,7 +4,7 @@ use Rattle.tz_write.proofs.Words.{IsWrittenZone, List, LocalType, None, NoneFirs
 use Rattle.tz_write.proofs.Words.{arith, false, inl, inr, is_ascii_whitespace, is_digit, length, length-append, nat_tests, spelled_rule, true, types_of}
 use Rattle.tz_write.proofs.Words.{zone_of_rule, ℕ, [], ◌++◌, ◌<◌, ◌∷◌, ◌≡◌, ◌⊎◌}
 use Rattle.tz_write.proofs.RuleTexts.{both_shortest, rule_pairs, rule_read, rule_spelled, text_are, text_begins}
-use Rattle.tz_write.proofs.{Shortest.{Best, pairs_rest}, TextBytes.{trimmed_text}}
+use Rattle.tz_write.proofs.{TextBytes.{Best, pairs_rest}, TextBytes.{trimmed_text}}
 
 -- ---- white space at the ends
 not_both : (b : ℕ) → is_digit b ≡ true → is_ascii_whitespace b ≡ true → ⊥
