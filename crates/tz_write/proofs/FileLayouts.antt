@@ -1,19 +1,19 @@
--- If any designations have the names of the types at places that a byte can name, those that are laid have them.
+-- If any designations have the names of the types at places that a byte can name, those that are laid have them: each text that is put in
+-- has bytes of its own in any others that have the texts.
 use Rattle.tz_base.proofs.RunLaws.{all_of}
-use Rattle.tz_write.proofs.TextBytes.{names_are, no_zeros}
-use Rattle.tz_write.proofs.Words.{All, All-cons, All-nil, All-weaker, AreNamesIn, AreNotPlacedBefore, AreShortest, Bool, Decides, Decides-by_and, Decides-eqb}
-use Rattle.tz_write.proofs.Words.{HasNoZero, HasPlace, HavePlaces, IsNameOrNone, IsNamedIn, List, LocalType, MatchOption, Option, StandsAt, [], and_parts, ap}
-use Rattle.tz_write.proofs.Words.{append-nil, append_assoc, arith, before_last, before_zero, begins, cases_lt, cond, drop, drop-append_seam, drop_more, ends}
-use Rattle.tz_write.proofs.Words.{ends_is, eq-eqb, eqb-true, false, get_or, get_or_at, inl, inr, laid, length, length-append, list_all, ltb-true, name_of}
-use Rattle.tz_write.proofs.Words.{name_or_none, nat_eq, nat_lt, nat_tests, nil_from_length, place_of, refl, starts_is, starts_with, suc, sym, true, with_text}
-use Rattle.tz_write.proofs.Words.{with_text_of, with_texts, zero, ℕ, ◌&&◌, ◌*◌, ◌++◌, ◌+◌, ◌<◌, ◌∷◌, ◌≡◌, ◌≤◌, ◌⊎◌}
+use Rattle.tz_write.proofs.{
+  TextBytes.{names_are, no_zeros},
+  Words.{All, All-cons, All-nil, All-weaker, AreNamesIn, AreNotPlacedBefore, AreShortest, Bool, Decides, Decides-by_and, Decides-eqb, HasNoZero, HasPlace},
+  Words.{HavePlaces, IsNameOrNone, IsNamedIn, List, LocalType, MatchOption, Option, StandsAt, [], and_parts, ap, append-nil, append_assoc, arith, before_last},
+  Words.{before_zero, begins, cases_lt, cond, drop, drop-append_seam, drop_more, ends, ends_is, eq-eqb, eqb-true, false, get_or, get_or_at, inl, inr, laid},
+  Words.{length, length-append, list_all, ltb-true, name_of, name_or_none, nat_eq, nat_lt, nat_tests, nil_from_length, place_of, refl, starts_is, starts_with},
+  Words.{suc, sym, true, with_text, with_text_of, with_texts, zero, ℕ, ◌&&◌, ◌*◌, ◌++◌, ◌+◌, ◌<◌, ◌∷◌, ◌≡◌, ◌≤◌, ◌⊎◌},
+}
 use Rattle.tz_write.specs.FileLayouts.{ArePlaced, In_order, IsFirstPlaced, IsLaid, IsPlacedFrom, laid_from, text_at}
 use borrow.Author.Count.{below_more}
 
--- ==== Texts in designations, and how much room those take: each text that is put in has bytes of its own in any others that have the texts.
-
 -- ---- where a text is
-pub begins_is : (text bytes : List ℕ) → begins text bytes ≡ true → bytes ≡ text ++ (0 ∷ drop (length text + 1) bytes)
+begins_is : (text bytes : List ℕ) → begins text bytes ≡ true → bytes ≡ text ++ (0 ∷ drop (length text + 1) bytes)
 unfolding begins
 begins_is text bytes h = grind (arith, and_parts, starts_with, starts_is, drop_more, ltb-true, eqb-true)
 
@@ -43,7 +43,7 @@ pub record Ends (whole text : List ℕ) : Type 0 where
   pub is : whole ≡ front ++ text
 
 -- how y, between c and d, lies to x, between b and a
-pub data Meeting (b x a c y d : List ℕ) : Type 0 where
+data Meeting (b x a c y d : List ℕ) : Type 0 where
   In_front : (e : List ℕ) → b ≡ c ++ (y ++ (0 ∷ e)) → Meeting b x a c y d
   Behind : (e : List ℕ) → a ≡ e ++ (y ++ (0 ∷ d)) → Meeting b x a c y d
   Is_end : (m : List ℕ) → x ≡ m ++ y → a ≡ d → Meeting b x a c y d
@@ -72,14 +72,14 @@ fronts [] s c t e = inl (c, e)
 fronts (b ∷ bs) s [] t e = inr (b ∷ bs, refl, sym e)
 fronts (b ∷ bs) s (c ∷ cs) t e = elim (fronts bs s cs t (cc)) [ inl p ↦ inl p | inr (m, p, q) ↦ inr (m, cc, q) ]
 
-pub meet : (b x a c y d : List ℕ) → HasNoZero x → HasNoZero y → b ++ (x ++ (0 ∷ a)) ≡ c ++ (y ++ (0 ∷ d)) → Meeting b x a c y d
+meet : (b x a c y d : List ℕ) → HasNoZero x → HasNoZero y → b ++ (x ++ (0 ∷ a)) ≡ c ++ (y ++ (0 ∷ d)) → Meeting b x a c y d
 meet b x a c y d n k e = elim (fronts b (x ++ (0 ∷ a)) c (y ++ (0 ∷ d)) e) [
   | inl (m, q) ↦ elim (from_front x a m y d n k q) [ Past f h l ↦ Behind f l | Inside f h l ↦ Is_end f h l ]
   | inr (m, p, q) ↦ elim (from_front y d m x a k n q) [ Past f h l ↦ In_front f (cc) | Inside f h l ↦ Has_end f h (sym l) ]
 ]
 
 -- ---- the end of the last text
-pub ends_decided : (last text : List ℕ) → Decides (ends last text) (Ends last text)
+ends_decided : (last text : List ℕ) → Decides (ends last text) (Ends last text)
 ends_decided last text = let e = ends_is {E = nat_eq} Decides-eqb last text (ends last text) refl in
     ((λ h. record { front = _; is = e.0 h }), λ h. e.1 h.front h.is)
 
@@ -99,67 +99,67 @@ place_behind text (b ∷ bs) rest = grind (arith, nat_tests, place_behind text b
 still_begins : (text bytes more : List ℕ) → begins text bytes ≡ true → begins text (bytes ++ more) ≡ true
 still_begins text bytes more h = let whole = begins_is text bytes h in grind (arith, append_assoc, begins_again)
 
-pub place_kept : (text bytes more : List ℕ) → place_of text bytes < length bytes → place_of text (bytes ++ more) ≤ place_of text bytes
+place_kept : (text bytes more : List ℕ) → place_of text bytes < length bytes → place_of text (bytes ++ more) ≤ place_of text bytes
 place_kept text [] more h = absurd (omega arith)
 place_kept text (b ∷ bs) more h = grind (arith, nat_tests, still_begins text (b ∷ bs) more, place_kept text bs more)
 
 -- the text is in the designations, or it isn't
-abbrev pub In : List ℕ → List ℕ → Type 0
+abbrev In : List ℕ → List ℕ → Type 0
 In bytes text = place_of text bytes < length bytes
 
-abbrev pub Out : List ℕ → List ℕ → Type 0
+abbrev Out : List ℕ → List ℕ → Type 0
 Out bytes text = length bytes ≤ place_of text bytes
 
 -- the text and its 0 byte are put at the end
-abbrev pub added : List ℕ → List ℕ → List ℕ
+abbrev added : List ℕ → List ℕ → List ℕ
 added bytes text = bytes ++ (text ++ 0 ∷ [])
 
 in_longer : (bytes more text : List ℕ) → In bytes text → In (bytes ++ more) text
 in_longer bytes more text h = grind (arith, place_kept, length-append)
 
 -- a text comes no later than there
-pub place_of_stands : (bytes text : List ℕ) (s : Stands bytes text) → place_of text bytes ≤ length s.before
+place_of_stands : (bytes text : List ℕ) (s : Stands bytes text) → place_of text bytes ≤ length s.before
 place_of_stands bytes text s = grind (arith, place_behind)
 
 stands_in : (bytes text : List ℕ) → Stands bytes text → In bytes text
 stands_in bytes text s = grind (arith, place_behind, length-append)
 
 -- the end of a text that is there
-abbrev pub end_stands : {bytes text other : List ℕ} → Stands bytes text → Ends text other → Stands bytes other
+abbrev end_stands : {bytes text other : List ℕ} → Stands bytes text → Ends text other → Stands bytes other
 end_stands s h = record { before = s.before ++ h.front; after = s.after; whole = grind (arith, append_assoc) }
 
-abbrev pub ends_nothing : (text : List ℕ) → Ends text []
+abbrev ends_nothing : (text : List ℕ) → Ends text []
 ends_nothing text = record { front = text; is = sym (append-nil text) }
 
 -- the bytes of designations, and a text that may be put in
 module _ (bytes text : List ℕ) where
-  abbrev pub put_stands : Stands (added bytes text) text
+  abbrev put_stands : Stands (added bytes text) text
   put_stands = record { before = bytes; after = []; whole = refl }
 
-  pub place_of_put : (other : List ℕ) → Ends text other → place_of other (added bytes text) + length other ≤ length bytes + length text
+  place_of_put : (other : List ℕ) → Ends text other → place_of other (added bytes text) + length other ≤ length bytes + length text
   place_of_put other h = let low = place_of_stands _ other (end_stands put_stands h) in grind (arith, length-append)
 
-  pub put_in : (other : List ℕ) → Ends text other → In (added bytes text) other
+  put_in : (other : List ℕ) → Ends text other → In (added bytes text) other
   put_in other h = grind (arith, stands_in, end_stands, put_stands)
 
-  pub in_stands : HasNoZero text → In bytes text → Stands bytes text
+  in_stands : HasNoZero text → In bytes text → Stands bytes text
   in_stands none l = let s = has_text text bytes none l in grind arith
 
   -- what a text that is there ends with is there too
-  pub end_in : (other : List ℕ) → HasNoZero text → Ends text other → In bytes text → In bytes other
+  end_in : (other : List ℕ) → HasNoZero text → Ends text other → In bytes text → In bytes other
   end_in other none h l = grind (arith, stands_in, end_stands, in_stands)
 
   -- a text that isn't there is put in if there is room for it; else all stays as it is
-  pub put_is : Out bytes text → length bytes + length text < 263 → with_text bytes text ≡ added bytes text
+  put_is : Out bytes text → length bytes + length text < 263 → with_text bytes text ≡ added bytes text
   unfolding with_text
   put_is out room = grind (arith, nat_tests)
 
-  pub by_text : (P : List ℕ → Type 0) → P bytes → (Out bytes text → length bytes + length text < 263 → P (added bytes text))
+  by_text : (P : List ℕ → Type 0) → P bytes → (Out bytes text → length bytes + length text < 263 → P (added bytes text))
       → P (with_text bytes text)
   unfolding with_text
   by_text P same put = grind arith
 
-  pub kept : (other : List ℕ) → In bytes other → In (with_text bytes text) other
+  kept : (other : List ℕ) → In bytes other → In (with_text bytes text) other
   kept other h = by_text (λ d. In d other) h (λ _ _. in_longer bytes (text ++ 0 ∷ []) other h)
 
   -- a text for which there is room is put in
@@ -188,13 +188,13 @@ module _ (P : List ℕ → Type 0) (last : List ℕ) (size : ℕ) where
       → P (with_texts last size bytes types)
   keeps_all step types bytes h = by_types types bytes (λ i e l d k. by_turn d (get_or types i e) k (λ _. step d _ k)) h
 
-pub before_keeps : (P : List ℕ → Type 0) → ((d text : List ℕ) → P d → P (with_text d text)) → (last : List ℕ) (types : List LocalType)
+before_keeps : (P : List ℕ → Type 0) → ((d text : List ℕ) → P d → P (with_text d text)) → (last : List ℕ) (types : List LocalType)
     → P [] → P (before_last last types)
 unfolding before_last
 before_keeps P step last types h = let all = λ (n : ℕ). keeps_all P last n step types in grind arith
 
 -- ---- room in other bytes
-pub no_front : (m text : List ℕ) → length (m ++ text) ≤ length text → m ++ text ≡ text
+no_front : (m text : List ℕ) → length (m ++ text) ≤ length text → m ++ text ≡ text
 no_front [] text l = refl
 no_front (x ∷ xs) text l = grind (arith, length-append)
 
@@ -219,7 +219,7 @@ module _ (last others : List ℕ) where
     pub rest : (text : List ℕ) → HasNoZero text → (length text ≤ size) ⊎ Ends last text → Stands others text → Out bytes text → Stands left text
 
   -- a text that isn't there has room
-  pub room_of : (bytes text : List ℕ) (size : ℕ) → Room bytes size → HasNoZero text → (length text ≤ size) ⊎ Ends last text
+  room_of : (bytes text : List ℕ) (size : ℕ) → Room bytes size → HasNoZero text → (length text ≤ size) ⊎ Ends last text
       → Stands others text → Out bytes text → length bytes + length text + 1 ≤ length others
   room_of bytes text size r none small stands out = grind (arith, length-append)
 
@@ -258,9 +258,9 @@ module _ (last others : List ℕ) where
 
   -- ---- in front of the last
   -- the others have room for the texts of that size, and the longer ones have been put in
-  pub record Passed (types : List LocalType) (size : ℕ) (bytes : List ℕ) : Type 0 where
-    pub room : Room bytes size
-    pub inside : length others ≤ 263
+  record Passed (types : List LocalType) (size : ℕ) (bytes : List ℕ) : Type 0 where
+    room : Room bytes size
+    inside : length others ≤ 263
         → All (λ t. size ≤ length (name_of t) → length (name_of t) ≤ 7 → (Ends last (name_of t) → ⊥) → In bytes (name_of t)) types
 
   -- the others have the texts of all these types
@@ -273,15 +273,15 @@ module _ (last others : List ℕ) where
           let keep = keeps_all (λ d. In d (name_of (get_or types i e))) last size (λ d other. kept d other _) types bytes in grind (arith, cases_lt);
     }
 
-    pub before_passed : Passed types 3 (before_last last types)
+    before_passed : Passed types 3 (before_last last types)
     unfolding before_last
     before_passed = let step = pass in grind arith
 
 -- ---- a 0 byte is in designations that have bytes
-abbrev pub Filled : List ℕ → Type 0
+abbrev Filled : List ℕ → Type 0
 Filled bytes = (bytes ≡ []) ⊎ In bytes []
 
-pub before_filled : (last : List ℕ) (types : List LocalType) → Filled (before_last last types)
+before_filled : (last : List ℕ) (types : List LocalType) → Filled (before_last last types)
 before_filled last types = before_keeps Filled (λ d text h. by_text d text Filled h (λ _ _. inr (put_in d text [] (ends_nothing text)))) last types (inl refl)
 
 -- ---- texts
@@ -304,10 +304,10 @@ text_found bytes text none h = let s = has_text text bytes none h in grind (arit
 
 -- ---- designations that have the names
 module _ (others : List ℕ) where
-  pub record Served (t : LocalType) : Type 0 where
-    pub size : (length (name_of t) ≤ 7) × ((length (name_of t) ≡ 0) ⊎ (3 ≤ length (name_of t)))
-    pub stands : StandsAt others (place_of (name_of t) others) (name_of t)
-    pub low : place_of (name_of t) others < 256
+  record Served (t : LocalType) : Type 0 where
+    size : (length (name_of t) ≤ 7) × ((length (name_of t) ≡ 0) ⊎ (3 ≤ length (name_of t)))
+    stands : StandsAt others (place_of (name_of t) others) (name_of t)
+    low : place_of (name_of t) others < 256
 
   served : (t : LocalType) → IsNameOrNone t.name → IsNamedIn others t → Served t
   served t named h =
@@ -335,9 +335,9 @@ module _ (others : List ℕ) where
   ]
 
   -- the text is in front of the last one, or ends with it
-  pub record EndsWith (m t : LocalType) : Type 0 where
-    pub ends : Ends (name_of m) (name_of t)
-    pub at : place_of (name_of t) others + length (name_of t) ≡ place_of (name_of m) others + length (name_of m)
+  record EndsWith (m t : LocalType) : Type 0 where
+    ends : Ends (name_of m) (name_of t)
+    at : place_of (name_of t) others + length (name_of t) ≡ place_of (name_of m) others + length (name_of m)
 
 -- ---- laid with that text as the last
 module _ (bytes last : List ℕ) where

@@ -1,33 +1,25 @@
 -- What is written of a zone.
-use Rattle.std.proofs.Math.Nat.{mul-div_cancel}
-use Rattle.std.proofs.lemmas.Int.{to_z-of_z}
-use Rattle.std.proofs.lemmas.List.{get_or-map}
-use Rattle.tz_base.proofs.RunLaws.{all_of}
+use Rattle.std.proofs.{Math.Nat.{mul-div_cancel}, lemmas.Int.{to_z-of_z}, lemmas.List.{get_or-map}}
 use Rattle.tz_base.specs.Grammar.{At, Byte, Check, Ended, Exact, Grammar, Here, Marked, Nothing, Number, Refused, Rest, Run, Then}
+use Rattle.tz_info.specs.declared.file.header.{Place.TheVariants.{First, Second}, Version.TheVariants.{One, Three, Two}}
 use Rattle.tz_info.proofs.Words.{AreRecords, FitsSigned, SpellLeapSeconds, take_more, w32, w64}
-use Rattle.tz_info.specs.declared.file.header.Place.TheVariants.{First, Second}
-use Rattle.tz_info.specs.declared.file.header.Version.TheVariants.{One, Three, Two}
-use Rattle.tz_write.proofs.FileLayouts.{AreLaid, has_text, laid_of, laid_size, no_zero}
-use Rattle.tz_write.proofs.RuleTexts.{extensions, rule_named, rule_text, text_are, text_begins, text_some}
-use Rattle.tz_write.proofs.TextBytes.{AreTextBytes, begins_bare, ends_bare, limits, no_zeros}
-use Rattle.tz_write.proofs.Words.{All, All-cons, All-more, All-nil, All-tail, AreBytes, AreNamesIn, Bool, Counts, CountsAgree, FilePieces, Fits-of_z}
-use Rattle.tz_write.proofs.Words.{HasCounts, HasNoZero, HasPieces, HasPlace, HasTimeOf64Bits, HavePlaces, Header, IsAscii-from_all, IsEntry, IsFooter}
-use Rattle.tz_write.proofs.Words.{IsNameOrNone, IsNamedIn, IsRoomOf, IsRuleOrNone, IsSound, IsType, IsTzFile, IsUtf8-from_ascii, IsWritable, LeapSecond, List}
-use Rattle.tz_write.proofs.Words.{LocalType, None, Option, Parts, Place, Room, SayZone, SaysRule, Some, SpellTransitions, SpellTypes, Spells}
-use Rattle.tz_write.proofs.Words.{SpellsLeapSecond, SpellsType, StandsAt, Transition, TransitionRule, Version, Zone, [], after_first_block, and_parts, ap}
-use Rattle.tz_write.proofs.Words.{arith, be_u32, begins, block, both_ways, cond, counts_bytes, counts_test, designation_of, drop, drop_more, eqb-true, false}
-use Rattle.tz_write.proofs.Words.{file, file_bytes, first_half, first_version, flat_map, flat_map_more, from_be_bytes-to_be_bytes_4}
-use Rattle.tz_write.proofs.Words.{from_be_bytes-to_be_bytes_8, get_or, get_or_append_left, header, header_bytes, index_bytes, inl, inr, later_pieces}
-use Rattle.tz_write.proofs.Words.{later_version, leap_bytes, length, length-append, length-map, ltb-true, magic, name_or_none, number_bytes, place_in}
-use Rattle.tz_write.proofs.Words.{place_of, refl, second_half, signed, signed_bytes, six_counts, starts_is, starts_with, subst, suc, sym, take, time_bytes}
-use Rattle.tz_write.proofs.Words.{true, type_bytes, tzif, version, ℕ, ℤ, ◌*◌, ◌++◌, ◌+◌, ◌<◌, ◌^◌, ◌↔◌, ◌∙◌, ◌∷◌, ◌≡◌, ◌≢◌, ◌≤◌, ◌⊎◌}
+use Rattle.tz_write.proofs.{
+  FileLayouts.{AreLaid, has_text, laid_of, laid_size, no_zero}, RuleTexts.{extensions, rule_named, rule_text, text_are, text_begins, text_some},
+  TextBytes.{AreTextBytes, begins_bare, ends_bare, limits, no_zeros},
+  Words.{All, All-cons, All-more, All-nil, All-tail, AreBytes, AreNamesIn, Bool, Counts, CountsAgree, FilePieces, Fits-of_z, HasCounts, HasPieces, HasPlace},
+  Words.{HasTimeOf64Bits, HavePlaces, Header, IsAscii-from_all, IsEntry, IsFooter, IsNamedIn, IsRoomOf, IsRuleOrNone, IsSound, IsType, IsTzFile},
+  Words.{IsUtf8-from_ascii, IsWritable, LeapSecond, List, LocalType, None, Option, Parts, Place, Room, SayZone, SaysRule, Some, SpellTransitions, SpellTypes},
+  Words.{Spells, SpellsLeapSecond, SpellsType, Transition, TransitionRule, Version, Zone, [], after_first_block, ap, arith, be_u32, block, both_ways},
+  Words.{counts_bytes, counts_test, designation_of, false, file, file_bytes, first_half, first_version, flat_map, flat_map_more, from_be_bytes-to_be_bytes_4},
+  Words.{from_be_bytes-to_be_bytes_8, get_or, get_or_append_left, header, header_bytes, index_bytes, inl, inr, later_pieces, later_version, leap_bytes, length},
+  Words.{length-append, length-map, magic, name_or_none, number_bytes, place_in, refl, second_half, signed, signed_bytes, six_counts, subst, suc, sym, take},
+  Words.{time_bytes, true, type_bytes, tzif, version, ℕ, ℤ, ◌*◌, ◌++◌, ◌+◌, ◌<◌, ◌^◌, ◌↔◌, ◌∙◌, ◌∷◌, ◌≡◌, ◌≢◌, ◌≤◌, ◌⊎◌},
+}
 use Rattle.tz_write.specs.FileBytes.{block_bytes, footer_bytes, least_block, least_counts, unused, version_byte, zone_counts, zone_parts}
 use Rattle.tz_write.specs.WrittenFiles.{HaveVersion, IsFooterText, IsInNoFile, IsSpellableOrNone, IsWrittenFile, NeedsExtensions}
 
--- ==== Records that are written spell their items.
-
 -- a count
-pub number_is : (n : ℕ) (rest : List ℕ) → n < 2 ^ 32 → Spells be_u32 (number_bytes n ++ rest) n rest
+number_is : (n : ℕ) (rest : List ℕ) → n < 2 ^ 32 → Spells be_u32 (number_bytes n ++ rest) n rest
 unfolding number_bytes be_u32
 number_is n rest h = (number_bytes n, rest, (refl, refl), (sym (from_be_bytes-to_be_bytes_4 n h), refl))
 
@@ -47,12 +39,12 @@ module _ {X : Type 0} (size : ℕ) (Spells : List ℕ → X → Type 0) where
   records_are f (x ∷ xs) sized h =
       (f x, flat_map f xs, refl, sized x, h 0 x (omega arith), records_are f xs sized (λ i d l. h (suc i) d (omega arith)))
 
-  pub records_length : (part : List ℕ) (xs : List X) → AreRecords size Spells part xs → length part ≡ length xs * size
+  records_length : (part : List ℕ) (xs : List X) → AreRecords size Spells part xs → length part ≡ length xs * size
   records_length part [] h = ap length h ∙ omega arith
   records_length part (x ∷ xs) h = grind (arith, length-append, records_length h.1 xs h.5)
 
 -- ---- transitions and leap seconds
-pub transitions_are : (ts : List Transition) → All HasTimeOf64Bits ts → SpellTransitions 8 (flat_map time_bytes ts) (flat_map index_bytes ts) ts
+transitions_are : (ts : List Transition) → All HasTimeOf64Bits ts → SpellTransitions 8 (flat_map time_bytes ts) (flat_map index_bytes ts) ts
 unfolding signed_bytes
 transitions_are ts h = grind (arith, records_are, signed_64)
 
@@ -60,12 +52,12 @@ leap_is : (leap : LeapSecond) → IsEntry leap → SpellsLeapSecond 8 (leap_byte
 unfolding leap_bytes signed_bytes
 leap_is leap h = record { time = _; correction = _; whole = refl; size = refl; time_is = signed_64 _ h.time; correction_is = signed_32 _ h.correction }
 
-pub leaps_are : (leaps : List LeapSecond) → All IsEntry leaps → SpellLeapSeconds 8 (flat_map leap_bytes leaps) leaps
+leaps_are : (leaps : List LeapSecond) → All IsEntry leaps → SpellLeapSeconds 8 (flat_map leap_bytes leaps) leaps
 unfolding leap_bytes signed_bytes
 leaps_are leaps h = grind (arith, records_are, leap_is)
 
 -- ---- types
-pub types_are : (designations : List ℕ) (types : List LocalType) → All (HasPlace designations) types → All IsType types
+types_are : (designations : List ℕ) (types : List LocalType) → All (HasPlace designations) types → All IsType types
     → SpellTypes designations (flat_map (type_bytes designations) types) types
 unfolding type_bytes signed_bytes
 types_are designations types p h = grind (arith, records_are, signed_32, has_text, no_zero)
@@ -84,11 +76,9 @@ module _ {X : Type 0} {now later : List ℕ} {i : ℕ} {t : X} (f : X → List �
   pub pushed_next : (P : X → Type 0) → ArePushed f P old now (take i xs) → later ≡ now ++ f t → P t → ArePushed f P old later (take (i + 1) xs)
   pushed_next P (e, all) g p = (flat_map_next e g, All-more P xs i d l all (rw is at p))
 
--- ==== The file that is written spells the zone.
-
 -- ---- headers
 -- counts of four bytes
-abbrev pub CountsFit : Counts → Type 0
+abbrev CountsFit : Counts → Type 0
 CountsFit c = (c.ut_local < 2 ^ 32) × (c.standard_wall < 2 ^ 32) × (c.leap_seconds < 2 ^ 32) × (c.transitions < 2 ^ 32) × (c.types < 2 ^ 32)
     × (c.designations < 2 ^ 32)
 
@@ -101,7 +91,7 @@ counts_are c rest (a, b, d, e, f, g) = (
   (_, _, number_is _ _ b, (_, _, number_is _ _ d, (_, _, number_is _ _ e, (_, _, number_is _ _ f, (_, _, number_is _ _ g, (refl, refl)))))),
 )
 
-abbrev pub version_of : Bool → Version
+abbrev version_of : Bool → Version
 version_of true = Three
 version_of false = Two
 
@@ -121,9 +111,9 @@ header_is place extended c rest fit agree = (
 
 -- ---- footers
 -- letters, digits and signs of ASCII, and no colon in front
-pub record IsPlain (text : List ℕ) : Type 0 where
-  pub bytes : AreTextBytes text
-  pub no_colon : get_or text 0 0 ≢ 58
+record IsPlain (text : List ℕ) : Type 0 where
+  bytes : AreTextBytes text
+  no_colon : get_or text 0 0 ≢ 58
 
 ascii : (text : List ℕ) → AreTextBytes text → All (λ b. b < 128) (text ++ 10 ∷ [])
 ascii [] h = All-cons (λ b. b < 128) 10 [] (omega arith) (All-nil (λ b. b < 128))
@@ -196,10 +186,8 @@ module _ (extended : Bool) (text d : List ℕ) (z : Zone) (size : length d ≤ 2
   unfolding pieces_of
   says_zone footer = grind (arith, transitions_are, types_are, leaps_are)
 
-  pub file_is : IsPlain text → SaysRule extended text z.rule → IsTzFile (file_bytes extended text d z) z
+  file_is : IsPlain text → SaysRule extended text z.rule → IsTzFile (file_bytes extended text d z) z
   file_is plain says = let pieces = file_pieces in grind (arith, says_zone, footer_is)
-
--- ==== What every file's zone has room for.
 
 abbrev IsByte : ℕ → Type 0
 IsByte b = b < 256

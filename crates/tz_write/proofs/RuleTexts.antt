@@ -1,30 +1,30 @@
 -- The text of a rule: it spells the rule, and each other one is longer.
-use Rattle.tz_base.proofs.RunLaws.{all_of}
-use Rattle.tz_base.specs.Grammar.{Number, Run, Then}
+use Rattle.tz_base.{proofs.RunLaws.{all_of}, specs.Grammar.{Number, Run, Then}}
 use Rattle.tz_info.specs.declared.rule.day.DayForm.TheVariants.{Julian0, Julian1, MonthWeekday}
-use Rattle.tz_write.proofs.TextBytes.{AreTextBytes, Begins, Best, Front, Writes, all_others, first_optional, front_cons, front_longer, front_nothing}
-use Rattle.tz_write.proofs.TextBytes.{front_optional, front_then, front_unless, front_whole, names_are, number_begins, number_front, number_writes}
-use Rattle.tz_write.proofs.TextBytes.{pair_front, pair_writes, pairs_over, two_digits, writes_at, writes_byte, writes_check, writes_colon, writes_first}
-use Rattle.tz_write.proofs.TextBytes.{writes_here, writes_last, writes_mark, writes_more, writes_nothing, writes_optional, writes_other, writes_then}
-use Rattle.tz_write.proofs.Words.{AllOf, Alternate, AreInPairs, AreTimesOf, Bool, CanBeSpelled, DayForm, DayTime, Decides-int_eq, IsAlternateRule, IsName}
-use Rattle.tz_write.proofs.Words.{IsNamed, IsPlainTime, IsRule, IsRuleDay, IsTextTime, IsTzText, IsWithinDay, IsWrittenText, List, LocalType, NoneFirst}
-use Rattle.tz_write.proofs.Words.{Spells, TransitionRule, Without, [], and_from, and_parts, ap, append-nil, append_assoc, arith, both_ways, clock_max, colon}
-use Rattle.tz_write.proofs.Words.{comma, cond, date_max, day_max, false, greater, inl, inr, int_eq, ints, is_digit, is_letter, is_name_byte, is_not_greater}
-use Rattle.tz_write.proofs.Words.{le-ltb, length, length-append, less, list_all, minus, name_of, name_or_none, named_type, nat_tests, neg_ℤ, not, offset_fits}
-use Rattle.tz_write.proofs.Words.{pos, refl, slash, spelled_clock, spelled_date, spelled_day, spelled_dst_offset, spelled_name, spelled_offset, spelled_pair}
-use Rattle.tz_write.proofs.Words.{spelled_rule, spelled_time, time_after, time_limit, true, unsigned_abs, ℕ, ℤ, ◌%◌, ◌&&◌, ◌*◌, ◌++◌, ◌+ℤ◌, ◌+◌, ◌/◌, ◌<ℤ◌}
-use Rattle.tz_write.proofs.Words.{◌<◌, ◌==◌, ◌↔◌, ◌∙◌, ◌∷◌, ◌≡◌, ◌≢◌, ◌≤◌, ◌⊎◌}
+use Rattle.tz_write.proofs.{
+  TextBytes.{AreTextBytes, Begins, Best, Front, Writes, all_others, first_optional, front_cons, front_longer, front_nothing, front_optional, front_then},
+  TextBytes.{front_unless, front_whole, names_are, number_begins, number_front, number_writes, pair_front, pair_writes, pairs_over, two_digits, writes_at},
+  TextBytes.{writes_byte, writes_check, writes_colon, writes_first, writes_here, writes_last, writes_mark, writes_more, writes_nothing, writes_optional},
+  TextBytes.{writes_other, writes_then},
+  Words.{AllOf, Alternate, AreInPairs, AreTimesOf, Bool, CanBeSpelled, DayForm, DayTime, Decides-int_eq, IsAlternateRule, IsName, IsNamed, IsPlainTime, IsRule},
+  Words.{IsRuleDay, IsTextTime, IsTzText, IsWithinDay, IsWrittenText, List, LocalType, NoneFirst, Spells, TransitionRule, Without, [], and_from, and_parts, ap},
+  Words.{append-nil, append_assoc, arith, both_ways, clock_max, colon, comma, cond, date_max, day_max, false, greater, inl, inr, int_eq, ints, is_digit},
+  Words.{is_letter, is_name_byte, is_not_greater, le-ltb, length, length-append, less, list_all, minus, name_of, name_or_none, named_type, nat_tests, neg_ℤ},
+  Words.{not, offset_fits, pos, refl, slash, spelled_clock, spelled_date, spelled_day, spelled_dst_offset, spelled_name, spelled_offset, spelled_pair},
+  Words.{spelled_rule, spelled_time, time_after, time_limit, true, unsigned_abs, ℕ, ℤ, ◌%◌, ◌&&◌, ◌*◌, ◌++◌, ◌+ℤ◌, ◌+◌, ◌/◌, ◌<ℤ◌, ◌<◌, ◌==◌, ◌↔◌, ◌∙◌, ◌∷◌},
+  Words.{◌≡◌, ◌≢◌, ◌≤◌, ◌⊎◌},
+}
 use Rattle.tz_write.specs.Steps.TextPieces.{is_negative, is_positive, spelled_hands, spelled_minutes, spelled_seconds, spelled_signed}
 use Rattle.tz_info.specs.TzGrammar as tz
 use Rattle.tz_info.specs.declared.rule.transition_rule.TransitionRule.TheVariants as rules
 
--- ==== The texts of offsets and of times of day.
+-- ---- offsets and times of day
 
 -- nothing that goes on with an offset, a day or a time
-abbrev pub Stops : List ℕ → Type 0
+abbrev Stops : List ℕ → Type 0
 Stops rest = NoneFirst is_digit rest × Without colon rest × Without slash rest
 
-pub comma_stops : (rest : List ℕ) → Stops (comma ∷ rest)
+comma_stops : (rest : List ℕ) → Stops (comma ∷ rest)
 comma_stops rest = grind (arith, nat_tests)
 
 -- ---- numbers with a sign
@@ -47,7 +47,7 @@ unfolding spelled_clock
 clock_begins n rest l = grind (arith, append_assoc, number_begins)
 
 -- an offset begins with a digit or a minus
-pub offset_begins : (east : ℤ) (rest : List ℕ) → IsWithinDay east → Begins 45 57 (spelled_offset east ++ rest)
+offset_begins : (east : ℤ) (rest : List ℕ) → IsWithinDay east → Begins 45 57 (spelled_offset east ++ rest)
 unfolding spelled_offset
 offset_begins east rest h = grind (arith, clock_begins, hours_within)
 
@@ -90,12 +90,12 @@ module _ (rest : List ℕ) (stops : Stops rest) where
     signed_writes false f true may v = let e = may refl in cc
     signed_writes false f false may v = writes_first false (refl, refl) (duration_writes (f false) v)
 
-  pub offset_writes : (east : ℤ) → IsWithinDay east → Writes tz.offset (spelled_offset east) east rest
+  offset_writes : (east : ℤ) → IsWithinDay east → Writes tz.offset (spelled_offset east) east rest
   unfolding spelled_offset tz.offset tz.time_sign
   offset_writes east h = signed_writes 23 (unsigned_abs east) east (omega (arith, hours_within 24 east h)) (omega arith) true not (is_positive east) (λ e. cc)
       (grind (arith, ints))
 
-  pub time_writes : (extended : Bool) (time : ℤ) → IsTextTime extended time → Writes (tz.time extended) (spelled_time time) time rest
+  time_writes : (extended : Bool) (time : ℤ) → IsTextTime extended time → Writes (tz.time extended) (spelled_time time) time rest
   unfolding spelled_time tz.time
   time_writes extended time h = let (l, may) = time_within extended time h in
       signed_writes (time_limit extended) (unsigned_abs time) time l (grind (arith, nat_tests)) extended (λ m. m) (is_negative time) may (grind (arith, ints))
@@ -132,22 +132,22 @@ sign_front : {text bytes unsigned rest : List ℕ} (signs needed negative : Bool
 unfolding tz.time_sign tz.sign
 sign_front signs needed negative h need f = grind (arith, both_ways, front_cons, front_longer)
 
-pub offset_front : {bytes rest : List ℕ} (east : ℤ) → Spells tz.offset bytes east rest → Front (spelled_offset east) bytes rest
+offset_front : {bytes rest : List ℕ} (east : ℤ) → Spells tz.offset bytes east rest → Front (spelled_offset east) bytes rest
 unfolding spelled_offset tz.offset tz.time_sign tz.duration
 offset_front east (negative, unsigned, sign, d) =
     sign_front true (is_positive east) negative sign (let v = d.3.1 in grind (arith, ints)) (duration_front 23 (not negative) east d)
 
-pub time_front : {bytes rest : List ℕ} (extended : Bool) (time : ℤ) → Spells (tz.time extended) bytes time rest → Front (spelled_time time) bytes rest
+time_front : {bytes rest : List ℕ} (extended : Bool) (time : ℤ) → Spells (tz.time extended) bytes time rest → Front (spelled_time time) bytes rest
 unfolding spelled_time tz.time tz.duration
 time_front extended time (negative, unsigned, sign, d) =
     sign_front extended (is_negative time) negative sign (let v = d.3.1 in grind (arith, ints)) (duration_front (time_limit extended) negative time d)
 
 -- a text without extensions has no other times
-pub time_plain : (bytes : List ℕ) (time : ℤ) (rest : List ℕ) → Spells (tz.time false) bytes time rest → IsPlainTime time
+time_plain : (bytes : List ℕ) (time : ℤ) (rest : List ℕ) → Spells (tz.time false) bytes time rest → IsPlainTime time
 unfolding tz.time tz.time_sign tz.duration
 time_plain bytes time rest (negative, _, sign, ((h, m, s), _, _, ((a, b, c), value, _))) = grind (arith, ints, nat_tests)
 
--- ==== The texts of names and days, of the times after days, and of the offset of daylight saving time.
+-- ---- names
 
 -- the test p passes on each byte
 module _ (p : ℕ → Bool) where
@@ -177,7 +177,7 @@ quoted name = less ∷ name ++ (greater ∷ [])
 by_letters : (P : List ℕ → Type 0) (name : List ℕ) → (AllOf is_letter name → P name) → P (quoted name) → P (spelled_name name)
 by_letters P name letters others = grind (arith, all_from)
 
-pub name_writes : (name rest : List ℕ) → IsName name → NoneFirst is_letter rest → Writes tz.name (spelled_name name) name rest
+name_writes : (name rest : List ℕ) → IsName name → NoneFirst is_letter rest → Writes tz.name (spelled_name name) name rest
 unfolding tz.name tz.quoted
 name_writes name rest h none = let all : AllOf is_name_byte name = all_of is_name_byte name h.2 in let l = h.0 in
     by_letters (λ s. Writes tz.name s name rest) name
@@ -189,14 +189,14 @@ name_writes name rest h none = let all : AllOf is_name_byte name = all_of is_nam
 quoted_best : (t : Bool) (name : List ℕ) → Best (cond t name (quoted name)) (quoted name)
 quoted_best t name = grind (arith, length-append)
 
-pub name_front : {bytes rest : List ℕ} (name : List ℕ) → Spells tz.name bytes name rest → Front (spelled_name name) bytes rest
+name_front : {bytes rest : List ℕ} (name : List ℕ) → Spells tz.name bytes name rest → Front (spelled_name name) bytes rest
 unfolding tz.name tz.quoted
 name_front name (inl (_, is, (text, _, run, (_, end, close, (value, same))))) = rw (value, ← same)
     (record { front = quoted text; whole = grind (arith, append_assoc); best = λ _. quoted_best (list_all is_letter text) text })
 name_front name (inr (_, run)) = record { front = name; whole = run.whole; best = λ _. rw (all_to is_letter name run.each) (inl refl) }
 
 -- a name's text begins with a letter or `<`
-pub name_begins : (name rest : List ℕ) → IsName name → Begins 60 122 (spelled_name name ++ rest)
+name_begins : (name rest : List ℕ) → IsName name → Begins 60 122 (spelled_name name ++ rest)
 name_begins name rest h = let l = h.0 in grind (arith, by_letters, all_from, letters_begin)
 
 -- ---- dates
@@ -229,7 +229,7 @@ module _ (rest : List ℕ) (stops : Stops rest) (extended : Bool) where
   after_writes time h = writes_optional (int_eq time (pos 7_200)) ((Decides-int_eq time (pos 7_200)).0) stops.2
       (λ _. writes_mark refl (time_writes rest stops extended time h))
 
-  pub day_writes : (d : DayTime) → IsRuleDay d.day → IsTextTime extended d.time → Writes (tz.day extended) (spelled_day d) d rest
+  day_writes : (d : DayTime) → IsRuleDay d.day → IsTextTime extended d.time → Writes (tz.day extended) (spelled_day d) d rest
   unfolding tz.day
   day_writes d h t = writes_then (date_writes d.day _ h (grind (arith, nat_tests)))
       (writes_last (after_writes d.time t) (refl, refl))
@@ -239,21 +239,21 @@ unfolding tz.optional_time
 after_front extended time h = front_optional slash (pos 7_200) (tz.time extended) (int_eq time (pos 7_200))
     (λ after is p. front_cons is (time_front extended time p)) ((Decides-int_eq time (pos 7_200)).1) h
 
-pub day_front : {bytes rest : List ℕ} (extended : Bool) (d : DayTime) → Spells (tz.day extended) bytes d rest → Front (spelled_day d) bytes rest
+day_front : {bytes rest : List ℕ} (extended : Bool) (d : DayTime) → Spells (tz.day extended) bytes d rest → Front (spelled_day d) bytes rest
 unfolding tz.day
 day_front extended d h = grind (arith, front_then, date_front, after_front)
 
-pub day_plain : (bytes : List ℕ) (d : DayTime) (rest : List ℕ) → Spells (tz.day false) bytes d rest → IsPlainTime d.time
+day_plain : (bytes : List ℕ) (d : DayTime) (rest : List ℕ) → Spells (tz.day false) bytes d rest → IsPlainTime d.time
 unfolding tz.day tz.optional_time
 day_plain bytes d rest (_, after, _, (at, end, time, (value, _))) = rw value (grind (arith, time_plain))
 
 -- ---- the offset of daylight saving time
 -- it is left out if it is an hour more
-pub by_hour : (P : List ℕ → Type 0) (std dst : ℤ) → (dst ≡ std +ℤ pos 3_600 → P []) → P (spelled_offset dst) → P (spelled_dst_offset std dst)
+by_hour : (P : List ℕ → Type 0) (std dst : ℤ) → (dst ≡ std +ℤ pos 3_600 → P []) → P (spelled_offset dst) → P (spelled_dst_offset std dst)
 by_hour P std dst hour other = let same = Decides-int_eq dst (std +ℤ pos 3_600) in grind arith
 
 -- the offset has its comma after it
-pub dst_offset_writes : (std dst : ℤ) (rest : List ℕ) → IsWithinDay dst → Writes (tz.dst_offset std) (spelled_dst_offset std dst ++ (comma ∷ [])) dst rest
+dst_offset_writes : (std dst : ℤ) (rest : List ℕ) → IsWithinDay dst → Writes (tz.dst_offset std) (spelled_dst_offset std dst ++ (comma ∷ [])) dst rest
 unfolding tz.dst_offset tz.next_hour tz.given_offset tz.more
 dst_offset_writes std dst rest h =
     let first : Begins 45 57 ((spelled_offset dst ++ (comma ∷ [])) ++ rest) = rw append_assoc (offset_begins dst (comma ∷ rest) h) in
@@ -266,7 +266,7 @@ given_front : {bytes rest : List ℕ} (dst : ℤ) → Spells tz.given_offset byt
 unfolding tz.given_offset tz.more
 given_front dst h = grind (arith, offset_front)
 
-pub dst_offset_front : {bytes rest : List ℕ} (std dst : ℤ) → Spells (tz.dst_offset std) bytes dst rest → Front (spelled_dst_offset std dst) bytes (comma ∷ rest)
+dst_offset_front : {bytes rest : List ℕ} (std dst : ℤ) → Spells (tz.dst_offset std) bytes dst rest → Front (spelled_dst_offset std dst) bytes (comma ∷ rest)
 unfolding tz.dst_offset tz.next_hour
 dst_offset_front std dst h = grind (arith, front_nothing, front_unless, int_eq, given_front)
 

@@ -1,15 +1,15 @@
--- Decimal digits without zeros in front are the shortest that spell a number.
-use Rattle.std.proofs.lemmas.Fmt.{decimal-digits_value, decimal_nonempty, digits_decimal, digits_value-decimal}
-use Rattle.std.proofs.lemmas.Str.Parse.{IsNumeralModel, numerals_by_fold}
-use Rattle.tz_base.specs.Grammar.{At, Byte, Check, Ended, Grammar, Here, Marked, Nothing, Number, Optional, Then}
-use Rattle.tz_base.specs.Refusals.{Refusal}
-use Rattle.tz_base.specs.Tests.{Test}
-use Rattle.tz_write.proofs.Words.{AllDigits, AllOf, AreInPairs, BeginsBare, Bool, EndsBare, HasNoZero, IsNumber, IsTrimmed, List, NoneFirst, Spells}
-use Rattle.tz_write.proofs.Words.{TwoDigits, Without, [], append-nil, append_assoc, arith, both_ways, cases_eq, colon, comma, cond, decimal, dot, false}
-use Rattle.tz_write.proofs.Words.{greater, inl, inr, is_ascii_whitespace, is_digit, is_name_byte, length, length-append, less, nat_tests, not, refl, rules}
-use Rattle.tz_write.proofs.Words.{slash, spelled_pair, sym, true, value_from, ℕ, ◌%◌, ◌&&◌, ◌++◌, ◌+◌, ◌/◌, ◌<◌, ◌==◌, ◌^◌, ◌||◌, ◌∷◌, ◌≡◌, ◌≢◌, ◌≤◌, ◌⊎◌}
+-- Texts that spell a value, made of their pieces, and what is not longer than what spells the same. Their bytes are letters, digits, and
+-- those of `+ - , . / : < >`: so they are ASCII, and have no white space.
+use Rattle.std.proofs.lemmas.{Fmt.{decimal-digits_value, decimal_nonempty, digits_decimal, digits_value-decimal}, Str.Parse.{IsNumeralModel, numerals_by_fold}}
+use Rattle.tz_base.specs.{Grammar.{At, Byte, Check, Ended, Grammar, Here, Marked, Nothing, Number, Optional, Then}, Refusals.{Refusal}, Tests.{Test}}
+use Rattle.tz_write.proofs.{
+  Words.{AllDigits, AllOf, AreInPairs, BeginsBare, Bool, EndsBare, HasNoZero, IsNumber, IsTrimmed, List, NoneFirst, Spells, TwoDigits, Without, [], append-nil},
+  Words.{append_assoc, arith, both_ways, cases_eq, colon, comma, cond, decimal, dot, false, greater, inl, inr, is_ascii_whitespace, is_digit, is_name_byte},
+  Words.{length, length-append, less, nat_tests, not, refl, rules, slash, spelled_pair, sym, true, value_from, ℕ, ◌%◌, ◌&&◌, ◌++◌, ◌+◌, ◌/◌, ◌<◌, ◌==◌, ◌^◌},
+  Words.{◌||◌, ◌∷◌, ◌≡◌, ◌≢◌, ◌≤◌, ◌⊎◌},
+}
 
--- ==== What is not longer than what spells the same: the front of bytes compared with a text.
+-- ---- the front of bytes compared with a text
 
 -- the front is the text, or longer
 abbrev pub Best : List ℕ → List ℕ → Type 0
@@ -69,10 +69,10 @@ module _ {t : ℕ} {a bytes after rest : List ℕ} (e : bytes ≡ t ∷ after) (
   pub front_longer : Front a bytes rest
   front_longer = front_then (front_any (front_byte e)) p
 
--- ==== Texts that spell a value, made of their pieces. Their bytes are letters, digits, and those of `+ - , . / : < >`: so they are ASCII, and have no white space.
+-- ---- bytes of texts
 
 -- a letter, a digit or one of the signs
-abbrev pub is_text_byte : ℕ → Bool
+abbrev is_text_byte : ℕ → Bool
 is_text_byte b = is_name_byte b || (b == comma) || (b == dot) || (b == slash) || (b == colon) || (b == less) || (b == greater)
 
 abbrev pub AreTextBytes : List ℕ → Type 0
@@ -96,7 +96,7 @@ module _ (p : ℕ → Bool) where
   pub first_optional : (b : Bool) (t : ℕ) (text rest : List ℕ) → p t ≡ false → NoneFirst p rest → NoneFirst p (cond b [] (t ∷ text) ++ rest)
   first_optional b t text rest e h = grind (arith, nat_tests)
 
-pub digits_are : (bs : List ℕ) → AllDigits bs → AreTextBytes bs
+digits_are : (bs : List ℕ) → AllDigits bs → AreTextBytes bs
 digits_are = all_others is_digit is_text_byte (λ b h. grind (arith, nat_tests))
 
 pub names_are : (bs : List ℕ) → AllOf is_name_byte bs → AreTextBytes bs
@@ -197,7 +197,7 @@ own = numerals_by_fold AllDigits (search rules) value_from (search rules)
 digit_within : (b : ℕ) → is_digit b ≡ true → (48 ≤ b) × (b ≤ 57)
 digit_within b h = grind (arith, nat_tests)
 
--- ---- what comes first
+-- ---- decimal digits: without zeros in front they are the shortest that spell a number
 -- the bytes begin with one between those two
 abbrev pub Begins : ℕ → ℕ → List ℕ → Type 0
 Begins low high [] = ⊥

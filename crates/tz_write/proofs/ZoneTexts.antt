@@ -1,10 +1,10 @@
 -- The text of a zone: it gives the zone, and each other one is longer.
-use Rattle.tz_write.proofs.Words.{AreInPairs, HasZoneText, IsNoPosixZone, IsOfText, IsPosixZone, IsRule, IsRuleOrNone, IsSpace, IsTrimmed, IsTzText}
-use Rattle.tz_write.proofs.Words.{IsWrittenZone, List, LocalType, None, NoneFirst, OnErr, Option, Result, Some, TransitionRule, TwoDigits, Zone, append-nil}
-use Rattle.tz_write.proofs.Words.{arith, false, inl, inr, is_ascii_whitespace, is_digit, length, length-append, nat_tests, spelled_rule, true, types_of}
-use Rattle.tz_write.proofs.Words.{zone_of_rule, ℕ, [], ◌++◌, ◌<◌, ◌∷◌, ◌≡◌, ◌⊎◌}
-use Rattle.tz_write.proofs.RuleTexts.{both_shortest, rule_pairs, rule_read, rule_spelled, text_are, text_begins}
-use Rattle.tz_write.proofs.{TextBytes.{Best, pairs_rest}, TextBytes.{trimmed_text}}
+use Rattle.tz_write.proofs.{
+  RuleTexts.{both_shortest, rule_pairs, rule_read, rule_spelled, text_are, text_begins}, TextBytes.{Best, pairs_rest, trimmed_text},
+  Words.{AreInPairs, HasZoneText, IsNoPosixZone, IsOfText, IsPosixZone, IsRule, IsRuleOrNone, IsSpace, IsTrimmed, IsTzText, IsWrittenZone, List, LocalType},
+  Words.{None, NoneFirst, OnErr, Option, Result, Some, TransitionRule, TwoDigits, Zone, [], append-nil, arith, false, inl, inr, is_ascii_whitespace, is_digit},
+  Words.{length, length-append, nat_tests, spelled_rule, true, types_of, zone_of_rule, ℕ, ◌++◌, ◌<◌, ◌∷◌, ◌≡◌, ◌⊎◌},
+}
 
 -- ---- white space at the ends
 not_both : (b : ℕ) → is_digit b ≡ true → is_ascii_whitespace b ≡ true → ⊥

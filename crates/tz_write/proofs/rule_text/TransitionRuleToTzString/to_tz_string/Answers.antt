@@ -1,4 +1,4 @@
-use Rattle.tz_write.proofs.{Words.{arith, rules, spelled_rule, true}, RuleTexts.{rule_named, rule_spelled, times_extended, written}, ZoneTexts.{on_err}}
+use Rattle.tz_write.proofs.{RuleTexts.{rule_named, rule_spelled, times_extended, written}, Words.{arith, rules, spelled_rule, true}, ZoneTexts.{on_err}}
 use Rattle.tz_write.proofs.rule_text.TransitionRuleToTzString.to_tz_string.Goals as goal
 
 pub returns : goal.returns
