@@ -1,7 +1,8 @@
 -- A second has one standard offset on each side, and one candidate of each.
-use Rattle.tz_saving.proofs.Words.{AreCandidates, At_a_second, IsAfter, IsBefore, IsFound, IsOnly, IsCandidate, IsRuleStandard, IsStandard, LocalType, None}
-use Rattle.tz_saving.proofs.Words.{Of_rule, Option, Some, TransitionRule, TypeAt, Zone, ap, arith, ints, refl, sym, IsWithinDay, pos, type_once, ℤ, ◌-ℤ◌, ◌≡◌}
-use Rattle.tz_saving.proofs.Words.{◌≢◌}
+use Rattle.tz_saving.proofs.{
+  Words.{AreCandidates, At_a_second, IsAfter, IsBefore, IsCandidate, IsFound, IsOnly, IsRuleStandard, IsStandard, IsWithinDay, LocalType, None, Of_rule},
+  Words.{Option, Some, TransitionRule, TypeAt, Zone, ap, arith, ints, pos, refl, sym, type_once, ℤ, ◌-ℤ◌, ◌≡◌, ◌≢◌},
+}
 
 rule_once : (rule : Option TransitionRule) (a b : ℤ) → IsRuleStandard rule a → IsRuleStandard rule b → a ≡ b
 rule_once rule a b h k = grind arith

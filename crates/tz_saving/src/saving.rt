@@ -86,7 +86,7 @@ fn flagged_amount(zone: &TimeZone, second: i64, local: &LocalTimeType) -> i32
 }
 
 // The amount by two candidates.
-#[tactic(auto, using(crate::proofs::Found::of_two_found))]
+#[tactic(auto, using(crate::proofs::AmountLaws::of_two_found))]
 fn amount_of_two(zone: &TimeZone, second: i64, local: &LocalTimeType, early: i32, late: i32) -> i32
     requires in_force { TypeAt zone.now second local.now }
     requires flagged { local.now.dst ≡ true }

@@ -1,5 +1,4 @@
-use Rattle.tz_saving.proofs.Words.{SFits, arith, ints, to_z-of_z, w32, w64, ◌-ℤ◌}
-use Rattle.tz_saving.proofs.SideLaws.{no_candidate, candidate_is}
+use Rattle.tz_saving.proofs.{SideLaws.{candidate_is, no_candidate}, Words.{SFits, arith, ints, to_z-of_z, w32, w64, ◌-ℤ◌}}
 use Rattle.tz_saving.proofs.candidates.candidate.Goals as goal
 
 pub returns-then-is_amount : goal.returns-then-is_amount
