@@ -18,3 +18,6 @@ pub use Rattle.tz_saving.specs.Sides.{HasNoStandard, IsAfter, IsBefore, IsFirstA
 pub use Rattle.tz_saving.specs.Sides.IsAfter.{At_a_second, Of_rule}
 pub use Rattle.tz_saving.specs.Steps.Walks.{HasBetween, HasNoTurn, IsBeyond, IsNearestTurn, IsOnlyCandidate, IsTurn, IsWalkedTo, IsWanted, far_second, far_type}
 pub use Rattle.tz_saving.specs.declared.saving.Saving.{Saving}
+
+-- a number that fits its type is what its bits say
+pub ruleset fitted = (to_z-of_z)

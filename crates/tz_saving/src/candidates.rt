@@ -9,7 +9,6 @@ use crate::sides::{standard_after, standard_before};
 use tz_info::{LocalTimeType, TimeZone};
 
 // The two candidates of a second at which that type is in force, with the DST flag.
-#[tactic(auto, using(crate::proofs::SideLaws::candidates_found))]
 pub(crate) fn candidates_at(
     zone: &TimeZone,
     second: i64,
@@ -36,6 +35,7 @@ fn candidate_of(offset: i32, standard: Option<i32>) -> Option<i32>
 }
 
 // How far the offset is from a standard offset, unless that is 0, or a day or more.
+#[tactic(auto, using(crate::proofs::Words::fitted, crate::proofs::SideLaws::no_candidate))]
 fn candidate(offset: i32, standard: i32) -> Option<i32>
     ensures { IsFound (IsCandidate (λ s. s ≡ standard) offset) result }
 {

@@ -10,6 +10,7 @@ use tz_info::{LocalTimeType, TimeZone, TransitionRule};
 
 // The offset of the last standard second before that one, at which a type with the DST flag is in
 // force; none if it is out of reach.
+#[tactic(auto, using(crate::proofs::Words::fitted, crate::proofs::Walks::standard_back))]
 pub(crate) fn standard_before(zone: &TimeZone, second: i64, local: &LocalTimeType) -> Option<i32>
     requires in_force { TypeAt zone.now second local.now }
     requires flagged { local.now.dst ≡ true }
@@ -36,6 +37,7 @@ pub(crate) fn standard_after(zone: &TimeZone, second: i64, local: &LocalTimeType
 }
 
 // The offset of the first standard second after it; none if it is out of reach.
+#[tactic(auto, using(crate::proofs::Words::fitted, crate::proofs::Walks::standard_on))]
 fn first_standard_after(zone: &TimeZone, second: i64, local: &LocalTimeType) -> Option<i32>
     requires in_force { TypeAt zone.now second local.now }
     requires flagged { local.now.dst ≡ true }

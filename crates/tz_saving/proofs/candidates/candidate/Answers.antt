@@ -10,11 +10,3 @@ returns-then-is_amount c =
     let within = h.1 in
     let fd : SFits w32 (c.args.offset -ℤ c.args.standard) = omega (arith, ints) in
     simp to_z-of_z (candidate_is c.args.offset c.args.standard h.0 h.1)
-
-pub returns-else-is_amount : goal.returns-else-is_amount
-returns-else-is_amount c =
-    let fo = c.ranges.offset in let fs = c.ranges.standard in
-    let wo : SFits w64 c.args.offset = omega (arith, ints) in let ws : SFits w64 c.args.standard = omega (arith, ints) in
-    let wd : SFits w64 (c.args.offset -ℤ c.args.standard) = omega (arith, ints) in
-    no_candidate c.args.offset c.args.standard
-    (λ k. let same = (simp to_z-of_z at c.is_amount.ensures).1 k in cc)
