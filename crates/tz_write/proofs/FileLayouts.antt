@@ -11,21 +11,28 @@ use Rattle.tz_write.proofs.{
 }
 use Rattle.tz_write.specs.FileLayouts.{ArePlaced, In_order, IsFirstPlaced, IsLaid, IsPlacedFrom, laid_from, text_at}
 use borrow.Author.Count.{below_more}
+use Rattle.std.proofs.Common.{length-take}
+use Rattle.std.proofs.lemmas.List.{take-append-drop}
+use Rattle.tz_write.proofs.Words.{take}
 
 -- ---- where a text is
 begins_is : (text bytes : List ℕ) → begins text bytes ≡ true → bytes ≡ text ++ (0 ∷ drop (length text + 1) bytes)
 unfolding begins
 begins_is text bytes h = grind (arith, and_parts, starts_with, starts_is, drop_more, ltb-true, eqb-true)
 
+begins_there : (text bytes : List ℕ) → place_of text bytes < length bytes → begins text (drop (place_of text bytes) bytes) ≡ true
+begins_there text [] h = absurd (omega arith)
+begins_there text (b ∷ bs) h = grind (arith, nat_tests, begins_there text bs)
+
 pub has_text : (text designations : List ℕ) → HasNoZero text → place_of text designations < length designations
     → StandsAt designations (place_of text designations) text
-has_text text [] none h = absurd (omega arith)
-has_text text (b ∷ bs) none h = elim (begins text (b ∷ bs)) as (λ t. begins text (b ∷ bs) ≡ t → cond t 0 (suc (place_of text bs)) < length (b ∷ bs)
-    → StandsAt (b ∷ bs) (cond t 0 (suc (place_of text bs))) text) [
-      | true ↦ λ e h. record { before = []; after = drop (length text + 1) (b ∷ bs); whole = begins_is text (b ∷ bs) e; at = refl; ends = none }
-      | false ↦ λ e h. let s = has_text text bs none (omega arith) in
-          record { before = b ∷ s.before; after = s.after; whole = cc; at = cc; ends = none }
-    ] refl h
+has_text text designations none h = let at = place_of text designations in record {
+  before = take at designations;
+  after = drop (length text + 1) (drop at designations);
+  whole = cc (take-append-drop at designations, begins_is text (drop at designations) (begins_there text designations h));
+  at = omega (arith, length-take {A = ℕ});
+  ends = none;
+}
 
 pub no_zero : (name : Option (List ℕ)) → IsNameOrNone name → HasNoZero (name_or_none name)
 no_zero name h = grind (arith, no_zeros, names_are, all_of)
@@ -66,16 +73,14 @@ from_front x a [] y d n k e = let r = same_text x a y d n k e in Inside [] r.0 r
 from_front [] a (c ∷ cs) y d n k e = Past cs (cc) (cc)
 from_front (x ∷ xs) a (c ∷ cs) y d n k e = elim (from_front xs a cs y d n.1 k (cc)) [ Past f h l ↦ Past f (cc) l | Inside m h l ↦ Inside (x ∷ m) (cc) l ]
 
--- two fronts of the same bytes: one begins with the other
-fronts : (b s c t : List ℕ) → b ++ s ≡ c ++ t → ((m : List ℕ) × (s ≡ m ++ t)) ⊎ ((m : List ℕ) × (b ≡ c ++ m) × (t ≡ m ++ s))
-fronts [] s c t e = inl (c, e)
-fronts (b ∷ bs) s [] t e = inr (b ∷ bs, refl, sym e)
-fronts (b ∷ bs) s (c ∷ cs) t e = elim (fronts bs s cs t (cc)) [ inl p ↦ inl p | inr (m, p, q) ↦ inr (m, cc, q) ]
-
 meet : (b x a c y d : List ℕ) → HasNoZero x → HasNoZero y → b ++ (x ++ (0 ∷ a)) ≡ c ++ (y ++ (0 ∷ d)) → Meeting b x a c y d
-meet b x a c y d n k e = elim (fronts b (x ++ (0 ∷ a)) c (y ++ (0 ∷ d)) e) [
-  | inl (m, q) ↦ elim (from_front x a m y d n k q) [ Past f h l ↦ Behind f l | Inside f h l ↦ Is_end f h l ]
-  | inr (m, p, q) ↦ elim (from_front y d m x a k n q) [ Past f h l ↦ In_front f (cc) | Inside f h l ↦ Has_end f h (sym l) ]
+meet [] x a c y d n k e = elim (from_front x a c y d n k e) [ Past f h l ↦ Behind f l | Inside f h l ↦ Is_end f h l ]
+meet (p ∷ b) x a [] y d n k e = elim (from_front y d (p ∷ b) x a k n (sym e)) [ Past f h l ↦ In_front f h | Inside f h l ↦ Has_end f h (sym l) ]
+meet (p ∷ b) x a (q ∷ c) y d n k e = elim (meet b x a c y d n k (cc)) [
+  | In_front f h ↦ In_front f (cc)
+  | Behind f h ↦ Behind f h
+  | Is_end f h l ↦ Is_end f h l
+  | Has_end f h l ↦ Has_end f h l
 ]
 
 -- ---- the end of the last text
@@ -321,18 +326,13 @@ module _ (others : List ℕ) where
   IsBelow m t = key_in t ≤ key_in m
 
   -- the place of a type whose key is the greatest
-  greatest : (t : LocalType) (ts : List LocalType)
-      → (place : ℕ) × (place < length (t ∷ ts)) × ((d : LocalType) → All (IsBelow (get_or (t ∷ ts) place d)) (t ∷ ts))
-  greatest t [] = (0, omega arith, λ d. All-cons (IsBelow t) t [] (omega arith) (All-nil (IsBelow t)))
-  greatest t (u ∷ us) = let (place, inside, above) = greatest u us in elim (cases_lt (key_in (get_or (u ∷ us) place u)) (key_in t)) [
-    | inl l ↦ (
-      0,
-      omega arith,
-      λ d. All-cons (IsBelow t) t (u ∷ us) (omega arith)
-          (All-weaker (IsBelow (get_or (u ∷ us) place u)) (IsBelow t) (λ x k. omega arith) (u ∷ us) (above u)),
-    )
-    | inr m ↦ (suc place, omega arith, λ d. All-cons (IsBelow (get_or (u ∷ us) place d)) t (u ∷ us) (omega (arith, above d place u inside)) (above d))
-  ]
+  greatest : (d t : LocalType) (ts : List LocalType) → (place : ℕ) × (place < length (t ∷ ts)) × All (IsBelow (get_or (t ∷ ts) place d)) (t ∷ ts)
+  greatest d t [] = (0, omega arith, All-cons (IsBelow t) t [] (omega arith) (All-nil (IsBelow t)))
+  greatest d t (u ∷ us) =
+      let (place, inside, above) = greatest d u us in let m = get_or (u ∷ us) place d in elim (cases_lt (key_in m) (key_in t)) [
+        | inl l ↦ (0, omega arith, All-cons (IsBelow t) t (u ∷ us) (omega arith) (All-weaker (IsBelow m) (IsBelow t) (λ x k. omega arith) (u ∷ us) above))
+        | inr k ↦ (suc place, omega arith, All-cons (IsBelow m) t (u ∷ us) k above)
+      ]
 
   -- the text is in front of the last one, or ends with it
   record EndsWith (m t : LocalType) : Type 0 where
@@ -457,10 +457,10 @@ none_laid [] others named names unplaced none = unplaced (All-nil (HasPlace (lai
 none_laid (t ∷ ts) others named names unplaced none =
     let types = t ∷ ts in
     let s : All (Served others) types = λ i d l. served others (get_or types i d) (named i d l) (names i d l) in
-    let (place, inside, above) = greatest others t ts in
+    let (place, inside, above) = greatest others t t ts in
     let m = get_or types place t in let sm = s place t inside in
-    let found = in_order_in others m sm types s (above t) place t inside in
-    let placed = placed_with others m sm types s (above t) found in
+    let found = in_order_in others m sm types s above place t inside in
+    let placed = placed_with others m sm types s above found in
     let text = text_found (laid [] types) (name_of m) sm.stands.ends found in grind arith
 
 -- ---- places are names
