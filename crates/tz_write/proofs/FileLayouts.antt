@@ -59,9 +59,9 @@ data Meeting (b x a c y d : List ℕ) : Type 0 where
 -- in front of the first 0 byte is one text
 same_text : (x a y d : List ℕ) → HasNoZero x → HasNoZero y → x ++ (0 ∷ a) ≡ y ++ (0 ∷ d) → (x ≡ y) × (a ≡ d)
 same_text [] a [] d n k e = (refl, cc)
-same_text [] a (y ∷ ys) d n k e = absurd (k.0 (cc))
-same_text (x ∷ xs) a [] d n k e = absurd (n.0 (cc))
-same_text (x ∷ xs) a (y ∷ ys) d n k e = let (same, rest) = same_text xs a ys d n.1 k.1 (cc) in (cc, rest)
+same_text [] a (y ∷ ys) d n k e = grind arith
+same_text (x ∷ xs) a [] d n k e = grind arith
+same_text (x ∷ xs) a (y ∷ ys) d n k e = grind (arith, same_text xs a ys d)
 
 -- x is at the front
 data Front (x a c y d : List ℕ) : Type 0 where
@@ -86,7 +86,7 @@ meet (p ∷ b) x a (q ∷ c) y d n k e = elim (meet b x a c y d n k (cc)) [
 -- ---- the end of the last text
 ends_decided : (last text : List ℕ) → Decides (ends last text) (Ends last text)
 ends_decided last text = let e = ends_is {E = nat_eq} Decides-eqb last text (ends last text) refl in
-    ((λ h. record { front = _; is = e.0 h }), λ h. e.1 h.front h.is)
+    grind arith
 
 -- ---- the place of a text
 begins_again : (text rest : List ℕ) → begins text (text ++ (0 ∷ rest)) ≡ true
@@ -165,7 +165,8 @@ module _ (bytes text : List ℕ) where
   by_text P same put = grind arith
 
   kept : (other : List ℕ) → In bytes other → In (with_text bytes text) other
-  kept other h = by_text (λ d. In d other) h (λ _ _. in_longer bytes (text ++ 0 ∷ []) other h)
+  unfolding with_text
+  kept other h = grind (arith, in_longer)
 
   -- a text for which there is room is put in
   pub put : (Out bytes text → length bytes + length text < 263) → In (with_text bytes text) text
@@ -187,7 +188,7 @@ module _ (P : List ℕ → Type 0) (last : List ℕ) (size : ℕ) where
   unfolding with_texts
   by_types [] bytes step h = h
   by_types (t ∷ ts) bytes step h =
-      by_types ts (with_text_of last size bytes t) (λ i d l. step (suc i) d (omega arith)) (step 0 t (omega arith) bytes h)
+      by_types ts _ (λ i d l. step (suc i) d (omega arith)) (step 0 t (omega arith) bytes h)
 
   keeps_all : ((d text : List ℕ) → P d → P (with_text d text)) → (types : List LocalType) (bytes : List ℕ) → P bytes
       → P (with_texts last size bytes types)
@@ -327,7 +328,7 @@ module _ (others : List ℕ) where
 
   -- the place of a type whose key is the greatest
   greatest : (d t : LocalType) (ts : List LocalType) → (place : ℕ) × (place < length (t ∷ ts)) × All (IsBelow (get_or (t ∷ ts) place d)) (t ∷ ts)
-  greatest d t [] = (0, omega arith, All-cons (IsBelow t) t [] (omega arith) (All-nil (IsBelow t)))
+  greatest d t [] = (0, omega arith, grind arith)
   greatest d t (u ∷ us) =
       let (place, inside, above) = greatest d u us in let m = get_or (u ∷ us) place d in elim (cases_lt (key_in m) (key_in t)) [
         | inl l ↦ (0, omega arith, All-cons (IsBelow t) t (u ∷ us) (omega arith) (All-weaker (IsBelow m) (IsBelow t) (λ x k. omega arith) (u ∷ us) above))
@@ -342,8 +343,8 @@ module _ (others : List ℕ) where
 -- ---- laid with that text as the last
 module _ (bytes last : List ℕ) where
   kept_low : (text : List ℕ) → In bytes text → place_of text (with_text bytes last) ≤ place_of text bytes
-  kept_low text h = by_text bytes last (λ d. place_of text d ≤ place_of text bytes) (omega arith)
-      (λ _ _. place_kept text bytes (last ++ 0 ∷ []) h)
+  unfolding with_text
+  kept_low text h = grind (arith, place_kept)
 
   -- a text has its place in what is laid, if it comes before the last one, or else in what that ends
   in_place : (t : LocalType) → length bytes ≤ 256 → In bytes (name_of t) → HasPlace (with_text bytes last) t
@@ -376,7 +377,7 @@ module _ (others : List ℕ) (m : LocalType) (sm : Served others m) where
   where_is t st top =
       let a = sm.stands in let b = st.stands in let m_size = at_size a in let t_size = at_size b in
       elim (meet a.before (name_of m) a.after b.before (name_of t) b.after a.ends b.ends (cc)) [
-        | In_front e h ↦ inl (record { before = b.before; after = e; whole = h })
+        | In_front e h ↦ inl (grind arith)
         | Behind e h ↦ absurd (grind (arith, length-append))
         | Is_end f h l ↦ inr (record { ends = record { front = f; is = h }; at = omega (arith, ap length l) })
         | Has_end f h l ↦ grind (arith, no_front)
@@ -398,10 +399,7 @@ module _ (others : List ℕ) (m : LocalType) (sm : Served others m) where
     laid_place inside = elim (cases_lt (place_of (name_of t) bytes) (length bytes)) [
       | inl l ↦ in_place bytes (name_of m) t (omega arith) l
       | inr away ↦
-          let e = has_end (name_of m) (name_of t) (λ free. elim st.size.1 [
-            | inl none ↦ free (rw (nil_from_length (name_of t) none) (ends_nothing (name_of m)))
-            | inr three ↦ absurd (omega (arith, inside three st.size.0 free))
-          ]) in
+          let e = has_end (name_of m) (name_of t) (λ free. grind (arith, nil_from_length, ends_nothing)) in
           let end = end_in bytes (name_of m) (name_of t) sm.stands.ends e in let out = at_the_end in grind (arith, cases_lt)
     ]
 
@@ -484,7 +482,7 @@ placed_or_not : (types : List LocalType) (place : ℕ) → IsPlacedFrom types pl
 placed_or_not types place = let places = places_or_not (laid_from types place) types in grind (arith, cases_lt)
 
 first_placed : (types : List LocalType) (place : ℕ) → AreNotPlacedBefore types place ⊎ ((d : List ℕ) × IsFirstPlaced types d)
-first_placed types zero = inl (λ k l. absurd (omega arith))
+first_placed types zero = inl (grind arith)
 first_placed types (suc n) = elim (first_placed types n) [
   | inr f ↦ inr f
   | inl none ↦ elim (placed_or_not types n) [
@@ -515,14 +513,15 @@ module _ (types : List LocalType) (some : 0 < length types) (names : AreNames ty
   laid_of bytes named = elim (places_or_not (laid [] types) types) [
     | inl h ↦ (laid [] types, laid_in_order (laid [] types) refl h)
     | inr unplaced ↦ elim (first_placed types (length (laid [] types))) [
-      | inl none ↦ absurd (none_laid types bytes names named unplaced none)
+      | inl none ↦ grind (arith, none_laid)
       | inr f ↦ (f.0, laid_with_last unplaced f.0 f.1)
     ]
   ]
 
 -- ---- they have room
 size_with : (bytes text : List ℕ) → length bytes ≤ 263 → length (with_text bytes text) ≤ 263
-size_with bytes text h = by_text bytes text (λ d. length d ≤ 263) h (λ _ room. grind (arith, length-append))
+unfolding with_text
+size_with bytes text h = grind (arith, length-append)
 
 size_laid : (last : List ℕ) (types : List LocalType) → length (laid last types) ≤ 263
 unfolding laid
