@@ -209,7 +209,7 @@ module _ (last text y b a c d : List ℕ) (free : Ends last text → ⊥) (apart
   cut : Meeting b text a c y d → Stands (b ++ a) y
   cut (In_front e h) = grind (arith, append_assoc)
   cut (Behind e h) = record { before = b ++ e; after = d; whole = cc (append_assoc b e (y ++ (0 ∷ d))) }
-  cut (Is_end m h l) = absurd (apart (record { front = m; is = h }))
+  cut (Is_end m h l) = absurd (grind arith)
   cut (Has_end m h l) = elim small [
     | inl s ↦ absurd (apart (record { front = []; is = cc (no_front m text (omega (arith, ap length h))) }))
     | inr k ↦ absurd (free (record { front = k.front ++ m; is = cc (append_assoc k.front m text) }))
@@ -358,7 +358,7 @@ decided : {P : Type 0} (b : Bool) → Decides b P → P ⊎ (¬ P)
 decided b d = grind (arith, nat_tests)
 
 has_end : (last text : List ℕ) → ((Ends last text → ⊥) → ⊥) → Ends last text
-has_end last text h = elim (decided (ends last text) (ends_decided last text)) [ inl e ↦ e | inr none ↦ absurd (h none) ]
+has_end last text h = let d = decided (ends last text) (ends_decided last text) in grind arith
 
 laid_short : (last others : List ℕ) (types : List LocalType) → HasNoZero last → Stands others last → All (Given last others) types
     → length (laid last types) ≤ length others
@@ -464,7 +464,7 @@ none_laid (t ∷ ts) others named names unplaced none =
 -- ---- places are names
 named_in : (bytes : List ℕ) (t : LocalType) → IsNameOrNone t.name → HasPlace bytes t → IsNamedIn bytes t
 named_in bytes t name h =
-    record { place = place_of (name_of t) bytes; stands = has_text (name_of t) bytes (no_zero t.name name) h.stands; named = h.named }
+    record { place = _; stands = has_text (name_of t) bytes (no_zero t.name name) h.stands; named = h.named }
 
 -- the designations that are laid
 abbrev pub AreLaid : List LocalType → List ℕ → Type 0

@@ -40,7 +40,7 @@ module _ {X : Type 0} (size : ℕ) (Spells : List ℕ → X → Type 0) where
       (f x, flat_map f xs, refl, sized x, h 0 x (omega arith), records_are f xs sized (λ i d l. h (suc i) d (omega arith)))
 
   records_length : (part : List ℕ) (xs : List X) → AreRecords size Spells part xs → length part ≡ length xs * size
-  records_length part [] h = ap length h ∙ omega arith
+  records_length part [] h = grind arith
   records_length part (x ∷ xs) h = grind (arith, length-append, records_length h.1 xs h.5)
 
 -- ---- transitions and leap seconds
@@ -146,7 +146,7 @@ first_block rest = grind arith
 -- ---- the second half
 some_designations : (types : List LocalType) (d : List ℕ) → 0 < length types → HavePlaces d types → length d ≢ 0
 some_designations [] d some places e = omega arith
-some_designations (t ∷ ts) d some places e = let p = (places 0 t some).stands in omega arith
+some_designations (t ∷ ts) d some places e = grind (arith, places 0 t some)
 
 pieces_of : Bool → List ℕ → List ℕ → Zone → FilePieces
 pieces_of extended text d z = later_pieces (record { version = version_of extended; counts = zone_counts d z }) (zone_parts d z) (footer_bytes text)
@@ -275,7 +275,7 @@ text_back : (text : List ℕ) → name_or_none (designation_of text) ≡ text
 text_back text = grind arith
 
 type_named : (designations bytes : List ℕ) (t : LocalType) → length bytes ≡ 6 → AreBytes bytes → SpellsType designations bytes t → IsNamedIn designations t
-type_named designations bytes t size b h = record { place = place_in bytes; stands = grind (arith, text_back); named = b 5 0 (omega arith) }
+type_named designations bytes t size b h = record { place = _; stands = grind (arith, text_back); named = b 5 0 (omega arith) }
 
 types_named : (designations part : List ℕ) (types : List LocalType) → SpellTypes designations part types → AreBytes part → AreNamesIn designations types
 types_named designations part [] h b = All-nil (IsNamedIn designations)
@@ -317,7 +317,7 @@ text_is rule text extended fits h = grind (arith, rule_named, rule_text, text_be
 footer_some : (rule : Option TransitionRule) → IsRuleOrNone rule → IsSpellableOrNone rule
     → (text : List ℕ) × (extended : Bool) × IsFooterText rule text extended
 footer_some (Some rule) fits h = text_some rule fits h
-footer_some None fits h = ([], false, (refl, refl))
+footer_some None fits h = grind arith
 
 has_version : (extended : Bool) (text d : List ℕ) (z : Zone) → HaveVersion extended (file_bytes extended text d z)
 unfolding file_bytes first_half second_half header_bytes counts_bytes number_bytes

@@ -192,8 +192,8 @@ quoted_best t name = grind (arith, length-append)
 name_front : {bytes rest : List ℕ} (name : List ℕ) → Spells tz.name bytes name rest → Front (spelled_name name) bytes rest
 unfolding tz.name tz.quoted
 name_front name (inl (_, is, (text, _, run, (_, end, close, (value, same))))) = rw (value, ← same)
-    (record { front = quoted text; whole = grind (arith, append_assoc); best = λ _. quoted_best (list_all is_letter text) text })
-name_front name (inr (_, run)) = record { front = name; whole = run.whole; best = λ _. rw (all_to is_letter name run.each) (inl refl) }
+    (record { front = quoted text; whole = grind (arith, append_assoc); best = λ _. quoted_best _ text })
+name_front name (inr (_, run)) = grind (arith, all_to)
 
 -- a name's text begins with a letter or `<`
 name_begins : (name rest : List ℕ) → IsName name → Begins 60 122 (spelled_name name ++ rest)
@@ -226,7 +226,7 @@ date_front form (inr (_, inr (_, (_, _, number, (_, value, same))))) = rw (value
 module _ (rest : List ℕ) (stops : Stops rest) (extended : Bool) where
   after_writes : (time : ℤ) → IsTextTime extended time → Writes (tz.optional_time extended) (time_after time) time rest
   unfolding tz.optional_time
-  after_writes time h = writes_optional (int_eq time (pos 7_200)) ((Decides-int_eq time (pos 7_200)).0) stops.2
+  after_writes time h = writes_optional _ ((Decides-int_eq time (pos 7_200)).0) stops.2
       (λ _. writes_mark refl (time_writes rest stops extended time h))
 
   day_writes : (d : DayTime) → IsRuleDay d.day → IsTextTime extended d.time → Writes (tz.day extended) (spelled_day d) d rest
@@ -236,8 +236,7 @@ module _ (rest : List ℕ) (stops : Stops rest) (extended : Bool) where
 
 after_front : {bytes rest : List ℕ} (extended : Bool) (time : ℤ) → Spells (tz.optional_time extended) bytes time rest → Front (time_after time) bytes rest
 unfolding tz.optional_time
-after_front extended time h = front_optional slash (pos 7_200) (tz.time extended) (int_eq time (pos 7_200))
-    (λ after is p. front_cons is (time_front extended time p)) ((Decides-int_eq time (pos 7_200)).1) h
+after_front extended time h = front_optional slash _ (tz.time extended) _ (λ after is p. front_cons is (time_front extended time p)) ((Decides-int_eq time (pos 7_200)).1) h
 
 day_front : {bytes rest : List ℕ} (extended : Bool) (d : DayTime) → Spells (tz.day extended) bytes d rest → Front (spelled_day d) bytes rest
 unfolding tz.day

@@ -26,7 +26,7 @@ pairs_rest [] rest h = h
 pairs_rest (b ∷ bs) rest h = pairs_rest bs rest h.1
 
 best_append : (a b x y : List ℕ) → Best a x → Best b y → Best (a ++ b) (x ++ y)
-best_append a b x y p q = let m = length-append a b in let n = length-append x y in grind arith
+best_append a b x y p q = grind (arith, length-append)
 
 -- nothing is the shortest
 best_nothing : (x : List ℕ) → Best [] x
@@ -91,7 +91,7 @@ module _ (p : ℕ → Bool) where
   -- no colon, so none lacks its two digits
   pub pairs_over : ((b : ℕ) → p b ≡ true → b ≢ colon) → (bs rest : List ℕ) → AllOf p bs → AreInPairs rest → AreInPairs (bs ++ rest)
   pairs_over other [] rest h pairs = pairs
-  pairs_over other (b ∷ bs) rest h pairs = ((λ e. absurd (other b h.0 e)), pairs_over other bs rest h.1 pairs)
+  pairs_over other (b ∷ bs) rest h pairs = grind (arith, pairs_over other bs rest)
 
   pub first_optional : (b : Bool) (t : ℕ) (text rest : List ℕ) → p t ≡ false → NoneFirst p rest → NoneFirst p (cond b [] (t ∷ text) ++ rest)
   first_optional b t text rest e h = grind (arith, nat_tests)
@@ -184,12 +184,11 @@ begins_bare text h = grind (arith, not_space)
 
 pub ends_bare : (text : List ℕ) → AreTextBytes text → EndsBare text
 ends_bare [] h = tt
-ends_bare (b ∷ []) h = not_space b h.0
-ends_bare (b ∷ c ∷ cs) h = ends_bare (c ∷ cs) h.1
+ends_bare (b ∷ bs) h = grind (arith, not_space, ends_bare bs)
 
 pub trimmed_text : (text : List ℕ) → AreTextBytes text → IsTrimmed text text
 trimmed_text text h =
-    record { before = []; after = []; whole = sym (append-nil text); space_before = tt; space_after = tt; first = begins_bare text h; last = ends_bare text h }
+    record { before = []; after = []; whole = sym (append-nil text); space_before = tt; space_after = tt; first = begins_bare text h; last = grind (arith, ends_bare) }
 
 own : IsNumeralModel AllDigits (value_from 0)
 own = numerals_by_fold AllDigits (search rules) value_from (search rules)
@@ -205,7 +204,7 @@ Begins low high (first ∷ others) = (low ≤ first) × (first ≤ high)
 
 digits_begin : (ds rest : List ℕ) → AllDigits ds → 0 < length ds → Begins 48 57 (ds ++ rest)
 digits_begin [] rest each some = absurd (omega arith)
-digits_begin (d ∷ ds) rest each some = digit_within d each.0
+digits_begin (d ∷ ds) rest each some = grind (arith, nat_tests)
 
 pub number_begins : (n : ℕ) (rest : List ℕ) → n < 2 ^ 64 → Begins 48 57 (decimal n ++ rest)
 number_begins n rest h = digits_begin (decimal n) rest (digits_decimal own n h) (decimal_nonempty n h)
@@ -223,7 +222,7 @@ module _ (max n : ℕ) (rest : List ℕ) (l : n ≤ max) (none : NoneFirst is_di
   number_writes h = digits_write (decimal n) (digits_decimal own n h) (decimal_nonempty n h) (digits_value-decimal own n h)
 
   pub pair_writes : n < 100 → Writes (Number max) ((48 + n / 10) ∷ (48 + n % 10) ∷ []) n rest
-  pair_writes h = let d = two_digits n [] h tt in digits_write ((48 + n / 10) ∷ (48 + n % 10) ∷ []) (d.0, (d.1, tt)) (omega arith) (omega arith)
+  pair_writes h = let d = two_digits n [] h tt in digits_write _ (d.0, (d.1, tt)) (omega arith) (omega arith)
 
 -- ---- no fewer digits do
 -- zeros in front may go, and then the digits are those of the number
@@ -244,7 +243,7 @@ paired : (ds rest : List ℕ) (n : ℕ) → AllDigits ds → 0 < length ds → N
 paired [] rest n each some none value pair = absurd (omega arith)
 paired (d ∷ []) rest n each some none value pair = grind (arith, nat_tests, both_ways)
 paired (d ∷ e ∷ []) rest n each some none value pair = grind arith
-paired (d ∷ e ∷ f ∷ ds) rest n each some none value pair = absurd (both_ways _ pair.2 each.1.1.0)
+paired (d ∷ e ∷ f ∷ ds) rest n each some none value pair = grind (arith, both_ways)
 
 pub pair_front : {max n : ℕ} {bytes after rest : List ℕ} → bytes ≡ colon ∷ after → IsNumber max after n rest → Front (spelled_pair n) bytes rest
 pair_front {n = n} {rest = rest} e p = record { front = colon ∷ p.digits; whole = grind arith; best = grind (arith, paired) }

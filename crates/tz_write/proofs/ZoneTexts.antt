@@ -79,4 +79,4 @@ zone_text_once z s t p q = grind (arith, both_shortest)
 
 -- ---- running out of memory
 pub on_err : {A E : Type 0} (r : Result A E) (P : Type 0) → P → OnErr r P
-on_err r P h = grind (arith, nat_tests)
+on_err r P h = grind arith
