@@ -1,7 +1,7 @@
 -- A second has one amount, which is what the code finds.
 use Rattle.tz_saving.proofs.{
   SideLaws.{candidates_once, only_once, the_found},
-  Words.{At_a_second, Change, HasNoStandard, IsAfter, IsAmount, IsByCandidates, IsFlaggedAmount, IsFound, IsNextCandidate, IsNextUse, IsOfTwo, IsOnlyCandidate},
+  Words.{At_a_second, Change, HasNoStandard, IsAfter, IsAmount, IsByCandidates, IsFlaggedAmount, IsFound, IsNextCandidate, IsNextUse, IsOfTwo}, Words.{AreCandidates, IsOnly},
   Words.{IsRuleStandard, IsSavingAt, IsSoonAfter, LocalType, None, Of_rule, Option, Saving, Some, TransitionRule, TypeAt, Zone, ap, arith, ints, sym},
   Words.{type_once, ℤ, ◌-ℤ◌, ◌∙◌, ◌≡◌},
 }
@@ -50,13 +50,13 @@ module _ (z : Zone) (t : LocalType) (u : ℤ) where
   abbrev IsNext : ℤ → Type 0
   IsNext a = IsNextCandidate (TypeAt z) z.rule t u a
 
-  pub next_found : (at : ℤ) (found : Option ℤ) → (c : Change) × IsNextUse (TypeAt z) t u c × (c.at ≡ at)
-      → IsOnlyCandidate (TypeAt z) z.rule at t.offset found → IsFound IsNext found
-  next_found at None (c, next, same) (early, late, candidates, none) = λ a h.
+  pub next_found : (at : ℤ) (early late found : Option ℤ) → (c : Change) × IsNextUse (TypeAt z) t u c × (c.at ≡ at)
+      → AreCandidates (TypeAt z) z.rule at t.offset early late → IsFound (IsOnly early late) found → IsFound IsNext found
+  next_found at early late None (c, next, same) candidates none = λ a h.
       let there = next_once (TypeAt z) t u h.change c h.next next ∙ same in
       let (p, q) = candidates_once (TypeAt z) (type_once z) z.rule at t.offset h.early h.late early late (rw there at h.candidates) candidates in
       none a (rw (p, q) at h.only)
-  next_found at (Some a) (c, next, same) (early, late, candidates, only) =
+  next_found at early late (Some a) (c, next, same) candidates only =
       record { change = c; next = next; early = early; late = late; candidates = rw same candidates; only = only }
 
   -- the choice by what was found

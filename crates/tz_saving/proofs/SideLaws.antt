@@ -14,11 +14,6 @@ only_once p q a b h k = grind arith
 candidate_by : {P Q : ℤ → Type 0} {offset a : ℤ} → ((s : ℤ) → P s → Q s) → IsCandidate P offset a → IsCandidate Q offset a
 candidate_by by r = record { standard = r.standard; of_side = by r.standard r.of_side; difference = r.difference; some = r.some; within = r.within }
 
-found_by : (P Q : ℤ → Type 0) (offset : ℤ) (found : Option ℤ) → ((s : ℤ) → P s → Q s) → ((s : ℤ) → Q s → P s) → IsFound (IsCandidate P offset) found
-    → IsFound (IsCandidate Q offset) found
-found_by P Q offset None to from h = λ a r. h a (candidate_by from r)
-found_by P Q offset (Some a) to from r = candidate_by to r
-
 -- one number has the property
 module _ (is : ℤ → Type 0) (once : (a b : ℤ) → is a → is b → a ≡ b) where
   candidate_once : (offset a b : ℤ) → IsCandidate is offset a → IsCandidate is offset b → a ≡ b
@@ -34,7 +29,8 @@ module _ (is : ℤ → Type 0) (once : (a b : ℤ) → is a → is b → a ≡ b
   -- a candidate by the offset that was found is one by that side
   found_candidate : (offset : ℤ) (standard result : Option ℤ) → IsFound is standard → IsFound (IsCandidate (λ s. standard ≡ Some s) offset) result
       → IsFound (IsCandidate is offset) result
-  found_candidate offset standard result h = found_by (λ s. standard ≡ Some s) is offset result (λ s e. rw e at h) (λ s. the_found standard s h)
+  found_candidate offset standard None h k = λ a r. k a (candidate_by (λ s. the_found standard s h) r)
+  found_candidate offset standard (Some a) h k = candidate_by (λ s e. rw e at h) k
 
 -- a second has one type
 module _ (f : ℤ → LocalType → Type 0) (one : (u : ℤ) (s t : LocalType) → f u s → f u t → s ≡ t) where
@@ -74,6 +70,3 @@ module _ (offset standard : ℤ) where
 
   pub no_candidate : ((offset -ℤ standard ≢ pos 0) × IsWithinDay (offset -ℤ standard) → ⊥) → (a : ℤ) → IsCandidate (λ s. s ≡ standard) offset a → ⊥
   no_candidate none a r = grind (arith, ints)
-
-  pub by_some : (found : Option ℤ) → IsFound (IsCandidate (λ s. s ≡ standard) offset) found → IsFound (IsCandidate (λ s. Some standard ≡ Some s) offset) found
-  by_some found = found_by (λ s. s ≡ standard) (λ s. Some standard ≡ Some s) offset found (λ s e. ap Some (sym e)) (λ s e. cc)

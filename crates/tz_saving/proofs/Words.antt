@@ -16,7 +16,7 @@ unfoldable pub use Rattle.tz_saving.specs.Reach.{HasChanges}
 pub use Rattle.tz_saving.specs.Savings.{IsSavingAt}
 pub use Rattle.tz_saving.specs.Sides.{HasNoStandard, IsAfter, IsBefore, IsFirstAfter, IsFound, IsRuleStandard, IsSoonAfter, IsStandard}
 pub use Rattle.tz_saving.specs.Sides.IsAfter.{At_a_second, Of_rule}
-pub use Rattle.tz_saving.specs.Steps.Walks.{HasBetween, HasNoTurn, IsBeyond, IsNearestTurn, IsOnlyCandidate, IsTurn, IsWalkedTo, IsWanted, far_second, far_type}
+pub use Rattle.tz_saving.specs.Steps.Walks.{HasBetween, HasNoTurn, IsBeyond, IsNearestTurn, IsTurn, IsWalkedTo, IsWanted, far_second, far_type}
 pub use Rattle.tz_saving.specs.declared.saving.Saving.{Saving}
 
 -- a number that fits its type is what its bits say

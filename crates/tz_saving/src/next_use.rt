@@ -2,7 +2,7 @@
 
 ghost use Rattle.std.specs.Prelude.{◌≡◌, true};
 ghost use Rattle.tz_info.specs.Zones.{TypeAt};
-ghost use Rattle.tz_saving.specs.{Amounts.{IsNextCandidate}, Steps.Walks.{IsOnlyCandidate, IsSecondOfNextUse}};
+ghost use Rattle.tz_saving.specs.{Amounts.{IsNextCandidate}, Steps.Walks.{IsSecondOfNextUse}};
 ghost use Rattle.tz_saving.specs.Sides.{IsFound};
 
 use crate::candidates::{candidates_at, only_of};
@@ -15,19 +15,12 @@ pub(crate) fn next_candidate(zone: &TimeZone, second: i64, local: &LocalTimeType
     ensures { IsFound (IsNextCandidate (TypeAt zone.now) zone.now.rule local.now second) result }
 {
     match next_use(zone, second, local) {
-        Some(at) => only_candidate(zone, at, local),
+        Some(at) => {
+            let (early, late) = candidates_at(zone, at, local);
+            only_of(early, late)
+        }
         None => None,
     }
-}
-
-// The only candidate of a second at which that type is in force.
-fn only_candidate(zone: &TimeZone, second: i64, local: &LocalTimeType) -> Option<i32>
-    requires in_force { TypeAt zone.now second local.now }
-    requires flagged { local.now.dst ≡ true }
-    ensures { IsOnlyCandidate (TypeAt zone.now) zone.now.rule second local.now.offset result }
-{
-    let (early, late) = candidates_at(zone, second, local);
-    only_of(early, late)
 }
 
 // When the type is next used after the second; `None` if never, or out of reach.

@@ -1,8 +1,8 @@
 -- Walks from a second to the nearest change that has standard time, or a type, on its far side.
 use Rattle.std.specs.Prelude.{ℕ, suc, ℤ, pos, Bool, true, false, ◌↔◌, ◌≡◌, ◌-ℤ◌, ◌≤ℤ◌, ◌<ℤ◌, Option, MatchOption}
 use Rattle.tz_base.specs.{LocalTypes.{LocalType}, declared.change.Change.{Change}}
-use Rattle.tz_info.specs.{Changes.{IsChange, Precedes}, declared.rule.transition_rule.TransitionRule.{TransitionRule}}
-use Rattle.tz_saving.specs.{Amounts.{IsNextUse}, Candidates.{AreCandidates, IsOnly}, Reach.{HasChanges, reach}, Sides.{IsFound}}
+use Rattle.tz_info.specs.Changes.{IsChange, Precedes}
+use Rattle.tz_saving.specs.{Amounts.{IsNextUse}, Reach.{HasChanges, reach}}
 
 -- in that direction, which is forward or back, a change at that second comes after u
 abbrev pub IsBeyond : Bool → ℤ → ℤ → Type 0
@@ -57,8 +57,3 @@ abbrev pub IsSecondOfNextUse : (ℤ → LocalType → Type 0) → LocalType → 
 IsSecondOfNextUse in_force t u found = MatchOption found
     ((c : Change) → IsNextUse in_force t u c → ⊥)
     (λ at. (c : Change) × IsNextUse in_force t u c × (c.at ≡ at))
-
--- the only candidate of the offset at the second u, or nothing if it has none or two
-abbrev pub IsOnlyCandidate : (ℤ → LocalType → Type 0) → Option TransitionRule → ℤ → ℤ → Option ℤ → Type 0
-IsOnlyCandidate in_force rule u offset found =
-    (early : Option ℤ) × (late : Option ℤ) × AreCandidates in_force rule u offset early late × IsFound (IsOnly early late) found
