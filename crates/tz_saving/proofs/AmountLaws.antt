@@ -1,8 +1,8 @@
 -- A second has one amount, which is what the code finds.
 use Rattle.tz_saving.proofs.{
   SideLaws.{candidates_once, only_once, the_found},
-  Words.{At_a_second, Change, HasNoStandard, IsAfter, IsAmount, IsByCandidates, IsFlaggedAmount, IsFound, IsNextCandidate, IsNextUse, IsOfTwo}, Words.{AreCandidates, IsOnly},
-  Words.{IsRuleStandard, IsSavingAt, IsSoonAfter, LocalType, None, Of_rule, Option, Saving, Some, TransitionRule, TypeAt, Zone, ap, arith, ints, sym},
+  Words.{AreCandidates, At_a_second, Change, HasNoStandard, IsAfter, IsAmount, IsByCandidates, IsFlaggedAmount, IsFound, IsNextCandidate, IsNextUse, IsOfTwo},
+  Words.{IsOnly, IsRuleStandard, IsSavingAt, IsSoonAfter, LocalType, None, Of_rule, Option, Saving, Some, TransitionRule, TypeAt, Zone, ap, arith, ints, sym},
   Words.{type_once, ℤ, ◌-ℤ◌, ◌∙◌, ◌≡◌},
 }
 
@@ -54,8 +54,8 @@ module _ (z : Zone) (t : LocalType) (u : ℤ) where
       → AreCandidates (TypeAt z) z.rule at t.offset early late → IsFound (IsOnly early late) found → IsFound IsNext found
   next_found at early late None (c, next, same) candidates none = λ a h.
       let there = next_once (TypeAt z) t u h.change c h.next next ∙ same in
-      let (p, q) = candidates_once (TypeAt z) (type_once z) z.rule at t.offset h.early h.late early late (rw there at h.candidates) candidates in
-      none a (rw (p, q) at h.only)
+      let both = candidates_once (TypeAt z) (type_once z) z.rule at t.offset h.early h.late early late (rw there at h.candidates) candidates in
+      grind arith
   next_found at early late (Some a) (c, next, same) candidates only =
       record { change = c; next = next; early = early; late = late; candidates = rw same candidates; only = only }
 

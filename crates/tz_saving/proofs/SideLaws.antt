@@ -1,7 +1,7 @@
 -- A second has one standard offset on each side, and one candidate of each.
 use Rattle.tz_saving.proofs.{
   Words.{AreCandidates, At_a_second, IsAfter, IsBefore, IsCandidate, IsFound, IsOnly, IsRuleStandard, IsStandard, IsWithinDay, LocalType, None, Of_rule},
-  Words.{Option, Some, TransitionRule, TypeAt, Zone, ap, arith, ints, pos, refl, sym, type_once, ℤ, ◌-ℤ◌, ◌≡◌, ◌≢◌},
+  Words.{Option, Some, TransitionRule, TypeAt, Zone, arith, ints, pos, refl, type_once, ℤ, ◌-ℤ◌, ◌≡◌, ◌≢◌},
 }
 
 rule_once : (rule : Option TransitionRule) (a b : ℤ) → IsRuleStandard rule a → IsRuleStandard rule b → a ≡ b
@@ -12,7 +12,7 @@ only_once p q a b h k = grind arith
 
 -- with the same property a side has the same candidates
 candidate_by : {P Q : ℤ → Type 0} {offset a : ℤ} → ((s : ℤ) → P s → Q s) → IsCandidate P offset a → IsCandidate Q offset a
-candidate_by by r = record { standard = r.standard; of_side = by r.standard r.of_side; difference = r.difference; some = r.some; within = r.within }
+candidate_by by r = record { standard = r.standard; of_side = by _ r.of_side; difference = r.difference; some = r.some; within = r.within }
 
 -- one number has the property
 module _ (is : ℤ → Type 0) (once : (a b : ℤ) → is a → is b → a ≡ b) where
@@ -51,16 +51,16 @@ module _ (f : ℤ → LocalType → Type 0) (one : (u : ℤ) (s t : LocalType) �
   pub candidates_once : (rule : Option TransitionRule) (u offset : ℤ) (p q r s : Option ℤ) → AreCandidates f rule u offset p q
       → AreCandidates f rule u offset r s → (p ≡ r) × (q ≡ s)
   candidates_once rule u offset p q r s h k = (
-    found_once (IsBefore f u) (before_once u) offset p r h.early_is k.early_is,
-    found_once (IsAfter f rule u) (after_once rule u) offset q s h.late_is k.late_is,
+    found_once _ (before_once u) offset p r h.early_is k.early_is,
+    found_once _ (after_once rule u) offset q s h.late_is k.late_is,
   )
 
 pub candidates_found : (z : Zone) (u offset : ℤ) (before after early late : Option ℤ) → IsFound (IsBefore (TypeAt z) u) before
     → IsFound (IsAfter (TypeAt z) z.rule u) after → IsFound (IsCandidate (λ s. before ≡ Some s) offset) early
     → IsFound (IsCandidate (λ s. after ≡ Some s) offset) late → AreCandidates (TypeAt z) z.rule u offset early late
 candidates_found z u offset before after early late b a e l = record {
-  early_is = found_candidate (IsBefore (TypeAt z) u) (before_once (TypeAt z) (type_once z) u) offset before early b e;
-  late_is = found_candidate (IsAfter (TypeAt z) z.rule u) (after_once (TypeAt z) (type_once z) z.rule u) offset after late a l;
+  early_is = found_candidate _ (before_once _ (type_once z) u) offset before early b e;
+  late_is = found_candidate _ (after_once _ (type_once z) z.rule u) offset after late a l;
 }
 
 -- ---- the candidate by an offset

@@ -22,8 +22,7 @@ module _ (f : ℤ → LocalType → Type 0) where
 
   has_one : (forward : Bool) (r : ℤ) (c : Change) → IsChange f c → IsBeyond forward r c.at → HasBetween forward f 1 r (far_second forward c.at)
   unfolding HasChanges
-  has_one true r c is l = grind (arith, ints)
-  has_one false r c is l = grind (arith, ints)
+  has_one forward r c is l = grind (arith, ints)
 
   -- ---- over the nearest change
   back : (n : ℕ) (r v : ℤ) (c : Change) → IsNearestChange false f (λ w. w ≤ℤ r) c
@@ -67,14 +66,14 @@ module _ (z : Zone) (forward : Bool) (wanted : LocalType → Type 0) (u r : ℤ)
 
     pub goes : (wanted (far_type forward c) → ⊥) → IsWalkedTo forward (TypeAt z) wanted (left - 1) u (far_second forward c.at)
     goes other = record {
-      order = let inside = next.inside in let before = h.order in grind (arith, ints);
+      order = grind (arith, ints, next.inside);
       reach_left = left_far;
       later = λ d t. past forward c.at d.at (next.nearest d t.is (h.later d t)) (λ e. other (rw (one_change z c d next.is t.is e) t.to));
     }
 
     pub turns : wanted (far_type forward c) → IsNearestTurn forward (TypeAt z) wanted u c
     turns to = record {
-      turn = record { is = next.is; to = to; beyond = let inside = next.inside in let before = h.order in grind (arith, ints) };
+      turn = record { is = next.is; to = to; beyond = grind (arith, ints, next.inside) };
       near = λ k. has_none (TypeAt z) forward (left - 1) _ ((left_far _).1 k);
       first = λ d t. next.nearest d t.is (h.later d t);
     }

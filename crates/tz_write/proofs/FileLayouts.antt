@@ -1,19 +1,17 @@
 -- If any designations have the names of the types at places that a byte can name, those that are laid have them: each text that is put in
 -- has bytes of its own in any others that have the texts.
+use Rattle.std.proofs.{Common.{length-take}, lemmas.List.{take-append-drop}}
 use Rattle.tz_base.proofs.RunLaws.{all_of}
 use Rattle.tz_write.proofs.{
   TextBytes.{names_are, no_zeros},
   Words.{All, All-cons, All-nil, All-weaker, AreNamesIn, AreNotPlacedBefore, AreShortest, Bool, Decides, Decides-by_and, Decides-eqb, HasNoZero, HasPlace},
   Words.{HavePlaces, IsNameOrNone, IsNamedIn, List, LocalType, MatchOption, Option, StandsAt, [], and_parts, ap, append-nil, append_assoc, arith, before_last},
-  Words.{before_zero, begins, cases_lt, cond, drop, drop-append_seam, drop_more, ends, ends_is, eq-eqb, eqb-true, false, get_or, get_or_at, inl, inr, laid},
-  Words.{length, length-append, list_all, ltb-true, name_of, name_or_none, nat_eq, nat_lt, nat_tests, nil_from_length, place_of, refl, starts_is, starts_with},
-  Words.{suc, sym, true, with_text, with_text_of, with_texts, zero, ℕ, ◌&&◌, ◌*◌, ◌++◌, ◌+◌, ◌<◌, ◌∷◌, ◌≡◌, ◌≤◌, ◌⊎◌},
+  Words.{before_zero, begins, cases_lt, drop, drop-append_seam, drop_more, ends, ends_is, eq-eqb, eqb-true, get_or, get_or_at, inl, inr, laid, length},
+  Words.{length-append, list_all, ltb-true, name_of, name_or_none, nat_eq, nat_lt, nat_tests, nil_from_length, place_of, refl, starts_is, starts_with, suc},
+  Words.{sym, take, true, with_text, with_text_of, with_texts, zero, ℕ, ◌&&◌, ◌*◌, ◌++◌, ◌+◌, ◌<◌, ◌∷◌, ◌≡◌, ◌≤◌, ◌⊎◌},
 }
 use Rattle.tz_write.specs.FileLayouts.{ArePlaced, In_order, IsFirstPlaced, IsLaid, IsPlacedFrom, laid_from, text_at}
 use borrow.Author.Count.{below_more}
-use Rattle.std.proofs.Common.{length-take}
-use Rattle.std.proofs.lemmas.List.{take-append-drop}
-use Rattle.tz_write.proofs.Words.{take}
 
 -- ---- where a text is
 begins_is : (text bytes : List ℕ) → begins text bytes ≡ true → bytes ≡ text ++ (0 ∷ drop (length text + 1) bytes)

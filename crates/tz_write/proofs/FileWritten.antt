@@ -12,8 +12,8 @@ use Rattle.tz_write.proofs.{
   Words.{Spells, SpellsLeapSecond, SpellsType, Transition, TransitionRule, Version, Zone, [], after_first_block, ap, arith, be_u32, block, both_ways},
   Words.{counts_bytes, counts_test, designation_of, false, file, file_bytes, first_half, first_version, flat_map, flat_map_more, from_be_bytes-to_be_bytes_4},
   Words.{from_be_bytes-to_be_bytes_8, get_or, get_or_append_left, header, header_bytes, index_bytes, inl, inr, later_pieces, later_version, leap_bytes, length},
-  Words.{length-append, length-map, magic, name_or_none, number_bytes, place_in, refl, second_half, signed, signed_bytes, six_counts, subst, suc, sym, take},
-  Words.{time_bytes, true, type_bytes, tzif, version, ℕ, ℤ, ◌*◌, ◌++◌, ◌+◌, ◌<◌, ◌^◌, ◌↔◌, ◌∙◌, ◌∷◌, ◌≡◌, ◌≢◌, ◌≤◌, ◌⊎◌},
+  Words.{length-append, length-map, magic, name_or_none, number_bytes, refl, second_half, signed, signed_bytes, six_counts, subst, suc, sym, take, time_bytes},
+  Words.{true, type_bytes, tzif, version, ℕ, ℤ, ◌*◌, ◌++◌, ◌+◌, ◌<◌, ◌^◌, ◌↔◌, ◌∙◌, ◌∷◌, ◌≡◌, ◌≢◌, ◌≤◌, ◌⊎◌},
 }
 use Rattle.tz_write.specs.FileBytes.{block_bytes, footer_bytes, least_block, least_counts, unused, version_byte, zone_counts, zone_parts}
 use Rattle.tz_write.specs.WrittenFiles.{HaveVersion, IsFooterText, IsInNoFile, IsSpellableOrNone, IsWrittenFile, NeedsExtensions}

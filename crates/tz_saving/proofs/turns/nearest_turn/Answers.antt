@@ -3,14 +3,14 @@ use Rattle.tz_saving.proofs.turns.nearest_turn.Goals as goal
 
 pub returns-then-is_wanted : goal.returns-then-is_wanted
 returns-then-is_wanted c =
-    turns c.args.zone.now c.args.forward _ c.args.second _ _ c.changes-test.true (change_held c.in-Some.change)
+    turns _ _ _ _ _ _ c.changes-test.true (change_held c.in-Some.change)
     (simp (to_z-of_z, c.ranges.second) at c.changes.invariant) c.in-Some.ensures (rw c.far_side-at.ensures.far at (c.is_wanted.ensures.0 c.if-is_wanted.true))
 
 pub changes-preserved : goal.changes-preserved
 changes-preserved c =
     let fits = c.ranges.second in let fa : SFits w64 c.far_side-at.result.0 = search rules in
     simp to_z-of_z (rw c.far_side-at.ensures.second
-    (goes c.args.zone.now c.args.forward _ c.args.second _ _ c.changes-test.true (change_held c.in-Some.change) (simp to_z-of_z at c.changes.invariant)
+    (goes _ _ _ _ _ _ c.changes-test.true (change_held c.in-Some.change) (simp to_z-of_z at c.changes.invariant)
     c.in-Some.ensures (λ w. let same = c.is_wanted.ensures.1 (rw c.far_side-at.ensures.far w) in cc)))
 
 pub returns : goal.returns
