@@ -333,11 +333,6 @@ module _ (others : List ℕ) where
         | inr k ↦ (suc place, omega arith, All-cons (IsBelow m) t (u ∷ us) k above)
       ]
 
-  -- the text is in front of the last one, or ends with it
-  record EndsWith (m t : LocalType) : Type 0 where
-    ends : Ends (name_of m) (name_of t)
-    at : place_of (name_of t) others + length (name_of t) ≡ place_of (name_of m) others + length (name_of m)
-
 -- ---- laid with that text as the last
 module _ (bytes last : List ℕ) where
   kept_low : (text : List ℕ) → In bytes text → place_of text (with_text bytes last) ≤ place_of text bytes
@@ -367,8 +362,10 @@ laid_short last others types none stands given =
 
 -- m is one of the types that the others serve: the one whose name is laid last
 module _ (others : List ℕ) (m : LocalType) (sm : Served others m) where
+  -- the text is in front of the last one, or ends with it
   abbrev Where : LocalType → Type 0
-  Where t = Stands sm.stands.before (name_of t) ⊎ EndsWith others m t
+  Where t = Stands sm.stands.before (name_of t) ⊎ (Ends (name_of m) (name_of t)
+      × (place_of (name_of t) others + length (name_of t) ≡ place_of (name_of m) others + length (name_of m)))
 
   where_is : (t : LocalType) → Served others t → IsBelow others m t → Where t
   unfolding key_in
@@ -377,7 +374,7 @@ module _ (others : List ℕ) (m : LocalType) (sm : Served others m) where
       elim (meet a.before (name_of m) a.after b.before (name_of t) b.after a.ends b.ends (cc)) [
         | In_front e h ↦ inl (grind arith)
         | Behind e h ↦ absurd (grind (arith, length-append))
-        | Is_end f h l ↦ inr (record { ends = record { front = f; is = h }; at = omega (arith, ap length l) })
+        | Is_end f h l ↦ inr (record { front = f; is = h }, omega (arith, ap length l))
         | Has_end f h l ↦ grind (arith, no_front)
       ]
 
@@ -403,7 +400,7 @@ module _ (others : List ℕ) (m : LocalType) (sm : Served others m) where
 
   stands_with : (t : LocalType) → Where t → Stands (added sm.stands.before (name_of m)) (name_of t)
   stands_with t (inl s) = grind (arith, nat_tests, append_assoc)
-  stands_with t (inr q) = end_stands (put_stands sm.stands.before (name_of m)) q.ends
+  stands_with t (inr q) = end_stands (put_stands sm.stands.before (name_of m)) q.0
 
   -- ---- all types, of which m has the greatest key
   module _ (types : List LocalType) (s : All (Served others) types) (top : All (IsBelow others m) types) where

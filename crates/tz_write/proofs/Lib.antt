@@ -1,6 +1,5 @@
 pub mod Words
 mod RuleTexts
 mod TextBytes
-mod ZoneTexts
 mod FileLayouts
 mod FileWritten

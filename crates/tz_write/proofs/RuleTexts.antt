@@ -1,18 +1,19 @@
--- The text of a rule: it spells the rule, and each other one is longer.
+-- The text of a rule, and of a zone: it spells the rule, or gives the zone, and each other one is longer.
 use Rattle.tz_base.{proofs.RunLaws.{all_of}, specs.Grammar.{Number, Run, Then}}
 use Rattle.tz_info.specs.declared.rule.day.DayForm.TheVariants.{Julian0, Julian1, MonthWeekday}
 use Rattle.tz_write.proofs.{
   TextBytes.{AreTextBytes, Begins, Best, Front, Writes, all_others, first_optional, front_cons, front_longer, front_nothing, front_optional, front_then},
-  TextBytes.{front_unless, front_whole, names_are, number_begins, number_front, number_writes, pair_front, pair_writes, pairs_over, two_digits, writes_at},
-  TextBytes.{writes_byte, writes_check, writes_colon, writes_first, writes_here, writes_last, writes_mark, writes_more, writes_nothing, writes_optional},
-  TextBytes.{writes_other, writes_then},
-  Words.{AllOf, Alternate, AreInPairs, AreTimesOf, Bool, CanBeSpelled, DayForm, DayTime, Decides-int_eq, IsAlternateRule, IsName, IsNamed, IsPlainTime, IsRule},
-  Words.{IsRuleDay, IsTextTime, IsTzText, IsWithinDay, IsWrittenText, List, LocalType, NoneFirst, Spells, TransitionRule, Without, [], and_from, and_parts, ap},
-  Words.{append-nil, append_assoc, arith, both_ways, clock_max, colon, comma, cond, date_max, day_max, false, greater, inl, inr, int_eq, ints, is_digit},
-  Words.{is_letter, is_name_byte, is_not_greater, le-ltb, length, length-append, less, list_all, minus, name_of, name_or_none, named_type, nat_tests, neg_ℤ},
-  Words.{not, offset_fits, pos, refl, slash, spelled_clock, spelled_date, spelled_day, spelled_dst_offset, spelled_name, spelled_offset, spelled_pair},
-  Words.{spelled_rule, spelled_time, time_after, time_limit, true, unsigned_abs, ℕ, ℤ, ◌%◌, ◌&&◌, ◌*◌, ◌++◌, ◌+ℤ◌, ◌+◌, ◌/◌, ◌<ℤ◌, ◌<◌, ◌==◌, ◌↔◌, ◌∙◌, ◌∷◌},
-  Words.{◌≡◌, ◌≢◌, ◌≤◌, ◌⊎◌},
+  TextBytes.{front_unless, front_whole, names_are, number_begins, number_front, number_writes, pair_front, pair_writes, pairs_over, pairs_rest, trimmed_text},
+  TextBytes.{two_digits, writes_at, writes_byte, writes_check, writes_colon, writes_first, writes_here, writes_last, writes_mark, writes_more, writes_nothing},
+  TextBytes.{writes_optional, writes_other, writes_then},
+  Words.{AllOf, Alternate, AreInPairs, AreTimesOf, Bool, CanBeSpelled, DayForm, DayTime, Decides-int_eq, HasZoneText, IsAlternateRule, IsName, IsNamed},
+  Words.{IsNoPosixZone, IsOfText, IsPlainTime, IsPosixZone, IsRule, IsRuleDay, IsRuleOrNone, IsSpace, IsTextTime, IsTrimmed, IsTzText, IsWithinDay},
+  Words.{IsWrittenText, IsWrittenZone, List, LocalType, None, NoneFirst, OnErr, Option, Result, Some, Spells, TransitionRule, TwoDigits, Without, Zone, []},
+  Words.{and_from, and_parts, ap, append-nil, append_assoc, arith, both_ways, clock_max, colon, comma, cond, date_max, day_max, false, greater, inl, inr},
+  Words.{int_eq, ints, is_ascii_whitespace, is_digit, is_letter, is_name_byte, is_not_greater, le-ltb, length, length-append, less, list_all, minus, name_of},
+  Words.{name_or_none, named_type, nat_tests, neg_ℤ, not, offset_fits, pos, refl, slash, spelled_clock, spelled_date, spelled_day, spelled_dst_offset},
+  Words.{spelled_name, spelled_offset, spelled_pair, spelled_rule, spelled_time, time_after, time_limit, true, types_of, unsigned_abs, zone_of_rule, ℕ, ℤ, ◌%◌},
+  Words.{◌&&◌, ◌*◌, ◌++◌, ◌+ℤ◌, ◌+◌, ◌/◌, ◌<ℤ◌, ◌<◌, ◌==◌, ◌↔◌, ◌∙◌, ◌∷◌, ◌≡◌, ◌≢◌, ◌≤◌, ◌⊎◌},
 }
 use Rattle.tz_write.specs.Steps.TextPieces.{is_negative, is_positive, spelled_hands, spelled_minutes, spelled_seconds, spelled_signed}
 use Rattle.tz_info.specs.TzGrammar as tz
@@ -61,12 +62,12 @@ module _ (rest : List ℕ) (stops : Stops rest) where
   unfolding tz.optional_minutes tz.minutes_seconds
   minutes_writes m s a b = let stop = first_optional is_digit (s == 0) colon _ rest refl stops.0 in
       writes_optional ((m == 0) && (s == 0)) (grind (arith, nat_tests)) stops.1 (λ _. writes_colon (two_digits m _ (omega arith) stop)
-      (writes_then (pair_writes clock_max m _ (omega arith) stop (omega arith)) (writes_last (seconds_writes s b) (refl, refl))))
+      (writes_then (pair_writes (omega arith) stop (omega arith)) (writes_last (seconds_writes s b) (refl, refl))))
 
   hours_writes : (h m s : ℕ) → h ≤ clock_max → m ≤ 59 → s ≤ 59 → Writes tz.hours_minutes_seconds (spelled_hands h m s) (h, m, s) rest
   unfolding tz.hours_minutes_seconds
   hours_writes h m s l a b =
-      writes_then (number_writes clock_max h _ l (grind (arith, nat_tests)) (omega arith))
+      writes_then (number_writes l (grind (arith, nat_tests)) (omega arith))
       (writes_last (minutes_writes m s a b) (refl, refl))
 
   -- n seconds are z, but for the sign
@@ -203,15 +204,15 @@ name_begins name rest h = let l = h.0 in grind (arith, by_letters, all_from, let
 date_writes : (form : DayForm) (rest : List ℕ) → IsRuleDay form → NoneFirst is_digit rest → Writes tz.date (spelled_date form) form rest
 unfolding tz.date tz.month_date tz.julian_date tz.numbered_day tz.checked_day
 date_writes (Julian1 n) rest h none = let l = h.1 in
-    writes_other (grind arith) (writes_mark refl (writes_here (writes_last (number_writes day_max n rest (omega arith) none (omega arith)) (h, refl, refl))))
+    writes_other (grind arith) (writes_mark refl (writes_here (writes_last (number_writes (omega arith) none (omega arith)) (h, refl, refl))))
 date_writes (Julian0 n) rest h none = let first = number_begins n rest (omega arith) in
     writes_other (grind arith) (writes_other (grind arith)
-    (writes_here (writes_last (number_writes day_max n rest (omega arith) none (omega arith)) (h, refl, refl))))
+    (writes_here (writes_last (number_writes (omega arith) none (omega arith)) (h, refl, refl))))
 date_writes (MonthWeekday m w d) rest h none =
     let a = h.1 in let b = h.3 in let c = h.4 in
-    writes_mark refl (writes_here (writes_then (number_writes date_max m _ (omega arith) refl (omega arith)) (writes_byte refl
-    (writes_here (writes_then (number_writes date_max w _ (omega arith) refl (omega arith))
-    (writes_byte refl (writes_here (writes_last (number_writes date_max d rest (omega arith) none (omega arith)) (h, refl, refl)))))))))
+    writes_mark refl (writes_here (writes_then (number_writes (omega arith) refl (omega arith)) (writes_byte refl
+    (writes_here (writes_then (number_writes (omega arith) refl (omega arith))
+    (writes_byte refl (writes_here (writes_last (number_writes (omega arith) none (omega arith)) (h, refl, refl)))))))))
 
 date_front : {bytes rest : List ℕ} (form : DayForm) → Spells tz.date bytes form rest → Front (spelled_date form) bytes rest
 unfolding tz.date tz.month_date tz.julian_date tz.numbered_day tz.checked_day
@@ -271,15 +272,15 @@ dst_offset_front std dst h = grind (arith, front_nothing, front_unless, int_eq, 
 
 -- ---- what a text that spells a rule shows
 -- the rule can be spelled, has times that need no extensions if the text has none, and its own text is the shortest
-pub record IsRead (extended : Bool) (bytes : List ℕ) (rule : TransitionRule) : Type 0 where
-  pub named : CanBeSpelled rule
-  pub plain : extended ≡ false → AreTimesOf false rule
-  pub best : AreInPairs bytes → Best (spelled_rule rule) bytes
+record IsRead (extended : Bool) (bytes : List ℕ) (rule : TransitionRule) : Type 0 where
+  named : CanBeSpelled rule
+  plain : extended ≡ false → AreTimesOf false rule
+  best : AreInPairs bytes → Best (spelled_rule rule) bytes
 
 day_times : (extended : Bool) (bytes : List ℕ) (d : DayTime) (rest : List ℕ) → Spells (tz.day extended) bytes d rest → extended ≡ false → IsPlainTime d.time
 day_times extended bytes d rest h e = grind (arith, day_plain)
 
-pub rule_read : (extended : Bool) (bytes : List ℕ) (rule : TransitionRule) → IsTzText extended bytes rule → IsRead extended bytes rule
+rule_read : (extended : Bool) (bytes : List ℕ) (rule : TransitionRule) → IsTzText extended bytes rule → IsRead extended bytes rule
 unfolding tz.text tz.rule tz.fixed tz.alternate tz.named tz.days tz.end
 rule_read extended bytes rule (name, after, n, (east, end, o, inl (none, (t, _, (fits, is, _), (value, _))))) = rw (value, is) (record {
   named = ((name, assumption), offset_fits after east end o);
@@ -357,7 +358,7 @@ pub text_begins : (rule : TransitionRule) → CanBeSpelled rule → Begins 60 12
 text_begins rule named = grind (arith, name_begins, append_assoc)
 
 -- each of two is the shortest
-pub both_shortest : (s t : List ℕ) → (t ≡ s) ⊎ (length s < length t) → (s ≡ t) ⊎ (length t < length s) → s ≡ t
+both_shortest : (s t : List ℕ) → (t ≡ s) ⊎ (length s < length t) → (s ≡ t) ⊎ (length t < length s) → s ≡ t
 both_shortest s t p q = grind arith
 
 pub text_once : (rule : TransitionRule) (s t : List ℕ) (d e : Bool) → IsWrittenText rule s d → IsWrittenText rule t e → (s ≡ t) × (d ≡ e)
@@ -380,7 +381,7 @@ module _ (rule : TransitionRule) (fits : IsRule rule) where
     pub rule_spelled : (extended : Bool) → AreTimesOf extended rule → IsTzText extended (spelled_rule rule) rule
     rule_spelled extended times = grind (arith, append-nil, rule_writes)
 
-    pub rule_pairs : AreInPairs (spelled_rule rule)
+    rule_pairs : AreInPairs (spelled_rule rule)
     rule_pairs = rw append-nil at ((rule_writes true rule fits named times_extended).pairs tt)
 
     pub text_are : AreTextBytes (spelled_rule rule)
@@ -410,3 +411,78 @@ module _ (rule : TransitionRule) (fits : IsRule rule) where
 
 -- what a law says of the text of a rule
 pub ruleset rule_laws = (extensions, rule_named, text_once, text_some)
+
+-- ---- white space at the ends
+not_both : (b : ℕ) → is_digit b ≡ true → is_ascii_whitespace b ≡ true → ⊥
+not_both b h k = grind (arith, nat_tests)
+
+-- only white space comes after
+module _ (after : List ℕ) (space : IsSpace after) where
+  stops_before : (bs : List ℕ) → NoneFirst is_digit (bs ++ after) → NoneFirst is_digit bs
+  stops_before bs h = grind (arith, nat_tests)
+
+  two_before : (bs : List ℕ) → TwoDigits (bs ++ after) → TwoDigits bs
+  two_before bs h = grind (arith, not_both, stops_before)
+
+  pairs_before : (bs : List ℕ) → AreInPairs (bs ++ after) → AreInPairs bs
+  pairs_before [] h = tt
+  pairs_before (b ∷ bs) h = ((λ e. two_before bs (h.0 e)), pairs_before bs h.1)
+
+trimmed_pairs : (bytes text : List ℕ) → IsTrimmed bytes text → AreInPairs bytes → AreInPairs text
+trimmed_pairs bytes text t pairs = grind (arith, pairs_before, pairs_rest)
+
+-- nothing at both ends, or a longer text
+trimmed_or_longer : (before text after : List ℕ) → (before ++ (text ++ after) ≡ text) ⊎ (length text < length (before ++ (text ++ after)))
+trimmed_or_longer [] text [] = inl (append-nil text)
+trimmed_or_longer [] text (c ∷ cs) = inr (grind (arith, length-append))
+trimmed_or_longer (b ∷ bs) text after = inr (grind (arith, length-append))
+
+best_of_trimmed : (text bytes trimmed : List ℕ) → IsTrimmed bytes trimmed → Best text trimmed → Best text bytes
+best_of_trimmed text bytes trimmed t best = grind (arith, trimmed_or_longer)
+
+-- a text that gives it spells the rule, but for white space at its ends
+spells_rule : (text : List ℕ) (types : List LocalType) (rule : TransitionRule) → IsPosixZone text (zone_of_rule types (Some rule))
+    → (trimmed : List ℕ) × IsTrimmed text trimmed × IsTzText false trimmed rule × (types ≡ types_of rule)
+spells_rule text types rule gives = grind arith
+
+pub written_zone : (types : List LocalType) (rule : TransitionRule) → IsRule rule → HasZoneText types (Some rule)
+    → IsWrittenZone (zone_of_rule types (Some rule)) (spelled_rule rule)
+written_zone types rule fits h =
+    let named = h.1.0 in
+    let text = rule_spelled rule fits named false h.1.1 in
+    let first = text_begins rule named in
+    let trims = trimmed_text (spelled_rule rule) (text_are rule fits named) in
+    record {
+      gives = grind arith;
+      pairs = rule_pairs rule fits named;
+      shortest = λ other gives pairs.
+          let s = spells_rule other types rule gives in
+          best_of_trimmed (spelled_rule rule) other s.0 s.1 ((rule_read false s.0 rule s.2).best (trimmed_pairs other s.0 s.1 pairs));
+    }
+
+-- ---- which zones a text gives
+pub given : (text : List ℕ) (z : Zone) → IsPosixZone text z → IsOfText z
+given text z gives = grind (arith, rule_read)
+
+pub no_zone_text : (types : List LocalType) (rule : Option TransitionRule) → ¬ (HasZoneText types rule) → IsNoPosixZone (zone_of_rule types rule)
+no_zone_text types rule none text gives = none ((given text (zone_of_rule types rule) gives).rule)
+
+-- ---- transitions and leap seconds
+pub zone_is : (z : Zone) (types : List LocalType) (rule : Option TransitionRule) → (z.transitions ≡ []) × (z.leaps ≡ []) → types ≡ z.types
+    → rule ≡ z.rule → zone_of_rule types rule ≡ z
+zone_is z types rule h t r = grind arith
+
+rule_some : (types : List LocalType) (rule : Option TransitionRule) → IsRuleOrNone rule → HasZoneText types rule
+    → (text : List ℕ) × IsWrittenZone (zone_of_rule types rule) text
+rule_some types (Some rule) fits h = (spelled_rule rule, written_zone types rule fits h)
+rule_some types None fits h = grind arith
+
+pub zone_text_some : (z : Zone) → IsRuleOrNone z.rule → IsOfText z → (text : List ℕ) × IsWrittenZone z text
+zone_text_some z fits h = grind (arith, rule_some)
+
+pub zone_text_once : (z : Zone) (s t : List ℕ) → IsWrittenZone z s → IsWrittenZone z t → s ≡ t
+zone_text_once z s t p q = grind (arith, both_shortest)
+
+-- ---- running out of memory
+pub on_err : {A E : Type 0} (r : Result A E) (P : Type 0) → P → OnErr r P
+on_err r P h = grind arith

@@ -214,7 +214,7 @@ pub two_digits : (n : ℕ) (rest : List ℕ) → n < 100 → NoneFirst is_digit 
 two_digits n rest h none = grind (arith, nat_tests)
 
 -- the number n is within its limit, and no digit follows it
-module _ (max n : ℕ) (rest : List ℕ) (l : n ≤ max) (none : NoneFirst is_digit rest) where
+module _ {max n : ℕ} {rest : List ℕ} (l : n ≤ max) (none : NoneFirst is_digit rest) where
   digits_write : (ds : List ℕ) → AllDigits ds → 0 < length ds → value_from 0 ds ≡ n → Writes (Number max) ds n rest
   digits_write ds each some value = grind (arith, digits_are, pairs_over)
 

@@ -3,5 +3,5 @@ use Rattle.tz_write.proofs.file.contents.push_times.Goals as goal
 
 pub loop-place-preserved : goal.loop-place-preserved
 loop-place-preserved c =
-    pushed_next time_bytes c.args.bytes.now.items c.args.zone.now.transitions _ (grind arith) (c.transition.ensures c.transition.result)
+    pushed_next time_bytes _ _ _ (grind arith) (c.transition.ensures c.transition.result)
     HasTimeOf64Bits c.loop-place.invariant c.in_ok-push_transition_time.ensures.appended c.in_ok-push_transition_time.ensures.sound
