@@ -240,25 +240,24 @@ module _ (last others : List ℕ) where
         fits = grind (arith, length-append);
         rest = λ y nothing small there still.
             let q = r.rest y nothing small there (let l = in_longer bytes (text ++ 0 ∷ []) y in grind arith) in
-            cut last text y s.before s.after q.before q.after turn.1 (λ e. absurd (omega (arith, put_in bytes text y e))) (rw (← turn.0) at small)
-            (meet s.before text s.after q.before y q.after g.none nothing (cc));
+            cut last text y _ _ _ _ turn.1 (λ e. absurd (omega (arith, put_in bytes text y e))) (rw (← turn.0) at small)
+            (meet s.before _ s.after q.before _ q.after g.none nothing (cc));
       }
 
   type_room : (bytes : List ℕ) (size : ℕ) (t : LocalType) → Given t → Room bytes size → Room (with_text_of last size bytes t) size
-  type_room bytes size t g r = by_turn (λ d. Room d size) last size bytes t r (λ turn.
-      by_text bytes (name_of t) (λ d. Room d size) r (λ out room. put_room bytes size t g r turn out))
+  type_room bytes size t g r = by_turn (λ d. Room d size) _ _ _ t r (λ turn. by_text _ _ (λ d. Room d size) r (λ out _. put_room _ _ t g r turn out))
 
   put_all : (size : ℕ) (types : List LocalType) (bytes : List ℕ) → length others ≤ 263 → All Given types → Room bytes size
       → All (λ t. Turn last size t → In (with_texts last size bytes types) (name_of t)) types
   unfolding with_texts
   put_all size [] bytes short g r i d l turn = absurd (omega arith)
   put_all size (t ∷ ts) bytes short g r (suc i) d l turn =
-      put_all size ts (with_text_of last size bytes t) short (λ k e m. g (suc k) e (omega arith))
+      put_all size ts _ short (λ k e m. g (suc k) e (omega arith))
       (type_room bytes size t (g 0 t (omega arith)) r) i d (omega arith) turn
   put_all size (t ∷ ts) bytes short g r zero d l turn =
       let given = g 0 t (omega arith) in let out = room_of bytes (name_of t) size r given.none (inl (omega arith)) (given.stands turn.1) in
       let first : In (with_text_of last size bytes t) (name_of t) = grind (arith, put, ends_decided, eq-eqb) in
-      keeps_all (λ d. In d (name_of t)) last size (λ d other. kept d other (name_of t)) ts (with_text_of last size bytes t) first
+      keeps_all (λ d. In d (name_of t)) _ _ (λ d other. kept d other _) ts _ first
 
   -- ---- in front of the last
   -- the others have room for the texts of that size, and the longer ones have been put in
@@ -271,7 +270,7 @@ module _ (last others : List ℕ) where
   module _ (types : List LocalType) (g : All Given types) where
     pass : (size : ℕ) (bytes : List ℕ) → Passed types (suc size) bytes → Passed types size (with_texts last size bytes types)
     pass size bytes p = let r : Room bytes size = let wider = p.room in grind arith in record {
-      room = by_types (λ d. Room d size) last size types bytes (λ i e l d k. type_room d size (get_or types i e) (g i e l) k) r;
+      room = by_types (λ d. Room d size) _ _ types bytes (λ i e l d k. type_room d size _ (g i e l) k) r;
       inside = λ short i e l low high free.
           let all = put_all size types bytes short g r i e l in
           let keep = keeps_all (λ d. In d (name_of (get_or types i e))) last size (λ d other. kept d other _) types bytes in grind (arith, cases_lt);
@@ -371,7 +370,7 @@ module _ (others : List ℕ) (m : LocalType) (sm : Served others m) where
   unfolding key_in
   where_is t st top =
       let a = sm.stands in let b = st.stands in let m_size = at_size a in let t_size = at_size b in
-      elim (meet a.before (name_of m) a.after b.before (name_of t) b.after a.ends b.ends (cc)) [
+      elim (meet a.before _ a.after b.before _ b.after a.ends b.ends (cc)) [
         | In_front e h ↦ inl (grind arith)
         | Behind e h ↦ absurd (grind (arith, length-append))
         | Is_end f h l ↦ inr (record { front = f; is = h }, omega (arith, ap length l))
@@ -386,16 +385,16 @@ module _ (others : List ℕ) (m : LocalType) (sm : Served others m) where
     at_the_end out away e (inr q) = grind (arith, nat_tests, at_end)
     at_the_end out away e (inl s) =
         let size = st.size.1 in
-        let room = room_of (name_of m) sm.stands.before bytes (name_of t) 3 r st.stands.ends (inr e) s away in
-        at_end bytes (name_of m) t e out (omega arith) (grind (arith, nil_from_length))
+        let room = room_of _ _ _ _ _ r st.stands.ends (inr e) s away in
+        at_end _ _ t e out (omega arith) (grind (arith, nil_from_length))
 
     laid_place : (3 ≤ length (name_of t) → length (name_of t) ≤ 7 → (Ends (name_of m) (name_of t) → ⊥) → In bytes (name_of t))
         → HasPlace (with_text bytes (name_of m)) t
     laid_place inside = elim (cases_lt (place_of (name_of t) bytes) (length bytes)) [
-      | inl l ↦ in_place bytes (name_of m) t (omega arith) l
+      | inl l ↦ in_place _ _ t (omega arith) l
       | inr away ↦
           let e = has_end (name_of m) (name_of t) (λ free. grind (arith, nil_from_length, ends_nothing)) in
-          let end = end_in bytes (name_of m) (name_of t) sm.stands.ends e in let out = at_the_end in grind (arith, cases_lt)
+          let end = end_in bytes _ _ sm.stands.ends e in let out = at_the_end in grind (arith, cases_lt)
     ]
 
   stands_with : (t : LocalType) → Where t → Stands (added sm.stands.before (name_of m)) (name_of t)
@@ -405,15 +404,14 @@ module _ (others : List ℕ) (m : LocalType) (sm : Served others m) where
   -- ---- all types, of which m has the greatest key
   module _ (types : List LocalType) (s : All (Served others) types) (top : All (IsBelow others m) types) where
     places : All Where types
-    places i d l = where_is (get_or types i d) (s i d l) (top i d l)
+    places i d l = where_is _ (s i d l) (top i d l)
 
     places_with : HavePlaces (laid (name_of m) types) types
     unfolding laid
     places_with i d l =
         let given : All (Given (name_of m) sm.stands.before) types = λ i d l. let st = s i d l in let where_t = places i d l in grind arith in
-        let p = before_passed (name_of m) sm.stands.before types given in
-        laid_place (get_or types i d) (s i d l) (places i d l) (before_last (name_of m) types) p.room (before_filled (name_of m) types)
-        (p.inside (omega arith) i d l)
+        let p = before_passed _ _ types given in
+        laid_place _ (s i d l) (places i d l) _ p.room (before_filled _ types) (p.inside (omega arith) i d l)
 
     -- the texts are in what is laid in order
     in_order_in : All (λ t. In (laid [] types) (name_of t)) types
@@ -437,7 +435,7 @@ module _ (others : List ℕ) (m : LocalType) (sm : Served others m) where
 -- ---- no shorter ones
 in_order_short : (types : List LocalType) (others : List ℕ) → 0 < length types → AreNamesIn others types → length (laid [] types) ≤ length others
 in_order_short [] others some names = absurd (omega arith)
-in_order_short (t ∷ ts) others some names = laid_short [] others (t ∷ ts) tt (no_text (stands_of (names 0 t some).stands))
+in_order_short (t ∷ ts) others some names = laid_short [] _ (t ∷ ts) tt (no_text (stands_of (names 0 t some).stands))
     (λ i d l. record { none = (names i d l).stands.ends; stands = λ free. stands_of (names i d l).stands })
 
 -- ---- what is laid
@@ -449,12 +447,12 @@ none_laid : (types : List LocalType) (others : List ℕ) → AreNames types → 
 none_laid [] others named names unplaced none = unplaced (All-nil (HasPlace (laid [] [])))
 none_laid (t ∷ ts) others named names unplaced none =
     let types = t ∷ ts in
-    let s : All (Served others) types = λ i d l. served others (get_or types i d) (named i d l) (names i d l) in
+    let s : All (Served others) types = λ i d l. served others _ (named i d l) (names i d l) in
     let (place, inside, above) = greatest others t t ts in
     let m = get_or types place t in let sm = s place t inside in
-    let found = in_order_in others m sm types s above place t inside in
-    let placed = placed_with others m sm types s above found in
-    let text = text_found (laid [] types) (name_of m) sm.stands.ends found in grind arith
+    let found = in_order_in _ m sm types s above place t inside in
+    let placed = placed_with _ m sm types s above found in
+    let text = text_found _ _ sm.stands.ends found in grind arith
 
 -- ---- places are names
 named_in : (bytes : List ℕ) (t : LocalType) → IsNameOrNone t.name → HasPlace bytes t → IsNamedIn bytes t
@@ -481,7 +479,7 @@ first_placed types zero = inl (grind arith)
 first_placed types (suc n) = elim (first_placed types n) [
   | inr f ↦ inr f
   | inl none ↦ elim (placed_or_not types n) [
-    | inl h ↦ inr (laid_from types n, record { place = n; placed = h; laid_is = refl; first = none })
+    | inl h ↦ inr (_, record { place = n; placed = h; laid_is = refl; first = none })
     | inr not ↦ inl (grind (arith, below_more))
   ]
 ]
@@ -506,10 +504,10 @@ module _ (types : List LocalType) (some : 0 < length types) (names : AreNames ty
   -- some designations are laid, if any have the names
   pub laid_of : (bytes : List ℕ) → AreNamesIn bytes types → (d : List ℕ) × AreLaid types d
   laid_of bytes named = elim (places_or_not (laid [] types) types) [
-    | inl h ↦ (laid [] types, laid_in_order (laid [] types) refl h)
+    | inl h ↦ (_, laid_in_order (laid [] types) refl h)
     | inr unplaced ↦ elim (first_placed types (length (laid [] types))) [
       | inl none ↦ grind (arith, none_laid)
-      | inr f ↦ (f.0, laid_with_last unplaced f.0 f.1)
+      | inr f ↦ (_, laid_with_last unplaced _ f.1)
     ]
   ]
 
@@ -520,7 +518,7 @@ size_with bytes text h = grind (arith, length-append)
 
 size_laid : (last : List ℕ) (types : List LocalType) → length (laid last types) ≤ 263
 unfolding laid
-size_laid last types = size_with (before_last last types) last (before_keeps (λ d. length d ≤ 263) size_with last types (omega arith))
+size_laid last types = size_with _ last (before_keeps (λ d. length d ≤ 263) size_with last types (omega arith))
 
 pub laid_size : (types : List LocalType) (bytes : List ℕ) → IsLaid types bytes → length bytes ≤ 263
 laid_size types bytes h = grind (arith, size_laid)

@@ -85,9 +85,7 @@ CountsFit c = (c.ut_local < 2 ^ 32) × (c.standard_wall < 2 ^ 32) × (c.leap_sec
 counts_are : (c : Counts) (rest : List ℕ) → CountsFit c → Spells six_counts (counts_bytes c ++ rest) c rest
 unfolding counts_bytes number_bytes six_counts
 counts_are c rest (a, b, d, e, f, g) = (
-  _,
-  _,
-  number_is _ _ a,
+  _, _, number_is _ _ a,
   (_, _, number_is _ _ b, (_, _, number_is _ _ d, (_, _, number_is _ _ e, (_, _, number_is _ _ f, (_, _, number_is _ _ g, (refl, refl)))))),
 )
 
@@ -106,7 +104,7 @@ header_is place extended c rest fit agree = (
   tt,
   _,
   (magic, _, (refl, refl), (refl, refl, refl)),
-  (_, _, version_is place extended (unused ++ (counts_bytes c ++ rest)), (unused, _, (refl, refl), (_, _, counts_are c rest fit, (agree, refl, refl)))),
+  (_, _, version_is place extended _, (unused, _, (refl, refl), (_, _, counts_are c rest fit, (agree, refl, refl)))),
 )
 
 -- ---- footers
@@ -174,13 +172,13 @@ module _ (extended : Bool) (text d : List ℕ) (z : Zone) (size : length d ≤ 2
   second_is : Spells later_version (second_half extended text d z) (pieces_of extended text d z) []
   unfolding second_half pieces_of later_version
   second_is =
-      (_, _, header_is Second extended (zone_counts d z) _ zone_fit zone_agree, (_, _, second_block (footer_bytes text), (_, [], (refl, refl), (refl, refl))))
+      (_, _, header_is Second extended _ _ zone_fit zone_agree, (_, _, second_block (footer_bytes text), (_, [], (refl, refl), (refl, refl))))
 
   -- ---- the whole
   file_pieces : HasPieces (file_bytes extended text d z) (pieces_of extended text d z)
   unfolding file_bytes first_half header_bytes counts_bytes number_bytes file
   file_pieces = let least = (counts_test least_counts).decides.0 refl in
-      (_, _, header_is First extended least_counts _ (grind arith) least, (_, _, first_block _, after_is extended least_counts least_parts _ _ second_is))
+      (_, _, header_is First extended _ _ (grind arith) least, (_, _, first_block _, after_is extended _ _ _ _ second_is))
 
   says_zone : IsFooter extended (footer_bytes text) z.rule → SayZone (pieces_of extended text d z) z
   unfolding pieces_of
@@ -281,8 +279,7 @@ types_named : (designations part : List ℕ) (types : List LocalType) → SpellT
 types_named designations part [] h b = All-nil (IsNamedIn designations)
 types_named designations part (t ∷ ts) h b =
     let whole = rw h.2 at b in
-    All-cons (IsNamedIn designations) t ts (type_named designations h.0 t h.3 (front h.0 h.1 whole) h.4)
-    (types_named designations h.1 ts h.5 (behind h.0 h.1 whole))
+    All-cons (IsNamedIn designations) t ts (type_named _ h.0 t h.3 (front h.0 _ whole) h.4) (types_named _ h.1 ts h.5 (behind h.0 _ whole))
 
 pub writable : (bytes : List ℕ) (z : Zone) → AreBytes bytes → IsTzFile bytes z → IsWritable z
 writable bytes z b (p, pieces, say) =
@@ -292,11 +289,11 @@ writable bytes z b (p, pieces, say) =
     let leaps = records_length (p.time_size + 4) (SpellsLeapSecond p.time_size) p.parts.leap_seconds z.leaps say.leaps in
     record {
       room = record {
-        counts = record { transitions = omega arith; types = omega arith; leaps = limits.leaps_fit (length z.leaps) leaps };
+        counts = record { transitions = omega arith; types = omega arith; leaps = limits.leaps_fit _ leaps };
         indexes = λ i d l. subst IsByte (get_or-map (λ (t : Transition). t.type_index) z.transitions i d 0 l)
             ((rw say.transitions.indexes_are at limits.indexes) i 0 (omega (arith, length-map z.transitions (λ t. t.type_index))));
         designations = p.parts.designations;
-        names = types_named p.parts.designations p.parts.types z.types say.types limits.types;
+        names = types_named _ _ _ say.types limits.types;
       };
       rule = let rule = say.rule in grind (arith, rule_named);
     }
@@ -328,9 +325,9 @@ module _ (z : Zone) (some : 0 < length z.types) (fits : IsRuleOrNone z.rule) (so
   pub written_is : (d text : List ℕ) (extended : Bool) (bytes : List ℕ) → HasCounts z → AreLaid z.types d → IsFooterText z.rule text extended
       → bytes ≡ file_bytes extended text d z → IsWrittenFile z bytes
   written_is d text extended bytes counts laid footer e = let p = text_is z.rule text extended fits footer in record {
-    spells = rw e (file_is extended text d z (laid_size z.types d laid.1) counts some laid.0 sound p.0 p.1);
-    text = text;
-    extended = extended;
+    spells = rw e (file_is extended text d z (laid_size _ _ laid.1) counts some laid.0 sound p.0 p.1);
+    text = _;
+    extended = _;
     footer = footer;
     version = rw e (has_version extended text d z);
     designations = d;
@@ -342,7 +339,7 @@ module _ (z : Zone) (some : 0 < length z.types) (fits : IsRuleOrNone z.rule) (so
   pub file_some : IsWritable z → (bytes : List ℕ) × IsWrittenFile z bytes
   file_some h =
       let d = laid_of z.types some (λ i d l. (sound.types i d l).name) h.room.designations h.room.names in let f = footer_some z.rule fits h.rule in
-      (file_bytes f.1 f.0 d.0 z, written_is d.0 f.0 f.1 _ h.room.counts d.1 f.2 refl)
+      (_, written_is d.0 f.0 f.1 _ h.room.counts d.1 f.2 refl)
 
 pub one_file : (z : Zone) (a b : List ℕ) → IsWrittenFile z a → IsWrittenFile z b → a ≡ b
 one_file z a b h k = grind arith

@@ -93,18 +93,18 @@ module _ (rest : List ℕ) (stops : Stops rest) where
 
   offset_writes : (east : ℤ) → IsWithinDay east → Writes tz.offset (spelled_offset east) east rest
   unfolding spelled_offset tz.offset tz.time_sign
-  offset_writes east h = signed_writes 23 (unsigned_abs east) east (omega (arith, hours_within 24 east h)) (omega arith) true not (is_positive east) (λ e. cc)
+  offset_writes east h = signed_writes 23 _ east (omega (arith, hours_within 24 east h)) (omega arith) true not (is_positive east) (λ e. cc)
       (grind (arith, ints))
 
   time_writes : (extended : Bool) (time : ℤ) → IsTextTime extended time → Writes (tz.time extended) (spelled_time time) time rest
   unfolding spelled_time tz.time
   time_writes extended time h = let (l, may) = time_within extended time h in
-      signed_writes (time_limit extended) (unsigned_abs time) time l (grind (arith, nat_tests)) extended (λ m. m) (is_negative time) may (grind (arith, ints))
+      signed_writes _ _ time l (grind (arith, nat_tests)) extended (λ m. m) (is_negative time) may (grind (arith, ints))
 
 -- ---- the front of bytes that spell the same
 seconds_front : {bytes rest : List ℕ} (s : ℕ) → Spells tz.seconds bytes s rest → Front (spelled_seconds s) bytes rest
 unfolding tz.seconds
-seconds_front s h = front_optional colon 0 (Number clock_max) (s == 0) (λ after is p. pair_front is p) (λ z. rw z refl) h
+seconds_front s h = front_optional colon 0 (Number clock_max) (s == 0) (λ _. pair_front) (λ z. rw z refl) h
 
 minutes_given : {bytes rest : List ℕ} (after : List ℕ) (m s : ℕ) → bytes ≡ colon ∷ after → Spells tz.minutes_seconds after (m, s) rest
     → Front (spelled_pair m ++ spelled_seconds s) bytes rest
@@ -115,7 +115,7 @@ minutes_given after m s e (x, behind, minutes, (y, end, seconds, (value, same)))
 minutes_front : {bytes rest : List ℕ} (m s : ℕ) → Spells tz.optional_minutes bytes (m, s) rest → Front (spelled_minutes m s) bytes rest
 unfolding tz.optional_minutes
 minutes_front m s h =
-    front_optional colon (0, 0) tz.minutes_seconds ((m == 0) && (s == 0)) (λ after is p. minutes_given after m s is p) (grind (arith, nat_tests)) h
+    front_optional colon _ tz.minutes_seconds ((m == 0) && (s == 0)) (λ after is p. minutes_given _ m s is p) (grind (arith, nat_tests)) h
 
 hours_front : {bytes rest : List ℕ} (h m s : ℕ) → Spells tz.hours_minutes_seconds bytes (h, m, s) rest → Front (spelled_hands h m s) bytes rest
 unfolding tz.hours_minutes_seconds
@@ -136,12 +136,12 @@ sign_front signs needed negative h need f = grind (arith, both_ways, front_cons,
 offset_front : {bytes rest : List ℕ} (east : ℤ) → Spells tz.offset bytes east rest → Front (spelled_offset east) bytes rest
 unfolding spelled_offset tz.offset tz.time_sign tz.duration
 offset_front east (negative, unsigned, sign, d) =
-    sign_front true (is_positive east) negative sign (let v = d.3.1 in grind (arith, ints)) (duration_front 23 (not negative) east d)
+    sign_front true (is_positive east) negative sign (let v = d.3.1 in grind (arith, ints)) (duration_front _ _ east d)
 
 time_front : {bytes rest : List ℕ} (extended : Bool) (time : ℤ) → Spells (tz.time extended) bytes time rest → Front (spelled_time time) bytes rest
 unfolding spelled_time tz.time tz.duration
 time_front extended time (negative, unsigned, sign, d) =
-    sign_front extended (is_negative time) negative sign (let v = d.3.1 in grind (arith, ints)) (duration_front (time_limit extended) negative time d)
+    sign_front extended (is_negative time) negative sign (let v = d.3.1 in grind (arith, ints)) (duration_front _ _ time d)
 
 -- a text without extensions has no other times
 time_plain : (bytes : List ℕ) (time : ℤ) (rest : List ℕ) → Spells (tz.time false) bytes time rest → IsPlainTime time
@@ -184,7 +184,7 @@ name_writes name rest h none = let all : AllOf is_name_byte name = all_of is_nam
     by_letters (λ s. Writes tz.name s name rest) name
     (λ each. writes_other (grind (arith, letters_begin)) (run_writes is_letter name rest each all none))
     (writes_mark refl
-    (writes_then (run_writes is_not_greater name (greater ∷ rest) (all_others is_name_byte is_not_greater (λ b h. grind (arith, nat_tests)) name all) all refl)
+    (writes_then (run_writes _ name _ (all_others is_name_byte is_not_greater (λ b h. grind (arith, nat_tests)) name all) all refl)
     (writes_byte refl (writes_nothing refl))))
 
 quoted_best : (t : Bool) (name : List ℕ) → Best (cond t name (quoted name)) (quoted name)
@@ -293,7 +293,7 @@ rule_read extended bytes rule (name, after, n, (east, end, o, inr (_, (dst_name,
     let none : last ≡ [] = elim e [ inl k ↦ k.0 | inr k ↦ absurd k.1 ] in
     rw (value, s_is, t_is, both) (record {
       named = ((name, assumption), (dst_name, assumption));
-      plain = λ e. (day_times _ _ start _ p e, day_times _ _ stop _ q e);
+      plain = λ e. (day_times _ _ _ _ p e, day_times _ _ _ _ q e);
       best = front_whole (front_then (front_then (name_front name n) (offset_front east o)) (front_then (name_front dst_name d)
           (front_then (dst_offset_front east dst_east f) (front_cons refl (front_then (day_front extended start p)
           (front_cons c (rw (same ∙ none) at (day_front extended stop q))))))));
@@ -349,7 +349,7 @@ rule_writes extended (rules.Alternate a) fits ((m, s), (n, d)) (start, end) =
       tt,
       [],
       inl (refl, (refl, refl)),
-      (a.std, [], (s.allowed, type_is m false a.std s, refl), (a.dst, [], (d.allowed, type_is n true a.dst d, refl), (refl, refl))),
+      (_, [], (s.allowed, type_is m false _ s, refl), (_, [], (d.allowed, type_is n true _ d, refl), (refl, refl))),
     ))))))))))
 
 -- ---- rules
@@ -457,7 +457,7 @@ written_zone types rule fits h =
       pairs = rule_pairs rule fits named;
       shortest = λ other gives pairs.
           let s = spells_rule other types rule gives in
-          best_of_trimmed (spelled_rule rule) other s.0 s.1 ((rule_read false s.0 rule s.2).best (trimmed_pairs other s.0 s.1 pairs));
+          best_of_trimmed _ other s.0 s.1 ((rule_read false _ rule s.2).best (trimmed_pairs _ _ s.1 pairs));
     }
 
 -- ---- which zones a text gives
