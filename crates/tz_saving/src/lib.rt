@@ -6,6 +6,5 @@ pub mod laws;
 mod next_use;
 mod saving;
 mod sides;
-mod turns;
 
 pub use saving::{Saving, daylight_saving};

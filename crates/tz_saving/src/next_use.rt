@@ -6,7 +6,7 @@ ghost use Rattle.tz_saving.specs.{Amounts.{IsNextCandidate}, Steps.Walks.{IsSeco
 ghost use Rattle.tz_saving.specs.Sides.{IsFound};
 
 use crate::candidates::{candidates_at, only_of};
-use crate::turns::nearest_turn;
+use crate::sides::nearest_turn;
 use tz_info::{LocalTimeType, TimeZone};
 
 // The only candidate that the type, which has the DST flag, has when it is next used after the second.
