@@ -16,7 +16,7 @@ use borrow.Author.Count.{below_more}
 -- ---- where a text is
 begins_is : (text bytes : List ℕ) → begins text bytes ≡ true → bytes ≡ text ++ (0 ∷ drop (length text + 1) bytes)
 unfolding begins
-begins_is text bytes h = grind (arith, and_parts, starts_with, starts_is, drop_more, ltb-true, eqb-true)
+begins_is text bytes h = grind (arith, nat_tests, starts_is, drop_more)
 
 begins_there : (text bytes : List ℕ) → place_of text bytes < length bytes → begins text (drop (place_of text bytes) bytes) ≡ true
 begins_there text [] h = absurd (omega arith)
@@ -235,7 +235,7 @@ module _ (last others : List ℕ) where
   put_room : (bytes : List ℕ) (size : ℕ) (t : LocalType) → Given t → Room bytes size → Turn last size t → Out bytes (name_of t)
       → Room (added bytes (name_of t)) size
   put_room bytes size t g r turn out =
-      let text = name_of t in let s = r.rest text g.none (inl (omega arith)) (g.stands turn.1) out in record {
+      let text = name_of t in let s = r.rest _ g.none (inl (omega arith)) (g.stands turn.1) out in record {
         left = s.before ++ s.after;
         fits = grind (arith, length-append);
         rest = λ y nothing small there still.
@@ -252,8 +252,7 @@ module _ (last others : List ℕ) where
   unfolding with_texts
   put_all size [] bytes short g r i d l turn = absurd (omega arith)
   put_all size (t ∷ ts) bytes short g r (suc i) d l turn =
-      put_all size ts _ short (λ k e m. g (suc k) e (omega arith))
-      (type_room bytes size t (g 0 t (omega arith)) r) i d (omega arith) turn
+      put_all size ts _ short (λ k e m. g (suc k) e (omega arith)) (type_room _ _ t (g 0 t (omega arith)) r) i d (omega arith) turn
   put_all size (t ∷ ts) bytes short g r zero d l turn =
       let given = g 0 t (omega arith) in let out = room_of bytes (name_of t) size r given.none (inl (omega arith)) (given.stands turn.1) in
       let first : In (with_text_of last size bytes t) (name_of t) = grind (arith, put, ends_decided, eq-eqb) in
@@ -314,7 +313,7 @@ module _ (others : List ℕ) where
 
   served : (t : LocalType) → IsNameOrNone t.name → IsNamedIn others t → Served t
   served t named h =
-      let at = place_of_stands others (name_of t) (stands_of h.stands) in let size = at_size h.stands in grind (arith, nat_tests, has_text)
+      let at = place_of_stands _ _ (stands_of h.stands) in let size = at_size h.stands in grind (arith, nat_tests, has_text)
 
   -- the byte after the text, and of two texts before one 0 byte the longer
   key_in : LocalType → ℕ
@@ -356,8 +355,8 @@ laid_short : (last others : List ℕ) (types : List LocalType) → HasNoZero las
     → length (laid last types) ≤ length others
 unfolding laid with_text
 laid_short last others types none stands given =
-    let r = (before_passed last others types given).room in
-    let end : Ends last last = record { front = []; is = refl } in grind (arith, nat_tests, length-append, room_of)
+    let r = before_passed last others types given in
+    grind (arith, nat_tests, length-append, room_of)
 
 -- m is one of the types that the others serve: the one whose name is laid last
 module _ (others : List ℕ) (m : LocalType) (sm : Served others m) where
@@ -380,13 +379,11 @@ module _ (others : List ℕ) (m : LocalType) (sm : Served others m) where
   -- t is another one, and the designations are those in front of the last name
   module _ (t : LocalType) (st : Served others t) (where_t : Where t) (bytes : List ℕ) (r : Room (name_of m) sm.stands.before bytes 3)
       (filled : Filled bytes) where
-    at_the_end : Out bytes (name_of m) → Out bytes (name_of t) → Ends (name_of m) (name_of t) → Where t
-        → HasPlace (with_text bytes (name_of m)) t
-    at_the_end out away e (inr q) = grind (arith, nat_tests, at_end)
-    at_the_end out away e (inl s) =
-        let size = st.size.1 in
-        let room = room_of _ _ _ _ _ r st.stands.ends (inr e) s away in
-        at_end _ _ t e out (omega arith) (grind (arith, nil_from_length))
+    at_the_end : Out bytes (name_of m) → Out bytes (name_of t) → Ends (name_of m) (name_of t) → HasPlace (with_text bytes (name_of m)) t
+    at_the_end out away e =
+        let size = st.size.1 in let put = at_end bytes (name_of m) t e out in
+        let room = λ (s : Stands sm.stands.before (name_of t)). room_of _ _ _ _ _ r st.stands.ends (inr e) s away in
+        grind (arith, nat_tests, nil_from_length)
 
     laid_place : (3 ≤ length (name_of t) → length (name_of t) ≤ 7 → (Ends (name_of m) (name_of t) → ⊥) → In bytes (name_of t))
         → HasPlace (with_text bytes (name_of m)) t
@@ -444,7 +441,7 @@ AreNames types = All (λ t. IsNameOrNone t.name) types
 
 none_laid : (types : List LocalType) (others : List ℕ) → AreNames types → AreNamesIn others types → ¬ (HavePlaces (laid [] types) types)
     → AreNotPlacedBefore types (length (laid [] types)) → ⊥
-none_laid [] others named names unplaced none = unplaced (All-nil (HasPlace (laid [] [])))
+none_laid [] others named names unplaced none = unplaced (All-nil _)
 none_laid (t ∷ ts) others named names unplaced none =
     let types = t ∷ ts in
     let s : All (Served others) types = λ i d l. served others _ (named i d l) (names i d l) in

@@ -37,7 +37,7 @@ module _ {X : Type 0} (size : ℕ) (Spells : List ℕ → X → Type 0) where
   records_are : (f : X → List ℕ) (xs : List X) → ((x : X) → length (f x) ≡ size) → All (λ x. Spells (f x) x) xs → AreRecords size Spells (flat_map f xs) xs
   records_are f [] sized h = refl
   records_are f (x ∷ xs) sized h =
-      (f x, flat_map f xs, refl, sized x, h 0 x (omega arith), records_are f xs sized (λ i d l. h (suc i) d (omega arith)))
+      (_, _, refl, sized x, h 0 x (omega arith), records_are f xs sized (λ i d l. h (suc i) d (omega arith)))
 
   records_length : (part : List ℕ) (xs : List X) → AreRecords size Spells part xs → length part ≡ length xs * size
   records_length part [] h = grind arith
@@ -256,12 +256,12 @@ block_limits extended time_size c p footer fit (_, _, (_, (indexes, i), (_, (typ
 
 later_limits : (p : FilePieces) → Values later_version p → Limits p
 unfolding later_version
-later_limits p (h, head, (parts, in_block, (_, _, value))) = rw value (block_limits _ 8 h.counts parts _ (header_fits Second h head) in_block)
+later_limits p (h, head, (parts, in_block, (_, _, value))) = rw value (block_limits _ 8 _ _ _ (header_fits _ h head) in_block)
 
 after_limits : (v : Version) (c : Counts) (parts : Parts) (p : FilePieces) → Values (after_first_block v c parts) p → CountsFit c
     → Values (block 4 c) parts → Limits p
 unfolding after_first_block first_version
-after_limits One c parts p (_, _, value) fit first = rw value (block_limits _ 4 c parts _ fit first)
+after_limits One c parts p (_, _, value) fit first = rw value (block_limits _ 4 _ _ _ fit first)
 after_limits v c parts p h fit first = later_limits p h
 
 pieces_limits : (bytes : List ℕ) (p : FilePieces) → HasPieces bytes p → AreBytes bytes → Limits p
@@ -284,9 +284,9 @@ types_named designations part (t ∷ ts) h b =
 pub writable : (bytes : List ℕ) (z : Zone) → AreBytes bytes → IsTzFile bytes z → IsWritable z
 writable bytes z b (p, pieces, say) =
     let limits = pieces_limits bytes p pieces b in
-    let indexes = ap length say.transitions.indexes_are ∙ length-map z.transitions (λ t. t.type_index) in
-    let types = records_length 6 (SpellsType p.parts.designations) p.parts.types z.types say.types in
-    let leaps = records_length (p.time_size + 4) (SpellsLeapSecond p.time_size) p.parts.leap_seconds z.leaps say.leaps in
+    let indexes = ap length say.transitions.indexes_are ∙ length-map _ _ in
+    let types = records_length _ _ p.parts.types z.types say.types in
+    let leaps = records_length _ _ p.parts.leap_seconds z.leaps say.leaps in
     record {
       room = record {
         counts = record { transitions = omega arith; types = omega arith; leaps = limits.leaps_fit _ leaps };
@@ -331,9 +331,7 @@ module _ (z : Zone) (some : 0 < length z.types) (fits : IsRuleOrNone z.rule) (so
     footer = footer;
     version = rw e (has_version extended text d z);
     designations = d;
-    names = laid.2;
-    order = laid.1;
-    layout = e;
+    names = laid.2; order = laid.1; layout = e;
   }
 
   pub file_some : IsWritable z → (bytes : List ℕ) × IsWrittenFile z bytes

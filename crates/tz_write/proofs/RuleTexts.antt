@@ -110,7 +110,7 @@ minutes_given : {bytes rest : List ℕ} (after : List ℕ) (m s : ℕ) → bytes
     → Front (spelled_pair m ++ spelled_seconds s) bytes rest
 unfolding tz.minutes_seconds
 minutes_given after m s e (x, behind, minutes, (y, end, seconds, (value, same))) =
-    let front = front_then (pair_front e minutes) (seconds_front y seconds) in grind arith
+    grind (arith, front_then (pair_front e minutes) (seconds_front y seconds))
 
 minutes_front : {bytes rest : List ℕ} (m s : ℕ) → Spells tz.optional_minutes bytes (m, s) rest → Front (spelled_minutes m s) bytes rest
 unfolding tz.optional_minutes
@@ -120,7 +120,7 @@ minutes_front m s h =
 hours_front : {bytes rest : List ℕ} (h m s : ℕ) → Spells tz.hours_minutes_seconds bytes (h, m, s) rest → Front (spelled_hands h m s) bytes rest
 unfolding tz.hours_minutes_seconds
 hours_front h m s (x, after, hours, ((y, z), end, others, (value, same))) =
-    let front = front_then (number_front {max = clock_max} (omega arith) hours) (minutes_front y z others) in grind arith
+    grind (arith, front_then (number_front {max = clock_max} (omega arith) hours) (minutes_front y z others))
 
 duration_front : {bytes rest : List ℕ} (limit : ℕ) (negative : Bool) (z : ℤ) → Spells (tz.duration limit negative) bytes z rest
     → Front (spelled_clock (unsigned_abs z)) bytes rest
@@ -198,7 +198,7 @@ name_front name (inr (_, run)) = grind (arith, all_to)
 
 -- a name's text begins with a letter or `<`
 name_begins : (name rest : List ℕ) → IsName name → Begins 60 122 (spelled_name name ++ rest)
-name_begins name rest h = let l = h.0 in grind (arith, by_letters, all_from, letters_begin)
+name_begins name rest h = grind (arith, by_letters, all_from, letters_begin)
 
 -- ---- dates
 date_writes : (form : DayForm) (rest : List ℕ) → IsRuleDay form → NoneFirst is_digit rest → Writes tz.date (spelled_date form) form rest
@@ -237,7 +237,8 @@ module _ (rest : List ℕ) (stops : Stops rest) (extended : Bool) where
 
 after_front : {bytes rest : List ℕ} (extended : Bool) (time : ℤ) → Spells (tz.optional_time extended) bytes time rest → Front (time_after time) bytes rest
 unfolding tz.optional_time
-after_front extended time h = front_optional slash _ (tz.time extended) _ (λ after is p. front_cons is (time_front extended time p)) ((Decides-int_eq time (pos 7_200)).1) h
+after_front extended time h =
+    front_optional slash _ (tz.time extended) _ (λ after is p. front_cons is (time_front extended time p)) ((Decides-int_eq time (pos 7_200)).1) h
 
 day_front : {bytes rest : List ℕ} (extended : Bool) (d : DayTime) → Spells (tz.day extended) bytes d rest → Front (spelled_day d) bytes rest
 unfolding tz.day
@@ -392,10 +393,7 @@ module _ (rule : TransitionRule) (fits : IsRule rule) where
     written plain is = grind (arith, rule_spelled, rule_pairs, rule_read)
 
     text_is : (needed : Bool) × IsWrittenText rule (spelled_rule rule) needed
-    text_is = elim (plain_times rule) [
-      | inl p ↦ (false, grind (arith, written true))
-      | inr n ↦ (true, grind (arith, written false))
-    ]
+    text_is = elim (plain_times rule) [ inl p ↦ (false, grind (arith, written true)) | inr n ↦ (true, grind (arith, written false)) ]
 
     pub text_some : (text : List ℕ) × (needed : Bool) × IsWrittenText rule text needed
     text_some = let s = text_is in (spelled_rule rule, s.0, s.1)
@@ -449,15 +447,13 @@ pub written_zone : (types : List LocalType) (rule : TransitionRule) → IsRule r
     → IsWrittenZone (zone_of_rule types (Some rule)) (spelled_rule rule)
 written_zone types rule fits h =
     let named = h.1.0 in
-    let text = rule_spelled rule fits named false h.1.1 in
-    let first = text_begins rule named in
-    let trims = trimmed_text (spelled_rule rule) (text_are rule fits named) in
+    let text = rule_spelled rule fits named false h.1.1 in let first = text_begins rule named in
+    let trims = trimmed_text _ (text_are rule fits named) in
     record {
       gives = grind arith;
       pairs = rule_pairs rule fits named;
       shortest = λ other gives pairs.
-          let s = spells_rule other types rule gives in
-          best_of_trimmed _ other s.0 s.1 ((rule_read false _ rule s.2).best (trimmed_pairs _ _ s.1 pairs));
+          let s = spells_rule other types rule gives in best_of_trimmed _ other s.0 s.1 ((rule_read false _ rule s.2).best (trimmed_pairs _ _ s.1 pairs));
     }
 
 -- ---- which zones a text gives
@@ -474,7 +470,7 @@ zone_is z types rule h t r = grind arith
 
 rule_some : (types : List LocalType) (rule : Option TransitionRule) → IsRuleOrNone rule → HasZoneText types rule
     → (text : List ℕ) × IsWrittenZone (zone_of_rule types rule) text
-rule_some types (Some rule) fits h = (spelled_rule rule, written_zone types rule fits h)
+rule_some types (Some rule) fits h = (_, written_zone types rule fits h)
 rule_some types None fits h = grind arith
 
 pub zone_text_some : (z : Zone) → IsRuleOrNone z.rule → IsOfText z → (text : List ℕ) × IsWrittenZone z text

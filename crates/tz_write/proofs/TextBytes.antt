@@ -188,7 +188,7 @@ ends_bare (b ∷ bs) h = grind (arith, not_space, ends_bare bs)
 
 pub trimmed_text : (text : List ℕ) → AreTextBytes text → IsTrimmed text text
 trimmed_text text h =
-    record { before = []; after = []; whole = sym (append-nil text); space_before = tt; space_after = tt; first = begins_bare text h; last = grind (arith, ends_bare) }
+    record { before = []; after = []; whole = sym (append-nil text); space_before = tt; space_after = tt; first = begins_bare text h; last = ends_bare text h }
 
 own : IsNumeralModel AllDigits (value_from 0)
 own = numerals_by_fold AllDigits (search rules) value_from (search rules)

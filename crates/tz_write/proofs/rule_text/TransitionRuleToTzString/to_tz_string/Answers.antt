@@ -8,4 +8,4 @@ returns-clause-written c = rw c.in_ok-text.ensures
 pub returns-in_err-text-clause-memory : goal.returns-in_err-text-clause-memory
 returns-in_err-text-clause-memory c =
     let rule = c.args.self.now in let fits = c.can_be_spelled.ensures.rule in
-    on_err c.from_residual.result _ (true, spelled_rule rule, rule_spelled rule fits (c.can_be_spelled.ensures.answer.0 (search rules)) true (times_extended rule fits))
+    on_err c.from_residual.result _ (true, _, rule_spelled rule fits (c.can_be_spelled.ensures.answer.0 (search rules)) true (times_extended rule fits))
