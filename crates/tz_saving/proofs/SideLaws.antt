@@ -39,7 +39,7 @@ module _ (f : ℤ → LocalType → Type 0) (one : (u : ℤ) (s t : LocalType) �
 
   pub before_once : (u a b : ℤ) → IsBefore f u a → IsBefore f u b → a ≡ b
   before_once u a b h k =
-      standard_once h.at k.at a b (omega (arith, ints, h.last k.at b k.is k.before, k.last h.at a h.is h.before)) h.is k.is
+      grind (arith, ints, h.last k.at b, k.last h.at a)
 
   pub after_once : (rule : Option TransitionRule) (u a b : ℤ) → IsAfter f rule u a → IsAfter f rule u b → a ≡ b
   after_once rule u a b (At_a_second h) (At_a_second k) =

@@ -55,9 +55,6 @@ past forward x y l other = grind (arith, ints)
 
 -- the walk from u has come to r
 module _ (z : Zone) (forward : Bool) (wanted : LocalType → Type 0) (u r : ℤ) where
-  starts : r ≡ u → IsWalkedTo forward (TypeAt z) wanted reach u r
-  starts e = grind (arith, ints)
-
   -- some changes are left, and c is the nearest
   module _ (left : ℕ) (some : 0 < left) (c : Change) (h : IsWalkedTo forward (TypeAt z) wanted left u r)
       (next : IsNearestChange forward (TypeAt z) (IsBeyond forward r) c) where

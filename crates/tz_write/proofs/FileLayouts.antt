@@ -337,10 +337,6 @@ module _ (bytes last : List ℕ) where
   unfolding with_text
   kept_low text h = grind (arith, place_kept)
 
-  -- a text has its place in what is laid, if it comes before the last one, or else in what that ends
-  in_place : (t : LocalType) → length bytes ≤ 256 → In bytes (name_of t) → HasPlace (with_text bytes last) t
-  in_place t short h = grind (arith, kept, kept_low)
-
   at_end : (t : LocalType) → Ends last (name_of t) → Out bytes last → length bytes + length last < 263
       → length bytes + length last < 256 + length (name_of t) → HasPlace (with_text bytes last) t
   at_end t e out room low = grind (arith, put_is, put_in, place_of_put)
@@ -388,7 +384,7 @@ module _ (others : List ℕ) (m : LocalType) (sm : Served others m) where
     laid_place : (3 ≤ length (name_of t) → length (name_of t) ≤ 7 → (Ends (name_of m) (name_of t) → ⊥) → In bytes (name_of t))
         → HasPlace (with_text bytes (name_of m)) t
     laid_place inside = elim (cases_lt (place_of (name_of t) bytes) (length bytes)) [
-      | inl l ↦ in_place _ _ t (omega arith) l
+      | inl l ↦ grind (arith, kept, kept_low)
       | inr away ↦
           let e = has_end (name_of m) (name_of t) (λ free. grind (arith, nil_from_length, ends_nothing)) in
           let end = end_in bytes _ _ sm.stands.ends e in let out = at_the_end in grind (arith, cases_lt)

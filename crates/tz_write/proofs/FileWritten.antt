@@ -157,9 +157,6 @@ after_is extended c p rest pieces h = grind arith
 -- a zone that has types, and designations that have their places
 module _ (extended : Bool) (text d : List ℕ) (z : Zone) (size : length d ≤ 263) (counts : HasCounts z) (some : 0 < length z.types)
     (places : HavePlaces d z.types) (sound : IsSound z) where
-  zone_fit : CountsFit (zone_counts d z)
-  zone_fit = grind arith
-
   zone_agree : CountsAgree (zone_counts d z)
   zone_agree = grind (arith, some_designations)
 
@@ -172,7 +169,7 @@ module _ (extended : Bool) (text d : List ℕ) (z : Zone) (size : length d ≤ 2
   second_is : Spells later_version (second_half extended text d z) (pieces_of extended text d z) []
   unfolding second_half pieces_of later_version
   second_is =
-      (_, _, header_is Second extended _ _ zone_fit zone_agree, (_, _, second_block (footer_bytes text), (_, [], (refl, refl), (refl, refl))))
+      (_, _, header_is Second extended _ _ (grind arith) zone_agree, (_, _, second_block (footer_bytes text), (_, [], (refl, refl), (refl, refl))))
 
   -- ---- the whole
   file_pieces : HasPieces (file_bytes extended text d z) (pieces_of extended text d z)
@@ -180,12 +177,9 @@ module _ (extended : Bool) (text d : List ℕ) (z : Zone) (size : length d ≤ 2
   file_pieces = let least = (counts_test least_counts).decides.0 refl in
       (_, _, header_is First extended _ _ (grind arith) least, (_, _, first_block _, after_is extended _ _ _ _ second_is))
 
-  says_zone : IsFooter extended (footer_bytes text) z.rule → SayZone (pieces_of extended text d z) z
-  unfolding pieces_of
-  says_zone footer = grind (arith, transitions_are, types_are, leaps_are)
-
   file_is : IsPlain text → SaysRule extended text z.rule → IsTzFile (file_bytes extended text d z) z
-  file_is plain says = let pieces = file_pieces in grind (arith, says_zone, footer_is)
+  unfolding pieces_of
+  file_is plain says = let pieces = file_pieces in grind (arith, transitions_are, types_are, leaps_are, footer_is)
 
 abbrev IsByte : ℕ → Type 0
 IsByte b = b < 256
@@ -269,11 +263,8 @@ unfolding file
 pieces_limits bytes p h b = grind (arith, values, after_limits, header_fits)
 
 -- ---- names
-text_back : (text : List ℕ) → name_or_none (designation_of text) ≡ text
-text_back text = grind arith
-
 type_named : (designations bytes : List ℕ) (t : LocalType) → length bytes ≡ 6 → AreBytes bytes → SpellsType designations bytes t → IsNamedIn designations t
-type_named designations bytes t size b h = record { place = _; stands = grind (arith, text_back); named = b 5 0 (omega arith) }
+type_named designations bytes t size b h = record { place = _; stands = grind arith; named = b 5 0 (omega arith) }
 
 types_named : (designations part : List ℕ) (types : List LocalType) → SpellTypes designations part types → AreBytes part → AreNamesIn designations types
 types_named designations part [] h b = All-nil (IsNamedIn designations)

@@ -32,9 +32,6 @@ comma_stops rest = grind (arith, nat_tests)
 abbrev signed : Bool → ℕ → ℤ
 signed negative n = cond negative (neg_ℤ (pos n)) (pos n)
 
-abs_signed : (negative : Bool) (n : ℕ) → unsigned_abs (signed negative n) ≡ n
-abs_signed negative n = grind (arith, ints)
-
 -- seconds below n hours, before or after midnight
 hours_within : (hours : ℕ) (z : ℤ) → (neg_ℤ (pos (3600 * hours)) <ℤ z) × (z <ℤ pos (3600 * hours)) → unsigned_abs z / 3600 < hours
 hours_within hours z h = grind (arith, ints)
@@ -125,7 +122,7 @@ hours_front h m s (x, after, hours, ((y, z), end, others, (value, same))) =
 duration_front : {bytes rest : List ℕ} (limit : ℕ) (negative : Bool) (z : ℤ) → Spells (tz.duration limit negative) bytes z rest
     → Front (spelled_clock (unsigned_abs z)) bytes rest
 unfolding spelled_clock tz.duration
-duration_front limit negative z h = grind (arith, abs_signed, hours_front)
+duration_front limit negative z h = grind (arith, ints, hours_front)
 
 -- there is a minus if one is needed, and otherwise nothing
 sign_front : {text bytes unsigned rest : List ℕ} (signs needed negative : Bool) → Spells (tz.time_sign signs) bytes negative unsigned
@@ -187,13 +184,10 @@ name_writes name rest h none = let all : AllOf is_name_byte name = all_of is_nam
     (writes_then (run_writes _ name _ (all_others is_name_byte is_not_greater (λ b h. grind (arith, nat_tests)) name all) all refl)
     (writes_byte refl (writes_nothing refl))))
 
-quoted_best : (t : Bool) (name : List ℕ) → Best (cond t name (quoted name)) (quoted name)
-quoted_best t name = grind (arith, length-append)
-
 name_front : {bytes rest : List ℕ} (name : List ℕ) → Spells tz.name bytes name rest → Front (spelled_name name) bytes rest
 unfolding tz.name tz.quoted
 name_front name (inl (_, is, (text, _, run, (_, end, close, (value, same))))) = rw (value, ← same)
-    (record { front = quoted text; whole = grind (arith, append_assoc); best = λ _. quoted_best _ text })
+    (record { front = quoted text; whole = grind (arith, append_assoc); best = λ _. grind (arith, length-append) })
 name_front name (inr (_, run)) = grind (arith, all_to)
 
 -- a name's text begins with a letter or `<`
@@ -263,13 +257,9 @@ dst_offset_writes std dst rest h =
     (writes_here (writes_other (grind arith) (writes_first tt (inr (grind arith, (refl, refl)))
     (writes_then (offset_writes _ (comma_stops rest) dst h) (writes_first tt (inr ((λ e. cc), (refl, refl))) (writes_byte refl (writes_nothing refl)))))))
 
-given_front : {bytes rest : List ℕ} (dst : ℤ) → Spells tz.given_offset bytes dst rest → Front (spelled_offset dst) bytes (comma ∷ rest)
-unfolding tz.given_offset tz.more
-given_front dst h = grind (arith, offset_front)
-
 dst_offset_front : {bytes rest : List ℕ} (std dst : ℤ) → Spells (tz.dst_offset std) bytes dst rest → Front (spelled_dst_offset std dst) bytes (comma ∷ rest)
-unfolding tz.dst_offset tz.next_hour
-dst_offset_front std dst h = grind (arith, front_nothing, front_unless, int_eq, given_front)
+unfolding tz.dst_offset tz.next_hour tz.given_offset tz.more
+dst_offset_front std dst h = grind (arith, front_nothing, front_unless, int_eq, offset_front)
 
 -- ---- what a text that spells a rule shows
 -- the rule can be spelled, has times that need no extensions if the text has none, and its own text is the shortest
@@ -315,10 +305,6 @@ from_offset a = spelled_dst_offset a.std.offset a.dst.offset ++ (comma ∷ days_
 type_is : (name : List ℕ) (dst : Bool) (t : LocalType) → IsNamed name dst t → t ≡ named_type name dst t.offset
 type_is name dst t h = grind arith
 
--- no letter follows a name, and no digit or colon an offset
-name_stops : (name rest : List ℕ) → IsName name → Stops (spelled_name name ++ rest)
-name_stops name rest h = grind (arith, nat_tests, name_begins)
-
 dst_ends_name : (std dst : ℤ) (rest : List ℕ) → IsWithinDay dst → NoneFirst is_letter (spelled_dst_offset std dst ++ (comma ∷ rest))
 dst_ends_name std dst rest h = grind (arith, nat_tests, offset_begins, by_hour (λ s. NoneFirst is_letter (s ++ (comma ∷ rest))))
 
@@ -341,7 +327,7 @@ rule_writes extended (rules.Alternate a) fits ((m, s), (n, d)) (start, end) =
     rw (first, second, append_assoc (spelled_name m) (spelled_offset std) tail)
     (writes_here
     (writes_then (name_writes m _ s.allowed (grind (arith, nat_tests, append_assoc, offset_begins)))
-    (writes_then (offset_writes _ (grind (arith, append_assoc, name_stops)) std fits.within.std_offset)
+    (writes_then (offset_writes _ (grind (arith, append_assoc, nat_tests, name_begins)) std fits.within.std_offset)
     (writes_more (grind (arith, append_assoc, name_begins))
     (writes_here
     (writes_then (name_writes n _ d.allowed (grind (arith, append_assoc, dst_ends_name)))
@@ -365,12 +351,8 @@ both_shortest s t p q = grind arith
 pub text_once : (rule : TransitionRule) (s t : List ℕ) (d e : Bool) → IsWrittenText rule s d → IsWrittenText rule t e → (s ≡ t) × (d ≡ e)
 text_once rule s t d e p q = grind (arith, both_shortest)
 
--- a rule's times need extensions, or they need none
-both_plain : (start end : ℤ) → (IsPlainTime start × IsPlainTime end) ⊎ (IsPlainTime start × IsPlainTime end → ⊥)
-both_plain start end = grind (arith, ints)
-
 plain_times : (rule : TransitionRule) → (AreTimesOf false rule) ⊎ (AreTimesOf false rule → ⊥)
-plain_times rule = grind (arith, both_plain)
+plain_times rule = grind (arith, ints)
 
 -- a rule that a zone can have
 module _ (rule : TransitionRule) (fits : IsRule rule) where
@@ -411,23 +393,14 @@ module _ (rule : TransitionRule) (fits : IsRule rule) where
 pub ruleset rule_laws = (extensions, rule_named, text_once, text_some)
 
 -- ---- white space at the ends
-not_both : (b : ℕ) → is_digit b ≡ true → is_ascii_whitespace b ≡ true → ⊥
-not_both b h k = grind (arith, nat_tests)
-
 -- only white space comes after
 module _ (after : List ℕ) (space : IsSpace after) where
-  stops_before : (bs : List ℕ) → NoneFirst is_digit (bs ++ after) → NoneFirst is_digit bs
-  stops_before bs h = grind (arith, nat_tests)
-
   two_before : (bs : List ℕ) → TwoDigits (bs ++ after) → TwoDigits bs
-  two_before bs h = grind (arith, not_both, stops_before)
+  two_before bs h = grind (arith, nat_tests)
 
   pairs_before : (bs : List ℕ) → AreInPairs (bs ++ after) → AreInPairs bs
   pairs_before [] h = tt
   pairs_before (b ∷ bs) h = ((λ e. two_before bs (h.0 e)), pairs_before bs h.1)
-
-trimmed_pairs : (bytes text : List ℕ) → IsTrimmed bytes text → AreInPairs bytes → AreInPairs text
-trimmed_pairs bytes text t pairs = grind (arith, pairs_before, pairs_rest)
 
 -- nothing at both ends, or a longer text
 trimmed_or_longer : (before text after : List ℕ) → (before ++ (text ++ after) ≡ text) ⊎ (length text < length (before ++ (text ++ after)))
@@ -453,7 +426,7 @@ written_zone types rule fits h =
       gives = grind arith;
       pairs = rule_pairs rule fits named;
       shortest = λ other gives pairs.
-          let s = spells_rule other types rule gives in best_of_trimmed _ other s.0 s.1 ((rule_read false _ rule s.2).best (trimmed_pairs _ _ s.1 pairs));
+          let s = spells_rule other types rule gives in best_of_trimmed _ other s.0 s.1 ((rule_read false _ rule s.2).best (grind (arith, pairs_before, pairs_rest)));
     }
 
 -- ---- which zones a text gives

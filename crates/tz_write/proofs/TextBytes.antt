@@ -25,9 +25,6 @@ pub pairs_rest : (front rest : List ℕ) → AreInPairs (front ++ rest) → AreI
 pairs_rest [] rest h = h
 pairs_rest (b ∷ bs) rest h = pairs_rest bs rest h.1
 
-best_append : (a b x y : List ℕ) → Best a x → Best b y → Best (a ++ b) (x ++ y)
-best_append a b x y p q = grind (arith, length-append)
-
 -- nothing is the shortest
 best_nothing : (x : List ℕ) → Best [] x
 best_nothing [] = inl refl
@@ -47,7 +44,7 @@ module _ {bytes rest : List ℕ} where
   -- it is the text a, or longer
   module _ {a : List ℕ} where
     pub front_then : {b middle : List ℕ} → Front a bytes middle → Front b middle rest → Front (a ++ b) bytes rest
-    front_then p q = record { front = p.front ++ q.front; whole = grind (arith, append_assoc); best = grind (arith, best_append, pairs_rest) }
+    front_then p q = record { front = p.front ++ q.front; whole = grind (arith, append_assoc); best = grind (arith, length-append, pairs_rest) }
 
     pub front_unless : (b : Bool) → Front a bytes rest → Front (cond b [] a) bytes rest
     front_unless b p = grind (arith, front_any)
@@ -95,9 +92,6 @@ module _ (p : ℕ → Bool) where
 
   pub first_optional : (b : Bool) (t : ℕ) (text rest : List ℕ) → p t ≡ false → NoneFirst p rest → NoneFirst p (cond b [] (t ∷ text) ++ rest)
   first_optional b t text rest e h = grind (arith, nat_tests)
-
-digits_are : (bs : List ℕ) → AllDigits bs → AreTextBytes bs
-digits_are = all_others is_digit is_text_byte (λ b h. grind (arith, nat_tests))
 
 pub names_are : (bs : List ℕ) → AllOf is_name_byte bs → AreTextBytes bs
 names_are = all_others is_name_byte is_text_byte (λ b h. rw h refl)
@@ -193,9 +187,6 @@ trimmed_text text h =
 own : IsNumeralModel AllDigits (value_from 0)
 own = numerals_by_fold AllDigits (search rules) value_from (search rules)
 
-digit_within : (b : ℕ) → is_digit b ≡ true → (48 ≤ b) × (b ≤ 57)
-digit_within b h = grind (arith, nat_tests)
-
 -- ---- decimal digits: without zeros in front they are the shortest that spell a number
 -- the bytes begin with one between those two
 abbrev pub Begins : ℕ → ℕ → List ℕ → Type 0
@@ -216,7 +207,7 @@ two_digits n rest h none = grind (arith, nat_tests)
 -- the number n is within its limit, and no digit follows it
 module _ {max n : ℕ} {rest : List ℕ} (l : n ≤ max) (none : NoneFirst is_digit rest) where
   digits_write : (ds : List ℕ) → AllDigits ds → 0 < length ds → value_from 0 ds ≡ n → Writes (Number max) ds n rest
-  digits_write ds each some value = grind (arith, digits_are, pairs_over)
+  digits_write ds each some value = grind (arith, all_others is_digit is_text_byte (λ b h. grind (arith, nat_tests)), pairs_over)
 
   pub number_writes : n < 2 ^ 64 → Writes (Number max) (decimal n) n rest
   number_writes h = digits_write (decimal n) (digits_decimal own n h) (decimal_nonempty n h) (digits_value-decimal own n h)
