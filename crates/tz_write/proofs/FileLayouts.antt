@@ -5,10 +5,10 @@ use Rattle.tz_base.proofs.RunLaws.{all_of}
 use Rattle.tz_write.proofs.{
   TextBytes.{names_are, no_zeros},
   Words.{All, All-cons, All-nil, All-weaker, AreNamesIn, AreNotPlacedBefore, AreShortest, Bool, Decides, Decides-by_and, Decides-eqb, HasNoZero, HasPlace},
-  Words.{HavePlaces, IsNameOrNone, IsNamedIn, List, LocalType, MatchOption, Option, StandsAt, [], and_parts, ap, append-nil, append_assoc, arith, before_last},
-  Words.{before_zero, begins, cases_lt, drop, drop-append_seam, drop_more, ends, ends_is, eq-eqb, eqb-true, get_or, get_or_at, inl, inr, laid, length},
-  Words.{length-append, list_all, ltb-true, name_of, name_or_none, nat_eq, nat_lt, nat_tests, nil_from_length, place_of, refl, starts_is, starts_with, suc},
-  Words.{sym, take, true, with_text, with_text_of, with_texts, zero, ℕ, ◌&&◌, ◌*◌, ◌++◌, ◌+◌, ◌<◌, ◌∷◌, ◌≡◌, ◌≤◌, ◌⊎◌},
+  Words.{HavePlaces, IsNameOrNone, IsNamedIn, List, LocalType, MatchOption, Option, StandsAt, [], ap, append-nil, append_assoc, arith, before_last},
+  Words.{before_zero, begins, cases_lt, drop, drop-append_seam, drop_more, ends, ends_is, eq-eqb, get_or, get_or_at, inl, inr, laid, length, length-append},
+  Words.{list_all, name_of, name_or_none, nat_eq, nat_lt, nat_tests, nil_from_length, place_of, refl, starts_is, starts_with, suc, sym, take, true, with_text},
+  Words.{with_text_of, with_texts, zero, ℕ, ◌&&◌, ◌*◌, ◌++◌, ◌+◌, ◌<◌, ◌∷◌, ◌≡◌, ◌≤◌, ◌⊎◌},
 }
 use Rattle.tz_write.specs.FileLayouts.{ArePlaced, In_order, IsFirstPlaced, IsLaid, IsPlacedFrom, laid_from, text_at}
 use borrow.Author.Count.{below_more}

@@ -8,12 +8,12 @@ use Rattle.tz_write.proofs.{
   TextBytes.{AreTextBytes, begins_bare, ends_bare, limits, no_zeros},
   Words.{All, All-cons, All-more, All-nil, All-tail, AreBytes, AreNamesIn, Bool, Counts, CountsAgree, FilePieces, Fits-of_z, HasCounts, HasPieces, HasPlace},
   Words.{HasTimeOf64Bits, HavePlaces, Header, IsAscii-from_all, IsEntry, IsFooter, IsNamedIn, IsRoomOf, IsRuleOrNone, IsSound, IsType, IsTzFile},
-  Words.{IsUtf8-from_ascii, IsWritable, LeapSecond, List, LocalType, None, Option, Parts, Place, Room, SayZone, SaysRule, Some, SpellTransitions, SpellTypes},
-  Words.{Spells, SpellsLeapSecond, SpellsType, Transition, TransitionRule, Version, Zone, [], after_first_block, ap, arith, be_u32, block, both_ways},
-  Words.{counts_bytes, counts_test, designation_of, false, file, file_bytes, first_half, first_version, flat_map, flat_map_more, from_be_bytes-to_be_bytes_4},
-  Words.{from_be_bytes-to_be_bytes_8, get_or, get_or_append_left, header, header_bytes, index_bytes, inl, inr, later_pieces, later_version, leap_bytes, length},
-  Words.{length-append, length-map, magic, name_or_none, number_bytes, refl, second_half, signed, signed_bytes, six_counts, subst, suc, sym, take, time_bytes},
-  Words.{true, type_bytes, tzif, version, ℕ, ℤ, ◌*◌, ◌++◌, ◌+◌, ◌<◌, ◌^◌, ◌↔◌, ◌∙◌, ◌∷◌, ◌≡◌, ◌≢◌, ◌≤◌, ◌⊎◌},
+  Words.{IsUtf8-from_ascii, IsWritable, LeapSecond, List, LocalType, None, Option, Parts, Place, Room, SaysRule, Some, SpellTransitions, SpellTypes, Spells},
+  Words.{SpellsLeapSecond, SpellsType, Transition, TransitionRule, Version, Zone, [], after_first_block, ap, arith, be_u32, block, both_ways, counts_bytes},
+  Words.{counts_test, false, file, file_bytes, first_half, first_version, flat_map, flat_map_more, from_be_bytes-to_be_bytes_4, from_be_bytes-to_be_bytes_8},
+  Words.{get_or, get_or_append_left, header, header_bytes, index_bytes, inl, inr, later_pieces, later_version, leap_bytes, length, length-append, length-map},
+  Words.{magic, number_bytes, refl, second_half, signed, signed_bytes, six_counts, subst, suc, sym, take, time_bytes, true, type_bytes, tzif, version, ℕ, ℤ},
+  Words.{◌*◌, ◌++◌, ◌+◌, ◌<◌, ◌^◌, ◌↔◌, ◌∙◌, ◌∷◌, ◌≡◌, ◌≢◌, ◌≤◌, ◌⊎◌},
 }
 use Rattle.tz_write.specs.FileBytes.{block_bytes, footer_bytes, least_block, least_counts, unused, version_byte, zone_counts, zone_parts}
 use Rattle.tz_write.specs.WrittenFiles.{HaveVersion, IsFooterText, IsInNoFile, IsSpellableOrNone, IsWrittenFile, NeedsExtensions}
@@ -179,7 +179,7 @@ module _ (extended : Bool) (text d : List ℕ) (z : Zone) (size : length d ≤ 2
 
   file_is : IsPlain text → SaysRule extended text z.rule → IsTzFile (file_bytes extended text d z) z
   unfolding pieces_of
-  file_is plain says = let pieces = file_pieces in grind (arith, transitions_are, types_are, leaps_are, footer_is)
+  file_is plain says = grind (arith, file_pieces, transitions_are, types_are, leaps_are, footer_is)
 
 abbrev IsByte : ℕ → Type 0
 IsByte b = b < 256
@@ -286,7 +286,7 @@ writable bytes z b (p, pieces, say) =
         designations = p.parts.designations;
         names = types_named _ _ _ say.types limits.types;
       };
-      rule = let rule = say.rule in grind (arith, rule_named);
+      rule = grind (arith, rule_named);
     }
 
 -- that text is the footer of that rule

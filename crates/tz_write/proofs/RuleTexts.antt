@@ -8,12 +8,12 @@ use Rattle.tz_write.proofs.{
   TextBytes.{writes_optional, writes_other, writes_then},
   Words.{AllOf, Alternate, AreInPairs, AreTimesOf, Bool, CanBeSpelled, DayForm, DayTime, Decides-int_eq, HasZoneText, IsAlternateRule, IsName, IsNamed},
   Words.{IsNoPosixZone, IsOfText, IsPlainTime, IsPosixZone, IsRule, IsRuleDay, IsRuleOrNone, IsSpace, IsTextTime, IsTrimmed, IsTzText, IsWithinDay},
-  Words.{IsWrittenText, IsWrittenZone, List, LocalType, None, NoneFirst, OnErr, Option, Result, Some, Spells, TransitionRule, TwoDigits, Without, Zone, []},
-  Words.{and_from, and_parts, ap, append-nil, append_assoc, arith, both_ways, clock_max, colon, comma, cond, date_max, day_max, false, greater, inl, inr},
-  Words.{int_eq, ints, is_ascii_whitespace, is_digit, is_letter, is_name_byte, is_not_greater, le-ltb, length, length-append, less, list_all, minus, name_of},
-  Words.{name_or_none, named_type, nat_tests, neg_ℤ, not, offset_fits, pos, refl, slash, spelled_clock, spelled_date, spelled_day, spelled_dst_offset},
-  Words.{spelled_name, spelled_offset, spelled_pair, spelled_rule, spelled_time, time_after, time_limit, true, types_of, unsigned_abs, zone_of_rule, ℕ, ℤ, ◌%◌},
-  Words.{◌&&◌, ◌*◌, ◌++◌, ◌+ℤ◌, ◌+◌, ◌/◌, ◌<ℤ◌, ◌<◌, ◌==◌, ◌↔◌, ◌∙◌, ◌∷◌, ◌≡◌, ◌≢◌, ◌≤◌, ◌⊎◌},
+  Words.{IsWrittenText, IsWrittenZone, List, LocalType, None, NoneFirst, OnErr, Option, Result, Some, Spells, TransitionRule, Without, Zone, [], and_from},
+  Words.{and_parts, ap, append-nil, append_assoc, arith, both_ways, clock_max, colon, comma, cond, false, greater, inl, inr, int_eq, ints, is_digit, is_letter},
+  Words.{is_name_byte, is_not_greater, le-ltb, length, length-append, less, list_all, minus, name_of, name_or_none, named_type, nat_tests, neg_ℤ, not},
+  Words.{offset_fits, pos, refl, slash, spelled_clock, spelled_date, spelled_day, spelled_dst_offset, spelled_name, spelled_offset, spelled_pair, spelled_rule},
+  Words.{spelled_time, time_after, time_limit, true, types_of, unsigned_abs, zone_of_rule, ℕ, ℤ, ◌%◌, ◌&&◌, ◌*◌, ◌++◌, ◌+ℤ◌, ◌+◌, ◌/◌, ◌<ℤ◌, ◌<◌, ◌==◌, ◌↔◌},
+  Words.{◌∙◌, ◌∷◌, ◌≡◌, ◌≤◌, ◌⊎◌},
 }
 use Rattle.tz_write.specs.Steps.TextPieces.{is_negative, is_positive, spelled_hands, spelled_minutes, spelled_seconds, spelled_signed}
 use Rattle.tz_info.specs.TzGrammar as tz
@@ -157,16 +157,13 @@ module _ (p : ℕ → Bool) where
   all_to [] h = refl
   all_to (b ∷ bs) h = and_from (p b) (list_all p bs) h.0 (all_to bs h.1)
 
-not_colon : (b : ℕ) → is_name_byte b ≡ true → b ≢ colon
-not_colon b h e = grind arith
-
 -- letters are above `<`, which comes in front of other names
 letters_begin : (bs rest : List ℕ) → 0 < length bs → AllOf is_letter bs → Begins 65 122 (bs ++ rest)
 letters_begin [] rest some each = absurd (omega arith)
 letters_begin (b ∷ bs) rest some each = grind arith
 
 run_writes : (p : ℕ → Bool) (name rest : List ℕ) → AllOf p name → AllOf is_name_byte name → NoneFirst p rest → Writes (Run p) name name rest
-run_writes p name rest each all none = grind (arith, names_are, pairs_over, not_colon)
+run_writes p name rest each all none = grind (arith, names_are, pairs_over is_name_byte (λ b h e. grind arith))
 
 abbrev quoted : List ℕ → List ℕ
 quoted name = less ∷ name ++ (greater ∷ [])
@@ -351,9 +348,6 @@ both_shortest s t p q = grind arith
 pub text_once : (rule : TransitionRule) (s t : List ℕ) (d e : Bool) → IsWrittenText rule s d → IsWrittenText rule t e → (s ≡ t) × (d ≡ e)
 text_once rule s t d e p q = grind (arith, both_shortest)
 
-plain_times : (rule : TransitionRule) → (AreTimesOf false rule) ⊎ (AreTimesOf false rule → ⊥)
-plain_times rule = grind (arith, ints)
-
 -- a rule that a zone can have
 module _ (rule : TransitionRule) (fits : IsRule rule) where
   pub times_extended : AreTimesOf true rule
@@ -375,7 +369,7 @@ module _ (rule : TransitionRule) (fits : IsRule rule) where
     written plain is = grind (arith, rule_spelled, rule_pairs, rule_read)
 
     text_is : (needed : Bool) × IsWrittenText rule (spelled_rule rule) needed
-    text_is = elim (plain_times rule) [ inl p ↦ (false, grind (arith, written true)) | inr n ↦ (true, grind (arith, written false)) ]
+    text_is = let p : (AreTimesOf false rule) ⊎ (¬ (AreTimesOf false rule)) = grind (arith, ints) in elim p [ inl p ↦ (false, grind (arith, written true)) | inr n ↦ (true, grind (arith, written false)) ]
 
     pub text_some : (text : List ℕ) × (needed : Bool) × IsWrittenText rule text needed
     text_some = let s = text_is in (spelled_rule rule, s.0, s.1)
@@ -395,12 +389,9 @@ pub ruleset rule_laws = (extensions, rule_named, text_once, text_some)
 -- ---- white space at the ends
 -- only white space comes after
 module _ (after : List ℕ) (space : IsSpace after) where
-  two_before : (bs : List ℕ) → TwoDigits (bs ++ after) → TwoDigits bs
-  two_before bs h = grind (arith, nat_tests)
-
   pairs_before : (bs : List ℕ) → AreInPairs (bs ++ after) → AreInPairs bs
   pairs_before [] h = tt
-  pairs_before (b ∷ bs) h = ((λ e. two_before bs (h.0 e)), pairs_before bs h.1)
+  pairs_before (b ∷ bs) h = ((λ e. let two = h.0 e in grind (arith, nat_tests)), pairs_before bs h.1)
 
 -- nothing at both ends, or a longer text
 trimmed_or_longer : (before text after : List ℕ) → (before ++ (text ++ after) ≡ text) ⊎ (length text < length (before ++ (text ++ after)))

@@ -4,9 +4,9 @@ use Rattle.std.proofs.lemmas.{Fmt.{decimal-digits_value, decimal_nonempty, digit
 use Rattle.tz_base.specs.{Grammar.{At, Byte, Check, Ended, Grammar, Here, Marked, Nothing, Number, Optional, Then}, Refusals.{Refusal}, Tests.{Test}}
 use Rattle.tz_write.proofs.{
   Words.{AllDigits, AllOf, AreInPairs, BeginsBare, Bool, EndsBare, HasNoZero, IsNumber, IsTrimmed, List, NoneFirst, Spells, TwoDigits, Without, [], append-nil},
-  Words.{append_assoc, arith, both_ways, cases_eq, colon, comma, cond, decimal, dot, false, greater, inl, inr, is_ascii_whitespace, is_digit, is_name_byte},
-  Words.{length, length-append, less, nat_tests, not, refl, rules, slash, spelled_pair, sym, true, value_from, ℕ, ◌%◌, ◌&&◌, ◌++◌, ◌+◌, ◌/◌, ◌<◌, ◌==◌, ◌^◌},
-  Words.{◌||◌, ◌∷◌, ◌≡◌, ◌≢◌, ◌≤◌, ◌⊎◌},
+  Words.{append_assoc, arith, both_ways, cases_eq, colon, comma, cond, decimal, dot, false, greater, inl, inr, is_digit, is_name_byte, length, length-append},
+  Words.{less, nat_tests, not, refl, rules, slash, spelled_pair, sym, true, value_from, ℕ, ◌%◌, ◌&&◌, ◌++◌, ◌+◌, ◌/◌, ◌<◌, ◌==◌, ◌^◌, ◌||◌, ◌∷◌, ◌≡◌, ◌≢◌, ◌≤◌},
+  Words.{◌⊎◌},
 }
 
 -- ---- the front of bytes compared with a text
@@ -114,9 +114,6 @@ pub record Writes {X : Type 0} (g : Grammar X) (text : List ℕ) (x : X) (rest :
 abbrev is_sign : ℕ → Bool
 is_sign t = is_text_byte t && not (t == colon)
 
-sign_is : (t : ℕ) → is_sign t ≡ true → (is_text_byte t ≡ true) × (t ≢ colon)
-sign_is t h = grind (arith, nat_tests)
-
 -- x is spelled before that rest
 module _ {X : Type 0} {x : X} {rest : List ℕ} where
   pub writes_nothing : {v : X} → x ≡ v → Writes (Nothing v) [] x rest
@@ -148,12 +145,12 @@ module _ {X : Type 0} {x : X} {rest : List ℕ} where
     writes_at p = assumption
 
     pub writes_byte : {t : ℕ} {f : Unit {0} → Grammar X} → is_sign t ≡ true → Writes (f tt) a x rest → Writes (Then (Byte t) f) (t ∷ a) x rest
-    writes_byte sign p = grind (arith, nat_tests, sign_is)
+    writes_byte sign p = grind (arith, nat_tests)
 
     -- either of two grammars may come
     module _ {g h : Grammar X} where
       pub writes_mark : {t : ℕ} → is_sign t ≡ true → Writes g a x rest → Writes (Marked t g h) (t ∷ a) x rest
-      writes_mark sign p = grind (arith, nat_tests, sign_is)
+      writes_mark sign p = grind (arith, nat_tests)
 
       pub writes_colon : TwoDigits (a ++ rest) → Writes g a x rest → Writes (Marked colon g h) (colon ∷ a) x rest
       writes_colon two p = grind arith
@@ -170,15 +167,12 @@ module _ {X : Type 0} {x : X} {rest : List ℕ} where
     writes_optional b same none given = grind (arith, writes_other, writes_nothing)
 
 -- ---- no white space
-not_space : (b : ℕ) → is_text_byte b ≡ true → is_ascii_whitespace b ≡ false
-not_space b h = grind (arith, nat_tests)
-
 pub begins_bare : (text : List ℕ) → AreTextBytes text → BeginsBare text
-begins_bare text h = grind (arith, not_space)
+begins_bare text h = grind (arith, nat_tests)
 
 pub ends_bare : (text : List ℕ) → AreTextBytes text → EndsBare text
 ends_bare [] h = tt
-ends_bare (b ∷ bs) h = grind (arith, not_space, ends_bare bs)
+ends_bare (b ∷ bs) h = grind (arith, nat_tests, ends_bare bs)
 
 pub trimmed_text : (text : List ℕ) → AreTextBytes text → IsTrimmed text text
 trimmed_text text h =

@@ -1,4 +1,4 @@
-use Rattle.tz_saving.proofs.Words.{SFits, Some, rules, to_z-of_z, w32}
+use Rattle.tz_saving.proofs.Words.{SFits, rules, to_z-of_z, w32}
 use Rattle.tz_saving.proofs.saving.flagged_amount.Goals as goal
 
 pub returns-in-Some-Some : goal.returns-in-Some-Some

@@ -1,4 +1,4 @@
-use Rattle.tz_write.proofs.{RuleTexts.{rule_spelled, times_extended, written}, Words.{rules, spelled_rule, true}, RuleTexts.{on_err}}
+use Rattle.tz_write.proofs.{RuleTexts.{on_err, rule_spelled, times_extended, written}, Words.{rules, true}}
 use Rattle.tz_write.proofs.rule_text.TransitionRuleToTzString.to_tz_string.Goals as goal
 
 pub returns-clause-written : goal.returns-clause-written

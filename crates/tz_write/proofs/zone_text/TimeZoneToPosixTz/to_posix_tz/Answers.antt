@@ -1,4 +1,4 @@
-use Rattle.tz_write.proofs.{Words.{IsRule, Some, on_err_weaker, rules, spelled_rule}, RuleTexts.{written_zone, zone_is}}
+use Rattle.tz_write.proofs.{RuleTexts.{written_zone, zone_is}, Words.{IsRule, Some, on_err_weaker, rules, spelled_rule}}
 use Rattle.tz_write.proofs.zone_text.TimeZoneToPosixTz.to_posix_tz.Goals as goal
 
 pub returns-in-Some : goal.returns-in-Some
