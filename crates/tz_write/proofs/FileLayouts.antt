@@ -311,10 +311,6 @@ module _ (others : List ℕ) where
     stands : StandsAt others (place_of (name_of t) others) (name_of t)
     low : place_of (name_of t) others < 256
 
-  served : (t : LocalType) → IsNameOrNone t.name → IsNamedIn others t → Served t
-  served t named h =
-      let at = place_of_stands _ _ (stands_of h.stands) in let size = at_size h.stands in grind (arith, nat_tests, has_text)
-
   -- the byte after the text, and of two texts before one 0 byte the longer
   key_in : LocalType → ℕ
   key_in t = 8 * (place_of (name_of t) others + length (name_of t)) + length (name_of t)
@@ -390,10 +386,6 @@ module _ (others : List ℕ) (m : LocalType) (sm : Served others m) where
           let end = end_in bytes _ _ sm.stands.ends e in let out = at_the_end in grind (arith, cases_lt)
     ]
 
-  stands_with : (t : LocalType) → Where t → Stands (added sm.stands.before (name_of m)) (name_of t)
-  stands_with t (inl s) = grind (arith, nat_tests, append_assoc)
-  stands_with t (inr q) = end_stands (put_stands sm.stands.before (name_of m)) q.0
-
   -- ---- all types, of which m has the greatest key
   module _ (types : List LocalType) (s : All (Served others) types) (top : All (IsBelow others m) types) where
     places : All Where types
@@ -411,7 +403,10 @@ module _ (others : List ℕ) (m : LocalType) (sm : Served others m) where
     unfolding laid
     in_order_in i d l =
         let whole = added sm.stands.before (name_of m) in
-        let stands : All (λ t. Stands whole (name_of t)) types = λ i d l. stands_with (get_or types i d) (places i d l) in
+        let stands : All (λ t. Stands whole (name_of t)) types = λ i d l. elim (places i d l) [
+          | inl s ↦ grind (arith, nat_tests, append_assoc)
+          | inr q ↦ end_stands (put_stands sm.stands.before (name_of m)) q.0
+        ] in
         let short : length whole ≤ 263 = grind (arith, length-append) in
         let t = get_or types i d in let size = (s i d l).size in
         let p = before_passed [] whole types (λ i d l. record { none = (s i d l).stands.ends; stands = λ free. stands i d l }) in
@@ -440,7 +435,9 @@ none_laid : (types : List LocalType) (others : List ℕ) → AreNames types → 
 none_laid [] others named names unplaced none = unplaced (All-nil _)
 none_laid (t ∷ ts) others named names unplaced none =
     let types = t ∷ ts in
-    let s : All (Served others) types = λ i d l. served others _ (named i d l) (names i d l) in
+    let s : All (Served others) types = λ i d l.
+        let h = names i d l in let name = named i d l in let at = place_of_stands _ _ (stands_of h.stands) in let size = at_size h.stands in
+        grind (arith, nat_tests, has_text) in
     let (place, inside, above) = greatest others t t ts in
     let m = get_or types place t in let sm = s place t inside in
     let found = in_order_in _ m sm types s above place t inside in
@@ -464,14 +461,11 @@ places_or_not bytes types =
     let has_place = λ (t : LocalType). nat_lt (place_of (name_of t) bytes) (length bytes) && nat_lt (place_of (name_of t) bytes) 256 in
     decided _ (Decides-by_and has_place (HasPlace bytes) (list_all has_place) (λ t. grind (arith, nat_tests)) refl (λ _ _. refl) types)
 
-placed_or_not : (types : List LocalType) (place : ℕ) → IsPlacedFrom types place ⊎ (¬ (IsPlacedFrom types place))
-placed_or_not types place = let places = places_or_not (laid_from types place) types in grind (arith, cases_lt)
-
 first_placed : (types : List LocalType) (place : ℕ) → AreNotPlacedBefore types place ⊎ ((d : List ℕ) × IsFirstPlaced types d)
 first_placed types zero = inl (grind arith)
 first_placed types (suc n) = elim (first_placed types n) [
   | inr f ↦ inr f
-  | inl none ↦ elim (placed_or_not types n) [
+  | inl none ↦ let places = places_or_not (laid_from types n) types in let placed : IsPlacedFrom types n ⊎ (¬ (IsPlacedFrom types n)) = grind (arith, cases_lt) in elim placed [
     | inl h ↦ inr (_, record { place = n; placed = h; laid_is = refl; first = none })
     | inr not ↦ inl (grind (arith, below_more))
   ]
@@ -509,9 +503,6 @@ size_with : (bytes text : List ℕ) → length bytes ≤ 263 → length (with_te
 unfolding with_text
 size_with bytes text h = grind (arith, length-append)
 
-size_laid : (last : List ℕ) (types : List LocalType) → length (laid last types) ≤ 263
-unfolding laid
-size_laid last types = size_with _ last (before_keeps (λ d. length d ≤ 263) size_with last types (omega arith))
-
 pub laid_size : (types : List LocalType) (bytes : List ℕ) → IsLaid types bytes → length bytes ≤ 263
-laid_size types bytes h = grind (arith, size_laid)
+unfolding laid
+laid_size types bytes h = let size = λ (last : List ℕ). size_with _ last (before_keeps (λ d. length d ≤ 263) size_with last types (omega arith)) in grind arith

@@ -4,7 +4,7 @@ use Rattle.tz_info.specs.declared.rule.day.DayForm.TheVariants.{Julian0, Julian1
 use Rattle.tz_write.proofs.{
   TextBytes.{AreTextBytes, Begins, Best, Front, Writes, all_others, first_optional, front_cons, front_longer, front_nothing, front_optional, front_then},
   TextBytes.{front_unless, front_whole, names_are, number_begins, number_front, number_writes, pair_front, pair_writes, pairs_over, pairs_rest, trimmed_text},
-  TextBytes.{two_digits, writes_at, writes_byte, writes_check, writes_colon, writes_first, writes_here, writes_last, writes_mark, writes_more, writes_nothing},
+  TextBytes.{two_digits, writes_byte, writes_check, writes_colon, writes_first, writes_here, writes_last, writes_mark, writes_more, writes_nothing},
   TextBytes.{writes_optional, writes_other, writes_then},
   Words.{AllOf, Alternate, AreInPairs, AreTimesOf, Bool, CanBeSpelled, DayForm, DayTime, Decides-int_eq, HasZoneText, IsAlternateRule, IsName, IsNamed},
   Words.{IsNoPosixZone, IsOfText, IsPlainTime, IsPosixZone, IsRule, IsRuleDay, IsRuleOrNone, IsSpace, IsTextTime, IsTrimmed, IsTzText, IsWithinDay},
@@ -35,10 +35,6 @@ signed negative n = cond negative (neg_ℤ (pos n)) (pos n)
 -- seconds below n hours, before or after midnight
 hours_within : (hours : ℕ) (z : ℤ) → (neg_ℤ (pos (3600 * hours)) <ℤ z) × (z <ℤ pos (3600 * hours)) → unsigned_abs z / 3600 < hours
 hours_within hours z h = grind (arith, ints)
-
-time_within : (extended : Bool) (time : ℤ) → IsTextTime extended time
-    → (unsigned_abs time / 3600 ≤ time_limit extended) × (extended ≡ false → is_negative time ≡ false)
-time_within extended time h = grind (arith, hours_within, le-ltb)
 
 clock_begins : (n : ℕ) (rest : List ℕ) → n / 3600 < 1000 → Begins 48 57 (spelled_clock n ++ rest)
 unfolding spelled_clock
@@ -80,11 +76,10 @@ module _ (rest : List ℕ) (stops : Stops rest) where
     signed_writes : (signs : Bool) (f : Bool → Bool) (negative : Bool) → (signs ≡ false → negative ≡ false) → z ≡ signed (f negative) n
         → Writes (Then (tz.time_sign signs) (λ m. tz.duration limit (f m))) (spelled_signed negative n) z rest
     unfolding tz.time_sign tz.sign
-    signed_writes true f true may v =
-        writes_then (writes_other (grind arith) (writes_mark refl (writes_nothing refl))) (duration_writes (f true) v)
+    signed_writes true f true may v = writes_then (writes_other (grind arith) (writes_mark refl (writes_nothing refl))) (duration_writes _ v)
     signed_writes true f false may v = let first = clock_begins n rest (omega arith) in
         writes_first false (inr (grind arith, inr (grind arith, (refl, refl))))
-        (duration_writes (f false) v)
+        (duration_writes _ v)
     signed_writes false f true may v = let e = may refl in cc
     signed_writes false f false may v = writes_first false (refl, refl) (duration_writes (f false) v)
 
@@ -95,7 +90,8 @@ module _ (rest : List ℕ) (stops : Stops rest) where
 
   time_writes : (extended : Bool) (time : ℤ) → IsTextTime extended time → Writes (tz.time extended) (spelled_time time) time rest
   unfolding spelled_time tz.time
-  time_writes extended time h = let (l, may) = time_within extended time h in
+  time_writes extended time h = let l : unsigned_abs time / 3600 ≤ time_limit extended = grind (arith, hours_within) in
+      let may : extended ≡ false → is_negative time ≡ false = grind (arith, le-ltb) in
       signed_writes _ _ time l (grind (arith, nat_tests)) extended (λ m. m) (is_negative time) may (grind (arith, ints))
 
 -- ---- the front of bytes that spell the same
@@ -250,7 +246,7 @@ unfolding tz.dst_offset tz.next_hour tz.given_offset tz.more
 dst_offset_writes std dst rest h =
     let first : Begins 45 57 ((spelled_offset dst ++ (comma ∷ [])) ++ rest) = rw append_assoc (offset_begins dst (comma ∷ rest) h) in
     by_hour (λ s. Writes (tz.dst_offset std) (s ++ (comma ∷ [])) dst rest) std dst
-    (λ v. writes_here (writes_mark refl (writes_at (rw v (writes_check (let l = h.1 in omega (arith, ints)))))))
+    (λ v. writes_here (writes_mark refl (rw v (writes_check (let l = h.1 in omega (arith, ints))))))
     (writes_here (writes_other (grind arith) (writes_first tt (inr (grind arith, (refl, refl)))
     (writes_then (offset_writes _ (comma_stops rest) dst h) (writes_first tt (inr ((λ e. cc), (refl, refl))) (writes_byte refl (writes_nothing refl)))))))
 
@@ -402,11 +398,6 @@ trimmed_or_longer (b ∷ bs) text after = inr (grind (arith, length-append))
 best_of_trimmed : (text bytes trimmed : List ℕ) → IsTrimmed bytes trimmed → Best text trimmed → Best text bytes
 best_of_trimmed text bytes trimmed t best = grind (arith, trimmed_or_longer)
 
--- a text that gives it spells the rule, but for white space at its ends
-spells_rule : (text : List ℕ) (types : List LocalType) (rule : TransitionRule) → IsPosixZone text (zone_of_rule types (Some rule))
-    → (trimmed : List ℕ) × IsTrimmed text trimmed × IsTzText false trimmed rule × (types ≡ types_of rule)
-spells_rule text types rule gives = grind arith
-
 pub written_zone : (types : List LocalType) (rule : TransitionRule) → IsRule rule → HasZoneText types (Some rule)
     → IsWrittenZone (zone_of_rule types (Some rule)) (spelled_rule rule)
 written_zone types rule fits h =
@@ -417,7 +408,7 @@ written_zone types rule fits h =
       gives = grind arith;
       pairs = rule_pairs rule fits named;
       shortest = λ other gives pairs.
-          let s = spells_rule other types rule gives in best_of_trimmed _ other s.0 s.1 ((rule_read false _ rule s.2).best (grind (arith, pairs_before, pairs_rest)));
+          let s : (trimmed : List ℕ) × IsTrimmed other trimmed × IsTzText false trimmed rule = grind arith in best_of_trimmed _ other s.0 s.1 ((rule_read false _ rule s.2).best (grind (arith, pairs_before, pairs_rest)));
     }
 
 -- ---- which zones a text gives

@@ -119,7 +119,7 @@ module _ {X : Type 0} {x : X} {rest : List ℕ} where
   pub writes_nothing : {v : X} → x ≡ v → Writes (Nothing v) [] x rest
   writes_nothing same = grind arith
 
-  pub writes_check : {P : Type 0} {test : Test P} {refusal : Refusal} → P → Writes (Check P test refusal x) [] x rest
+  pub writes_check : {place : List ℕ} {P : Type 0} {test : Test P} {refusal : Refusal} → P → Writes (At place (Check P test refusal x)) [] x rest
   writes_check h = grind arith
 
   -- the text a spells it
@@ -140,9 +140,6 @@ module _ {X : Type 0} {x : X} {rest : List ℕ} where
     -- a fault has a place, and what is spelled has none
     pub writes_here : {f : List ℕ → Grammar X} → Writes (f (a ++ rest)) a x rest → Writes (Here f) a x rest
     writes_here p = assumption
-
-    pub writes_at : {place : List ℕ} {g : Grammar X} → Writes g a x rest → Writes (At place g) a x rest
-    writes_at p = assumption
 
     pub writes_byte : {t : ℕ} {f : Unit {0} → Grammar X} → is_sign t ≡ true → Writes (f tt) a x rest → Writes (Then (Byte t) f) (t ∷ a) x rest
     writes_byte sign p = grind (arith, nat_tests)
