@@ -139,9 +139,6 @@ module _ (bytes text : List ℕ) where
   abbrev put_stands : Stands (added bytes text) text
   put_stands = record { before = bytes; after = []; whole = refl }
 
-  place_of_put : (other : List ℕ) → Ends text other → place_of other (added bytes text) + length other ≤ length bytes + length text
-  place_of_put other h = let low = place_of_stands _ other (end_stands put_stands h) in grind (arith, length-append)
-
   put_in : (other : List ℕ) → Ends text other → In (added bytes text) other
   put_in other h = grind (arith, stands_in, end_stands, put_stands)
 
@@ -283,9 +280,6 @@ module _ (last others : List ℕ) where
 abbrev Filled : List ℕ → Type 0
 Filled bytes = (bytes ≡ []) ⊎ In bytes []
 
-before_filled : (last : List ℕ) (types : List LocalType) → Filled (before_last last types)
-before_filled last types = before_keeps Filled (λ d text h. by_text d text Filled h (λ _ _. inr (put_in d text [] (ends_nothing text)))) last types (inl refl)
-
 -- ---- texts
 at_size : {bytes text : List ℕ} {place : ℕ} (s : StandsAt bytes place text) → length bytes ≡ place + length text + 1 + length s.after
 at_size s = grind (arith, length-append)
@@ -335,13 +329,10 @@ module _ (bytes last : List ℕ) where
 
   at_end : (t : LocalType) → Ends last (name_of t) → Out bytes last → length bytes + length last < 263
       → length bytes + length last < 256 + length (name_of t) → HasPlace (with_text bytes last) t
-  at_end t e out room low = grind (arith, put_is, put_in, place_of_put)
+  at_end t e out room low = let there = place_of_stands _ _ (end_stands (put_stands bytes last) e) in grind (arith, put_is, put_in, length-append)
 
 decided : {P : Type 0} (b : Bool) → Decides b P → P ⊎ (¬ P)
 decided b d = grind (arith, nat_tests)
-
-has_end : (last text : List ℕ) → ((Ends last text → ⊥) → ⊥) → Ends last text
-has_end last text h = let d = decided (ends last text) (ends_decided last text) in grind arith
 
 laid_short : (last others : List ℕ) (types : List LocalType) → HasNoZero last → Stands others last → All (Given last others) types
     → length (laid last types) ≤ length others
@@ -382,7 +373,7 @@ module _ (others : List ℕ) (m : LocalType) (sm : Served others m) where
     laid_place inside = elim (cases_lt (place_of (name_of t) bytes) (length bytes)) [
       | inl l ↦ grind (arith, kept, kept_low)
       | inr away ↦
-          let e = has_end (name_of m) (name_of t) (λ free. grind (arith, nil_from_length, ends_nothing)) in
+          let e : Ends (name_of m) (name_of t) = let d = decided _ (ends_decided (name_of m) (name_of t)) in grind (arith, nil_from_length, ends_nothing) in
           let end = end_in bytes _ _ sm.stands.ends e in let out = at_the_end in grind (arith, cases_lt)
     ]
 
@@ -396,7 +387,8 @@ module _ (others : List ℕ) (m : LocalType) (sm : Served others m) where
     places_with i d l =
         let given : All (Given (name_of m) sm.stands.before) types = λ i d l. let st = s i d l in let where_t = places i d l in grind arith in
         let p = before_passed _ _ types given in
-        laid_place _ (s i d l) (places i d l) _ p.room (before_filled _ types) (p.inside (omega arith) i d l)
+        laid_place _ (s i d l) (places i d l) _ p.room 
+        (before_keeps Filled (λ d text h. by_text d text Filled h (λ _ _. inr (put_in d text [] (ends_nothing text)))) _ types (inl refl)) (p.inside (omega arith) i d l)
 
     -- the texts are in what is laid in order
     in_order_in : All (λ t. In (laid [] types) (name_of t)) types
@@ -445,10 +437,6 @@ none_laid (t ∷ ts) others named names unplaced none =
     let text = text_found _ _ sm.stands.ends found in grind arith
 
 -- ---- places are names
-named_in : (bytes : List ℕ) (t : LocalType) → IsNameOrNone t.name → HasPlace bytes t → IsNamedIn bytes t
-named_in bytes t name h =
-    record { place = _; stands = has_text (name_of t) bytes (no_zero t.name name) h.stands; named = h.named }
-
 -- the designations that are laid
 abbrev pub AreLaid : List LocalType → List ℕ → Type 0
 AreLaid types d = HavePlaces d types × IsLaid types d × AreShortest d types
@@ -474,7 +462,10 @@ first_placed types (suc n) = elim (first_placed types n) [
 -- there are types, and each has a name
 module _ (types : List LocalType) (some : 0 < length types) (names : AreNames types) where
   shortest : (bytes : List ℕ) → HavePlaces bytes types → length bytes ≤ length (laid [] types) → AreShortest bytes types
-  shortest bytes h short = grind (arith, named_in, in_order_short)
+  shortest bytes h short =
+      let named : AreNamesIn bytes types = λ i d l. let p = h i d l in
+          record { place = _; stands = has_text _ bytes (no_zero _ (names i d l)) p.stands; named = p.named } in
+      grind (arith, in_order_short)
 
   pub laid_in_order : (bytes : List ℕ) → bytes ≡ laid [] types → HavePlaces bytes types → AreLaid types bytes
   laid_in_order bytes e h = (h, In_order h e, shortest bytes h (omega (arith, ap length e)))

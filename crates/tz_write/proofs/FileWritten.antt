@@ -298,10 +298,6 @@ module _ (rule : Option TransitionRule) (text : List ℕ) (extended : Bool) (foo
   pub needs_extensions : IsRuleOrNone rule → (extended ≡ true) ↔ NeedsExtensions rule
   needs_extensions fits = grind (arith, extensions, both_ways)
 
-text_is : (rule : Option TransitionRule) (text : List ℕ) (extended : Bool) → IsRuleOrNone rule → IsFooterText rule text extended
-    → IsPlain text × SaysRule extended text rule
-text_is rule text extended fits h = grind (arith, rule_named, rule_text, text_begins, text_are)
-
 footer_some : (rule : Option TransitionRule) → IsRuleOrNone rule → IsSpellableOrNone rule
     → (text : List ℕ) × (extended : Bool) × IsFooterText rule text extended
 footer_some (Some rule) fits h = text_some rule fits h
@@ -315,7 +311,7 @@ has_version extended text d z = record { first = refl; second = refl }
 module _ (z : Zone) (some : 0 < length z.types) (fits : IsRuleOrNone z.rule) (sound : IsSound z) where
   pub written_is : (d text : List ℕ) (extended : Bool) (bytes : List ℕ) → HasCounts z → AreLaid z.types d → IsFooterText z.rule text extended
       → bytes ≡ file_bytes extended text d z → IsWrittenFile z bytes
-  written_is d text extended bytes counts laid footer e = let p = text_is z.rule text extended fits footer in record {
+  written_is d text extended bytes counts laid footer e = let p : IsPlain text × SaysRule extended text z.rule = grind (arith, rule_named, rule_text, text_begins, text_are) in record {
     spells = rw e (file_is extended text d z (laid_size _ _ laid.1) counts some laid.0 sound p.0 p.1);
     text = _;
     extended = _;

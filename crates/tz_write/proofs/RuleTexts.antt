@@ -395,9 +395,6 @@ trimmed_or_longer [] text [] = inl (append-nil text)
 trimmed_or_longer [] text (c ∷ cs) = inr (grind (arith, length-append))
 trimmed_or_longer (b ∷ bs) text after = inr (grind (arith, length-append))
 
-best_of_trimmed : (text bytes trimmed : List ℕ) → IsTrimmed bytes trimmed → Best text trimmed → Best text bytes
-best_of_trimmed text bytes trimmed t best = grind (arith, trimmed_or_longer)
-
 pub written_zone : (types : List LocalType) (rule : TransitionRule) → IsRule rule → HasZoneText types (Some rule)
     → IsWrittenZone (zone_of_rule types (Some rule)) (spelled_rule rule)
 written_zone types rule fits h =
@@ -408,7 +405,8 @@ written_zone types rule fits h =
       gives = grind arith;
       pairs = rule_pairs rule fits named;
       shortest = λ other gives pairs.
-          let s : (trimmed : List ℕ) × IsTrimmed other trimmed × IsTzText false trimmed rule = grind arith in best_of_trimmed _ other s.0 s.1 ((rule_read false _ rule s.2).best (grind (arith, pairs_before, pairs_rest)));
+          let s : (trimmed : List ℕ) × IsTrimmed other trimmed × IsTzText false trimmed rule = grind arith in 
+          let best = (rule_read false _ rule s.2).best (grind (arith, pairs_before, pairs_rest)) in grind (arith, trimmed_or_longer);
     }
 
 -- ---- which zones a text gives
