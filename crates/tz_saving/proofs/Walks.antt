@@ -16,10 +16,6 @@ module _ (f : ℤ → LocalType → Type 0) where
   wider zero v w a b l m h = tt
   wider (suc n) v w a b l m (d, is, from, to, rest) = (d, is, omega (arith, ints), omega (arith, ints), wider n v w _ _ l (omega (arith, ints)) rest)
 
-  has_none : (forward : Bool) (n : ℕ) (v : ℤ) → HasBetween forward f (suc n) v v → ⊥
-  unfolding HasChanges
-  has_none forward n v h = grind (arith, ints)
-
   has_one : (forward : Bool) (r : ℤ) (c : Change) → IsChange f c → IsBeyond forward r c.at → HasBetween forward f 1 r (far_second forward c.at)
   unfolding HasChanges
   has_one forward r c is l = grind (arith, ints)
@@ -46,10 +42,6 @@ module _ (f : ℤ → LocalType → Type 0) where
   steps true n r v c next = (on_drops r c next n v, on_adds r c next n v)
   steps false n r v c last = back n r v c last
 
--- one of the changes that are left
-one_less : (left : ℕ) → 0 < left → left ≡ suc (left - 1)
-one_less left some = omega arith
-
 past : (forward : Bool) (x y : ℤ) → Precedes forward x y → x ≢ y → IsBeyond forward (far_second forward x) y
 past forward x y l other = grind (arith, ints)
 
@@ -59,7 +51,7 @@ module _ (z : Zone) (forward : Bool) (wanted : LocalType → Type 0) (u r : ℤ)
   module _ (left : ℕ) (some : 0 < left) (c : Change) (h : IsWalkedTo forward (TypeAt z) wanted left u r)
       (next : IsNearestChange forward (TypeAt z) (IsBeyond forward r) c) where
     left_far : (v : ℤ) → HasBetween forward (TypeAt z) (suc (left - 1)) (far_second forward c.at) v ↔ HasBetween forward (TypeAt z) (suc reach) u v
-    left_far v = let both = (rw (one_less left some) at h.reach_left) v in grind (arith, steps)
+    left_far v = let e : left ≡ suc (left - 1) = omega arith in let both = (rw e at h.reach_left) v in grind (arith, steps)
 
     pub goes : (wanted (far_type forward c) → ⊥) → IsWalkedTo forward (TypeAt z) wanted (left - 1) u (far_second forward c.at)
     goes other = record {
@@ -69,9 +61,10 @@ module _ (z : Zone) (forward : Bool) (wanted : LocalType → Type 0) (u r : ℤ)
     }
 
     pub turns : wanted (far_type forward c) → IsNearestTurn forward (TypeAt z) wanted u c
+    unfolding HasChanges
     turns to = record {
       turn = record { is = next.is; to = to; beyond = grind (arith, ints, next.inside) };
-      near = λ k. has_none (TypeAt z) forward (left - 1) _ ((left_far _).1 k);
+      near = λ k. let some = (left_far _).1 k in grind (arith, ints);
       first = λ d t. next.nearest d t.is (h.later d t);
     }
 

@@ -132,7 +132,7 @@ abbrev end_stands : {bytes text other : List ℕ} → Stands bytes text → Ends
 end_stands s h = record { before = s.before ++ h.front; after = s.after; whole = grind (arith, append_assoc) }
 
 abbrev ends_nothing : (text : List ℕ) → Ends text []
-ends_nothing text = record { front = text; is = sym (append-nil text) }
+ends_nothing text = record { front = _; is = sym (append-nil text) }
 
 -- the bytes of designations, and a text that may be put in
 module _ (bytes text : List ℕ) where

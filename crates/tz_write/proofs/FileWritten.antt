@@ -222,13 +222,9 @@ values (Here f) bytes x rest h b = let (v, c) = values (f bytes) bytes x rest h 
 values (At place g) bytes x rest h b = values g bytes x rest h b
 
 -- ---- counts
-number_fits : (n : ℕ) → Values be_u32 n → n < 2 ^ 32
-unfolding be_u32
-number_fits n (four, (all, size), value) = grind arith
-
 header_fits : (place : Place) (h : Header) → Values (header place) h → CountsFit h.counts
-unfolding header six_counts
-header_fits place h (_, _, (_, _, (_, _, (_, (c, (i, j, (k, l, (m, n, (o, p, (q, r, (s, t, value)))))), (_, is)))))) = grind (arith, number_fits)
+unfolding header six_counts be_u32
+header_fits place h (_, _, (_, _, (_, _, (_, (c, (i, j, (k, l, (m, n, (o, p, (q, r, (s, t, value)))))), (_, is)))))) = grind arith
 
 -- ---- blocks and pieces
 same_factor : (a b c : ℕ) → 0 < c → a * c ≡ b * c → a ≡ b
@@ -263,14 +259,11 @@ unfolding file
 pieces_limits bytes p h b = grind (arith, values, after_limits, header_fits)
 
 -- ---- names
-type_named : (designations bytes : List ℕ) (t : LocalType) → length bytes ≡ 6 → AreBytes bytes → SpellsType designations bytes t → IsNamedIn designations t
-type_named designations bytes t size b h = record { place = _; stands = grind arith; named = b 5 0 (omega arith) }
-
 types_named : (designations part : List ℕ) (types : List LocalType) → SpellTypes designations part types → AreBytes part → AreNamesIn designations types
 types_named designations part [] h b = All-nil (IsNamedIn designations)
 types_named designations part (t ∷ ts) h b =
     let whole = rw h.2 at b in
-    All-cons (IsNamedIn designations) t ts (type_named _ h.0 t h.3 (front h.0 _ whole) h.4) (types_named _ h.1 ts h.5 (behind h.0 _ whole))
+    All-cons (IsNamedIn designations) t ts (record { place = _; stands = let spelled = h.4 in grind arith; named = front h.0 _ whole 5 0 (omega (arith, h.3)) }) (types_named _ h.1 ts h.5 (behind h.0 _ whole))
 
 pub writable : (bytes : List ℕ) (z : Zone) → AreBytes bytes → IsTzFile bytes z → IsWritable z
 writable bytes z b (p, pieces, say) =

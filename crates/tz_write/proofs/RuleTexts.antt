@@ -47,15 +47,11 @@ offset_begins east rest h = grind (arith, clock_begins, hours_within)
 
 -- ---- what is written before a rest that ends it
 module _ (rest : List ℕ) (stops : Stops rest) where
-  seconds_writes : (s : ℕ) → s ≤ 59 → Writes tz.seconds (spelled_seconds s) s rest
-  unfolding tz.seconds
-  seconds_writes s h = grind (arith, writes_optional, writes_colon, two_digits, pair_writes)
-
   minutes_writes : (m s : ℕ) → m ≤ 59 → s ≤ 59 → Writes tz.optional_minutes (spelled_minutes m s) (m, s) rest
-  unfolding tz.optional_minutes tz.minutes_seconds
+  unfolding tz.optional_minutes tz.minutes_seconds tz.seconds
   minutes_writes m s a b = let stop = first_optional is_digit (s == 0) colon _ rest refl stops.0 in
       writes_optional ((m == 0) && (s == 0)) (grind (arith, nat_tests)) stops.1 (λ _. writes_colon (two_digits m _ (omega arith) stop)
-      (writes_then (pair_writes (omega arith) stop (omega arith)) (writes_last (seconds_writes s b) (refl, refl))))
+      (writes_then (pair_writes (omega arith) stop (omega arith)) (writes_last (grind (arith, writes_optional, writes_colon, two_digits, pair_writes)) (refl, refl))))
 
   hours_writes : (h m s : ℕ) → h ≤ clock_max → m ≤ 59 → s ≤ 59 → Writes tz.hours_minutes_seconds (spelled_hands h m s) (h, m, s) rest
   unfolding tz.hours_minutes_seconds
