@@ -93,18 +93,14 @@ abbrev version_of : Bool → Version
 version_of true = Three
 version_of false = Two
 
-version_is : (place : Place) (extended : Bool) (rest : List ℕ) → Spells (version place) (version_byte extended ∷ rest) (version_of extended) rest
-unfolding version
-version_is place extended rest = grind arith
-
 header_is : (place : Place) (extended : Bool) (c : Counts) (rest : List ℕ) → CountsFit c → CountsAgree c
     → Spells (header place) (header_bytes extended c ++ rest) (record { version = version_of extended; counts = c }) rest
-unfolding header_bytes header tzif
+unfolding header_bytes header tzif version
 header_is place extended c rest fit agree = (
   tt,
   _,
   (magic, _, (refl, refl), (refl, refl, refl)),
-  (_, _, version_is place extended _, (unused, _, (refl, refl), (_, _, counts_are c rest fit, (agree, refl, refl)))),
+  (version_of extended, unused ++ (counts_bytes c ++ rest), grind arith, (unused, _, (refl, refl), (_, _, counts_are c rest fit, (agree, refl, refl)))),
 )
 
 -- ---- footers
@@ -157,9 +153,6 @@ after_is extended c p rest pieces h = grind arith
 -- a zone that has types, and designations that have their places
 module _ (extended : Bool) (text d : List ℕ) (z : Zone) (size : length d ≤ 263) (counts : HasCounts z) (some : 0 < length z.types)
     (places : HavePlaces d z.types) (sound : IsSound z) where
-  zone_agree : CountsAgree (zone_counts d z)
-  zone_agree = grind (arith, some_designations)
-
   second_block : (rest : List ℕ) → Spells (block 8 (zone_counts d z)) (block_bytes (zone_parts d z) rest) (zone_parts d z) rest
   unfolding block
   second_block rest =
@@ -169,7 +162,7 @@ module _ (extended : Bool) (text d : List ℕ) (z : Zone) (size : length d ≤ 2
   second_is : Spells later_version (second_half extended text d z) (pieces_of extended text d z) []
   unfolding second_half pieces_of later_version
   second_is =
-      (_, _, header_is Second extended _ _ (grind arith) zone_agree, (_, _, second_block (footer_bytes text), (_, [], (refl, refl), (refl, refl))))
+      (_, _, header_is Second extended _ _ (grind arith) (grind (arith, some_designations)), (_, _, second_block (footer_bytes text), (_, [], (refl, refl), (refl, refl))))
 
   -- ---- the whole
   file_pieces : HasPieces (file_bytes extended text d z) (pieces_of extended text d z)
@@ -254,10 +247,6 @@ unfolding after_first_block first_version
 after_limits One c parts p (_, _, value) fit first = rw value (block_limits _ 4 _ _ _ fit first)
 after_limits v c parts p h fit first = later_limits p h
 
-pieces_limits : (bytes : List ℕ) (p : FilePieces) → HasPieces bytes p → AreBytes bytes → Limits p
-unfolding file
-pieces_limits bytes p h b = grind (arith, values, after_limits, header_fits)
-
 -- ---- names
 types_named : (designations part : List ℕ) (types : List LocalType) → SpellTypes designations part types → AreBytes part → AreNamesIn designations types
 types_named designations part [] h b = All-nil (IsNamedIn designations)
@@ -266,8 +255,9 @@ types_named designations part (t ∷ ts) h b =
     All-cons (IsNamedIn designations) t ts (record { place = _; stands = let spelled = h.4 in grind arith; named = front h.0 _ whole 5 0 (omega (arith, h.3)) }) (types_named _ h.1 ts h.5 (behind h.0 _ whole))
 
 pub writable : (bytes : List ℕ) (z : Zone) → AreBytes bytes → IsTzFile bytes z → IsWritable z
+unfolding file
 writable bytes z b (p, pieces, say) =
-    let limits = pieces_limits bytes p pieces b in
+    let limits : Limits p = grind (arith, values, after_limits, header_fits) in
     let indexes = ap length say.transitions.indexes_are ∙ length-map _ _ in
     let types = records_length _ _ p.parts.types z.types say.types in
     let leaps = records_length _ _ p.parts.leap_seconds z.leaps say.leaps in

@@ -265,7 +265,7 @@ unfolding tz.text tz.rule tz.fixed tz.alternate tz.named tz.days tz.end
 rule_read extended bytes rule (name, after, n, (east, end, o, inl (none, (t, _, (fits, is, _), (value, _))))) = rw (value, is) (record {
   named = ((name, assumption), offset_fits after east end o);
   plain = λ _. tt;
-  best = front_whole (front_then (name_front name n) (rw none at (offset_front east o)));
+  best = front_whole (front_then (name_front _ n) (rw none at (offset_front _ o)));
 })
 rule_read extended bytes rule (name, after, n, (east, end, o, inr (_, (dst_name, at_dst, d, (dst_east, at_days, f, (days, last, said, ends)))))) =
     let (start, at_comma, p, (_, at_end, c, (stop, fin, q, (both, same)))) = said in
@@ -274,9 +274,9 @@ rule_read extended bytes rule (name, after, n, (east, end, o, inr (_, (dst_name,
     rw (value, s_is, t_is, both) (record {
       named = ((name, assumption), (dst_name, assumption));
       plain = λ e. (day_times _ _ _ _ p e, day_times _ _ _ _ q e);
-      best = front_whole (front_then (front_then (name_front name n) (offset_front east o)) (front_then (name_front dst_name d)
-          (front_then (dst_offset_front east dst_east f) (front_cons refl (front_then (day_front extended start p)
-          (front_cons c (rw (same ∙ none) at (day_front extended stop q))))))));
+      best = front_whole (front_then (front_then (name_front _ n) (offset_front _ o)) (front_then (name_front _ d)
+          (front_then (dst_offset_front _ _ f) (front_cons refl (front_then (day_front _ _ p)
+          (front_cons c (rw (same ∙ none) at (day_front _ _ q))))))));
     })
 
 pub rule_named : (extended : Bool) (bytes : List ℕ) (rule : TransitionRule) → IsTzText extended bytes rule → CanBeSpelled rule
@@ -351,7 +351,7 @@ module _ (rule : TransitionRule) (fits : IsRule rule) where
     rule_spelled extended times = grind (arith, append-nil, rule_writes)
 
     rule_pairs : AreInPairs (spelled_rule rule)
-    rule_pairs = rw append-nil at ((rule_writes true rule fits named times_extended).pairs tt)
+    rule_pairs = grind (arith, append-nil, rule_writes true rule fits named times_extended)
 
     pub text_are : AreTextBytes (spelled_rule rule)
     text_are = grind (arith, rule_writes, times_extended)
