@@ -5,10 +5,10 @@ use Rattle.tz_base.proofs.RunLaws.{all_of}
 use Rattle.tz_write.proofs.{
   TextBytes.{names_are, no_zeros},
   Words.{All, All-cons, All-nil, All-weaker, AreNamesIn, AreNotPlacedBefore, AreShortest, Bool, Decides, Decides-by_and, Decides-eqb, HasNoZero, HasPlace},
-  Words.{HavePlaces, IsNameOrNone, IsNamedIn, List, LocalType, MatchOption, Option, StandsAt, [], ap, append-nil, append_assoc, arith, before_last},
-  Words.{before_zero, begins, cases_lt, drop, drop-append_seam, drop_more, ends, ends_is, eq-eqb, get_or, get_or_at, inl, inr, laid, length, length-append},
-  Words.{list_all, name_of, name_or_none, nat_eq, nat_lt, nat_tests, nil_from_length, place_of, refl, starts_is, starts_with, suc, sym, take, true, with_text},
-  Words.{with_text_of, with_texts, zero, ℕ, ◌&&◌, ◌*◌, ◌++◌, ◌+◌, ◌<◌, ◌∷◌, ◌≡◌, ◌≤◌, ◌⊎◌},
+  Words.{HavePlaces, IsNameOrNone, List, LocalType, MatchOption, Option, StandsAt, [], ap, append-nil, append_assoc, arith, before_last, before_zero, begins},
+  Words.{cases_lt, drop, drop-append_seam, drop_more, ends, ends_is, eq-eqb, get_or, get_or_at, inl, inr, laid, length, length-append, list_all, name_of},
+  Words.{name_or_none, nat_eq, nat_lt, nat_tests, nil_from_length, place_of, refl, starts_is, starts_with, suc, sym, take, true, with_text, with_text_of},
+  Words.{with_texts, zero, ℕ, ◌&&◌, ◌*◌, ◌++◌, ◌+◌, ◌<◌, ◌∷◌, ◌≡◌, ◌≤◌, ◌⊎◌},
 }
 use Rattle.tz_write.specs.FileLayouts.{ArePlaced, In_order, IsFirstPlaced, IsLaid, IsPlacedFrom, laid_from, text_at}
 use borrow.Author.Count.{below_more}
@@ -387,8 +387,9 @@ module _ (others : List ℕ) (m : LocalType) (sm : Served others m) where
     places_with i d l =
         let given : All (Given (name_of m) sm.stands.before) types = λ i d l. let st = s i d l in let where_t = places i d l in grind arith in
         let p = before_passed _ _ types given in
-        laid_place _ (s i d l) (places i d l) _ p.room 
-        (before_keeps Filled (λ d text h. by_text d text Filled h (λ _ _. inr (put_in d text [] (ends_nothing text)))) _ types (inl refl)) (p.inside (omega arith) i d l)
+        laid_place _ (s i d l) (places i d l) _ p.room
+        (before_keeps Filled (λ d text h. by_text d text Filled h (λ _ _. inr (put_in d text [] (ends_nothing text)))) _ types (inl refl))
+        (p.inside (omega arith) i d l)
 
     -- the texts are in what is laid in order
     in_order_in : All (λ t. In (laid [] types) (name_of t)) types
@@ -436,7 +437,6 @@ none_laid (t ∷ ts) others named names unplaced none =
     let placed = placed_with _ m sm types s above found in
     let text = text_found _ _ sm.stands.ends found in grind arith
 
--- ---- places are names
 -- the designations that are laid
 abbrev pub AreLaid : List LocalType → List ℕ → Type 0
 AreLaid types d = HavePlaces d types × IsLaid types d × AreShortest d types
@@ -453,10 +453,12 @@ first_placed : (types : List LocalType) (place : ℕ) → AreNotPlacedBefore typ
 first_placed types zero = inl (grind arith)
 first_placed types (suc n) = elim (first_placed types n) [
   | inr f ↦ inr f
-  | inl none ↦ let places = places_or_not (laid_from types n) types in let placed : IsPlacedFrom types n ⊎ (¬ (IsPlacedFrom types n)) = grind (arith, cases_lt) in elim placed [
-    | inl h ↦ inr (_, record { place = n; placed = h; laid_is = refl; first = none })
-    | inr not ↦ inl (grind (arith, below_more))
-  ]
+  | inl none ↦
+      let places = places_or_not (laid_from types n) types in
+      let placed : IsPlacedFrom types n ⊎ (¬ (IsPlacedFrom types n)) = grind (arith, cases_lt) in elim placed [
+        | inl h ↦ inr (_, record { place = n; placed = h; laid_is = refl; first = none })
+        | inr not ↦ inl (grind (arith, below_more))
+      ]
 ]
 
 -- there are types, and each has a name

@@ -9,13 +9,13 @@ use Rattle.tz_write.proofs.{
   Words.{All, All-cons, All-more, All-nil, All-tail, AreBytes, AreNamesIn, Bool, Counts, CountsAgree, FilePieces, Fits-of_z, HasCounts, HasPieces, HasPlace},
   Words.{HasTimeOf64Bits, HavePlaces, Header, IsAscii-from_all, IsEntry, IsFooter, IsNamedIn, IsRoomOf, IsRuleOrNone, IsSound, IsType, IsTzFile},
   Words.{IsUtf8-from_ascii, IsWritable, LeapSecond, List, LocalType, None, Option, Parts, Place, Room, SaysRule, Some, SpellTransitions, SpellTypes, Spells},
-  Words.{SpellsLeapSecond, SpellsType, Transition, TransitionRule, Version, Zone, [], after_first_block, ap, arith, be_u32, block, both_ways, counts_bytes},
-  Words.{counts_test, false, file, file_bytes, first_half, first_version, flat_map, flat_map_more, from_be_bytes-to_be_bytes_4, from_be_bytes-to_be_bytes_8},
-  Words.{get_or, get_or_append_left, header, header_bytes, index_bytes, inl, inr, later_pieces, later_version, leap_bytes, length, length-append, length-map},
-  Words.{magic, number_bytes, refl, second_half, signed, signed_bytes, six_counts, subst, suc, sym, take, time_bytes, true, type_bytes, tzif, version, ℕ, ℤ},
-  Words.{◌*◌, ◌++◌, ◌+◌, ◌<◌, ◌^◌, ◌↔◌, ◌∙◌, ◌∷◌, ◌≡◌, ◌≢◌, ◌≤◌, ◌⊎◌},
+  Words.{SpellsLeapSecond, Transition, TransitionRule, Version, Zone, [], after_first_block, ap, arith, be_u32, block, both_ways, counts_bytes, counts_test},
+  Words.{false, file, file_bytes, first_half, first_version, flat_map, flat_map_more, from_be_bytes-to_be_bytes_4, from_be_bytes-to_be_bytes_8, get_or},
+  Words.{get_or_append_left, header, header_bytes, index_bytes, inl, inr, later_pieces, later_version, leap_bytes, length, length-append, length-map, magic},
+  Words.{number_bytes, refl, second_half, signed, signed_bytes, six_counts, subst, suc, sym, take, time_bytes, true, type_bytes, tzif, version, ℕ, ℤ, ◌*◌},
+  Words.{◌++◌, ◌+◌, ◌<◌, ◌^◌, ◌↔◌, ◌∙◌, ◌∷◌, ◌≡◌, ◌≢◌, ◌≤◌, ◌⊎◌},
 }
-use Rattle.tz_write.specs.FileBytes.{block_bytes, footer_bytes, least_block, least_counts, unused, version_byte, zone_counts, zone_parts}
+use Rattle.tz_write.specs.FileBytes.{block_bytes, footer_bytes, least_block, least_counts, unused, zone_counts, zone_parts}
 use Rattle.tz_write.specs.WrittenFiles.{HaveVersion, IsFooterText, IsInNoFile, IsSpellableOrNone, IsWrittenFile, NeedsExtensions}
 
 -- a count
@@ -162,7 +162,8 @@ module _ (extended : Bool) (text d : List ℕ) (z : Zone) (size : length d ≤ 2
   second_is : Spells later_version (second_half extended text d z) (pieces_of extended text d z) []
   unfolding second_half pieces_of later_version
   second_is =
-      (_, _, header_is Second extended _ _ (grind arith) (grind (arith, some_designations)), (_, _, second_block (footer_bytes text), (_, [], (refl, refl), (refl, refl))))
+      (_, _, header_is Second extended _ _ (grind arith) (grind (arith, some_designations)),
+      (_, _, second_block (footer_bytes text), (_, [], (refl, refl), (refl, refl))))
 
   -- ---- the whole
   file_pieces : HasPieces (file_bytes extended text d z) (pieces_of extended text d z)
@@ -252,7 +253,9 @@ types_named : (designations part : List ℕ) (types : List LocalType) → SpellT
 types_named designations part [] h b = All-nil (IsNamedIn designations)
 types_named designations part (t ∷ ts) h b =
     let whole = rw h.2 at b in
-    All-cons (IsNamedIn designations) t ts (record { place = _; stands = let spelled = h.4 in grind arith; named = front h.0 _ whole 5 0 (omega (arith, h.3)) }) (types_named _ h.1 ts h.5 (behind h.0 _ whole))
+    All-cons (IsNamedIn designations) t ts
+    (record { place = _; stands = let spelled = h.4 in grind arith; named = front h.0 _ whole 5 0 (omega (arith, h.3)) })
+    (types_named _ h.1 ts h.5 (behind h.0 _ whole))
 
 pub writable : (bytes : List ℕ) (z : Zone) → AreBytes bytes → IsTzFile bytes z → IsWritable z
 unfolding file
@@ -294,7 +297,8 @@ has_version extended text d z = record { first = refl; second = refl }
 module _ (z : Zone) (some : 0 < length z.types) (fits : IsRuleOrNone z.rule) (sound : IsSound z) where
   pub written_is : (d text : List ℕ) (extended : Bool) (bytes : List ℕ) → HasCounts z → AreLaid z.types d → IsFooterText z.rule text extended
       → bytes ≡ file_bytes extended text d z → IsWrittenFile z bytes
-  written_is d text extended bytes counts laid footer e = let p : IsPlain text × SaysRule extended text z.rule = grind (arith, rule_named, rule_text, text_begins, text_are) in record {
+  written_is d text extended bytes counts laid footer e =
+    let p : IsPlain text × SaysRule extended text z.rule = grind (arith, rule_named, rule_text, text_begins, text_are) in record {
     spells = rw e (file_is extended text d z (laid_size _ _ laid.1) counts some laid.0 sound p.0 p.1);
     text = _;
     extended = _;

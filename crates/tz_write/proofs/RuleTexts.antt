@@ -12,15 +12,14 @@ use Rattle.tz_write.proofs.{
   Words.{and_parts, ap, append-nil, append_assoc, arith, both_ways, clock_max, colon, comma, cond, false, greater, inl, inr, int_eq, ints, is_digit, is_letter},
   Words.{is_name_byte, is_not_greater, le-ltb, length, length-append, less, list_all, minus, name_of, name_or_none, named_type, nat_tests, neg_ℤ, not},
   Words.{offset_fits, pos, refl, slash, spelled_clock, spelled_date, spelled_day, spelled_dst_offset, spelled_name, spelled_offset, spelled_pair, spelled_rule},
-  Words.{spelled_time, time_after, time_limit, true, types_of, unsigned_abs, zone_of_rule, ℕ, ℤ, ◌%◌, ◌&&◌, ◌*◌, ◌++◌, ◌+ℤ◌, ◌+◌, ◌/◌, ◌<ℤ◌, ◌<◌, ◌==◌, ◌↔◌},
-  Words.{◌∙◌, ◌∷◌, ◌≡◌, ◌≤◌, ◌⊎◌},
+  Words.{spelled_time, time_after, time_limit, true, unsigned_abs, zone_of_rule, ℕ, ℤ, ◌%◌, ◌&&◌, ◌*◌, ◌++◌, ◌+ℤ◌, ◌+◌, ◌/◌, ◌<ℤ◌, ◌<◌, ◌==◌, ◌↔◌, ◌∙◌, ◌∷◌},
+  Words.{◌≡◌, ◌≤◌, ◌⊎◌},
 }
 use Rattle.tz_write.specs.Steps.TextPieces.{is_negative, is_positive, spelled_hands, spelled_minutes, spelled_seconds, spelled_signed}
 use Rattle.tz_info.specs.TzGrammar as tz
 use Rattle.tz_info.specs.declared.rule.transition_rule.TransitionRule.TheVariants as rules
 
 -- ---- offsets and times of day
-
 -- nothing that goes on with an offset, a day or a time
 abbrev Stops : List ℕ → Type 0
 Stops rest = NoneFirst is_digit rest × Without colon rest × Without slash rest
@@ -51,7 +50,8 @@ module _ (rest : List ℕ) (stops : Stops rest) where
   unfolding tz.optional_minutes tz.minutes_seconds tz.seconds
   minutes_writes m s a b = let stop = first_optional is_digit (s == 0) colon _ rest refl stops.0 in
       writes_optional ((m == 0) && (s == 0)) (grind (arith, nat_tests)) stops.1 (λ _. writes_colon (two_digits m _ (omega arith) stop)
-      (writes_then (pair_writes (omega arith) stop (omega arith)) (writes_last (grind (arith, writes_optional, writes_colon, two_digits, pair_writes)) (refl, refl))))
+      (writes_then (pair_writes (omega arith) stop (omega arith))
+      (writes_last (grind (arith, writes_optional, writes_colon, two_digits, pair_writes)) (refl, refl))))
 
   hours_writes : (h m s : ℕ) → h ≤ clock_max → m ≤ 59 → s ≤ 59 → Writes tz.hours_minutes_seconds (spelled_hands h m s) (h, m, s) rest
   unfolding tz.hours_minutes_seconds
@@ -138,7 +138,6 @@ unfolding tz.time tz.time_sign tz.duration
 time_plain bytes time rest (negative, _, sign, ((h, m, s), _, _, ((a, b, c), value, _))) = grind (arith, ints, nat_tests)
 
 -- ---- names
-
 -- the test p passes on each byte
 module _ (p : ℕ → Bool) where
   all_from : (bs : List ℕ) → list_all p bs ≡ true → AllOf p bs
@@ -361,7 +360,9 @@ module _ (rule : TransitionRule) (fits : IsRule rule) where
     written plain is = grind (arith, rule_spelled, rule_pairs, rule_read)
 
     text_is : (needed : Bool) × IsWrittenText rule (spelled_rule rule) needed
-    text_is = let p : (AreTimesOf false rule) ⊎ (¬ (AreTimesOf false rule)) = grind (arith, ints) in elim p [ inl p ↦ (false, grind (arith, written true)) | inr n ↦ (true, grind (arith, written false)) ]
+    text_is =
+      let p : (AreTimesOf false rule) ⊎ (¬ (AreTimesOf false rule)) = grind (arith, ints) in
+      elim p [ inl p ↦ (false, grind (arith, written true)) | inr n ↦ (true, grind (arith, written false)) ]
 
     pub text_some : (text : List ℕ) × (needed : Bool) × IsWrittenText rule text needed
     text_some = let s = text_is in (spelled_rule rule, s.0, s.1)
@@ -401,7 +402,7 @@ written_zone types rule fits h =
       gives = grind arith;
       pairs = rule_pairs rule fits named;
       shortest = λ other gives pairs.
-          let s : (trimmed : List ℕ) × IsTrimmed other trimmed × IsTzText false trimmed rule = grind arith in 
+          let s : (trimmed : List ℕ) × IsTrimmed other trimmed × IsTzText false trimmed rule = grind arith in
           let best = (rule_read false _ rule s.2).best (grind (arith, pairs_before, pairs_rest)) in grind (arith, trimmed_or_longer);
     }
 

@@ -10,7 +10,6 @@ use Rattle.tz_write.proofs.{
 }
 
 -- ---- the front of bytes compared with a text
-
 -- the front is the text, or longer
 abbrev pub Best : List ℕ → List ℕ → Type 0
 Best text front = (front ≡ text) ⊎ (length text < length front)
@@ -67,7 +66,6 @@ module _ {t : ℕ} {a bytes after rest : List ℕ} (e : bytes ≡ t ∷ after) (
   front_longer = front_then (front_any (front_byte e)) p
 
 -- ---- bytes of texts
-
 -- a letter, a digit or one of the signs
 abbrev is_text_byte : ℕ → Bool
 is_text_byte b = is_name_byte b || (b == comma) || (b == dot) || (b == slash) || (b == colon) || (b == less) || (b == greater)
