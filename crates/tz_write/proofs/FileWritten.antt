@@ -262,14 +262,14 @@ unfolding file
 writable bytes z b (p, pieces, say) =
     let limits : Limits p = grind (arith, values, after_limits, header_fits) in
     let indexes = ap length say.transitions.indexes_are ∙ length-map _ _ in
-    let types = records_length _ _ p.parts.types z.types say.types in
-    let leaps = records_length _ _ p.parts.leap_seconds z.leaps say.leaps in
+    let types = records_length _ _ _ _ say.types in
+    let leaps = records_length _ _ _ _ say.leaps in
     record {
       room = record {
         counts = record { transitions = omega arith; types = omega arith; leaps = limits.leaps_fit _ leaps };
         indexes = λ i d l. subst IsByte (get_or-map (λ (t : Transition). t.type_index) z.transitions i d 0 l)
             ((rw say.transitions.indexes_are at limits.indexes) i 0 (omega (arith, length-map z.transitions (λ t. t.type_index))));
-        designations = p.parts.designations;
+        designations = _;
         names = types_named _ _ _ say.types limits.types;
       };
       rule = grind (arith, rule_named);

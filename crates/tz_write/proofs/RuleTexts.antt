@@ -319,8 +319,8 @@ rule_writes extended (rules.Alternate a) fits ((m, s), (n, d)) (start, end) =
     (writes_more (grind (arith, append_assoc, name_begins))
     (writes_here
     (writes_then (name_writes n _ d.allowed (grind (arith, append_assoc, dst_ends_name)))
-    (rw (← append_assoc (spelled_dst_offset std dst) (comma ∷ []) (days_of a)) (writes_then (dst_offset_writes std dst (days_of a ++ []) fits.within.dst_offset)
-    (writes_last (days_write extended a fits start end) (
+    (rw (← append_assoc (spelled_dst_offset std dst) (comma ∷ []) (days_of a)) (writes_then (dst_offset_writes std dst _ fits.within.dst_offset)
+    (writes_last (days_write _ a fits start end) (
       tt,
       [],
       inl (refl, (refl, refl)),
