@@ -1,19 +1,22 @@
--- A second has one amount.
-use Rattle.tz_saving.proofs.Words.{Change, IsAmount, IsByCandidates, IsFlaggedAmount, IsNextCandidate, IsNextUse, IsSavingAt, LocalType, Option, Saving}
-use Rattle.tz_saving.proofs.Words.{TransitionRule, TypeAt, Zone, ap, arith, ints, sym, type_once, ℤ, ◌-ℤ◌, ◌∙◌, ◌≡◌}
-use Rattle.tz_saving.proofs.SideLaws.{only_once, candidates_once}
+-- A second has one amount, which is what the code finds.
+use Rattle.tz_saving.proofs.{
+  SideLaws.{candidates_once, only_once, the_found},
+  Words.{AreCandidates, At_a_second, Change, HasNoStandard, IsAfter, IsAmount, IsByCandidates, IsFlaggedAmount, IsFound, IsNextCandidate, IsNextUse, IsOfTwo},
+  Words.{IsOnly, IsRuleStandard, IsSavingAt, IsSoonAfter, LocalType, None, Of_rule, Option, Saving, Some, TransitionRule, TypeAt, Zone, ap, arith, ints, sym},
+  Words.{type_once, ℤ, ◌-ℤ◌, ◌∙◌, ◌≡◌},
+}
 
 -- there is one amount by the candidates
 by_candidates_once : (is_next : ℤ → Type 0) (once : (x y : ℤ) → is_next x → is_next y → x ≡ y) (p q : Option ℤ) (a b : ℤ) → IsByCandidates is_next p q a
     → IsByCandidates is_next p q b → a ≡ b
 by_candidates_once is_next once p q a b h k = grind arith
 
-pub next_once : (f : ℤ → LocalType → Type 0) (t : LocalType) (u : ℤ) (c d : Change) → IsNextUse f t u c → IsNextUse f t u d → c.at ≡ d.at
+next_once : (f : ℤ → LocalType → Type 0) (t : LocalType) (u : ℤ) (c d : Change) → IsNextUse f t u c → IsNextUse f t u d → c.at ≡ d.at
 next_once f t u c d h k = omega (arith, ints, h.first d k.is k.to k.later, k.first c h.is h.to h.later)
 
 -- a second has one type
 module _ (f : ℤ → LocalType → Type 0) (one : (u : ℤ) (s t : LocalType) → f u s → f u t → s ≡ t) (rule : Option TransitionRule) where
-  pub next_candidate_once : (t : LocalType) (u a b : ℤ) → IsNextCandidate f rule t u a → IsNextCandidate f rule t u b → a ≡ b
+  next_candidate_once : (t : LocalType) (u a b : ℤ) → IsNextCandidate f rule t u a → IsNextCandidate f rule t u b → a ≡ b
   next_candidate_once t u a b h k =
       let same = next_once f t u h.change k.change h.next k.next in
       let both = candidates_once f one rule k.change.at t.offset h.early h.late k.early k.late (rw same at h.candidates) k.candidates in
@@ -35,3 +38,27 @@ saving_once z u s t h k =
     let type = h.amount_is.type in let at = h.amount_is.in_force_then in
     let standard = h.standard_is type at ∙ ap (λ a. type.offset -ℤ a) same ∙ sym (k.standard_is type at) in
     λ i. record { standard_offset = standard i; amount = same i }
+
+-- standard time of the rule, if no standard second comes after u
+pub after_of_rule : (z : Zone) (u : ℤ) (found : Option ℤ) → HasNoStandard (TypeAt z) (IsSoonAfter (TypeAt z) u) → IsFound (IsRuleStandard z.rule) found
+    → IsFound (IsAfter (TypeAt z) z.rule u) found
+after_of_rule z u None none h = λ a k. elim k [ At_a_second k ↦ none k.at a k.is k.after | Of_rule m k ↦ h a k ]
+after_of_rule z u (Some a) none h = Of_rule none h
+
+-- the next use of the type t after u
+module _ (z : Zone) (t : LocalType) (u : ℤ) where
+  abbrev IsNext : ℤ → Type 0
+  IsNext a = IsNextCandidate (TypeAt z) z.rule t u a
+
+  pub next_found : (at : ℤ) (early late found : Option ℤ) → (c : Change) × IsNextUse (TypeAt z) t u c × (c.at ≡ at)
+      → AreCandidates (TypeAt z) z.rule at t.offset early late → IsFound (IsOnly early late) found → IsFound IsNext found
+  next_found at early late None (c, next, same) candidates none = λ a h.
+      let there = next_once (TypeAt z) t u h.change c h.next next ∙ same in
+      let both = candidates_once (TypeAt z) (type_once z) z.rule at t.offset h.early h.late early late (rw there at h.candidates) candidates in
+      grind arith
+  next_found at early late (Some a) (c, next, same) candidates only =
+      record { change = c; next = next; early = early; late = late; candidates = rw same candidates; only = only }
+
+  -- the choice by what was found
+  pub of_two_found : (p q a : ℤ) (found : Option ℤ) → IsFound IsNext found → IsOfTwo (λ x. found ≡ Some x) p q a → IsOfTwo IsNext p q a
+  of_two_found p q a found h k = let is = the_found IsNext (next_candidate_once (TypeAt z) (type_once z) z.rule t u) found in grind arith

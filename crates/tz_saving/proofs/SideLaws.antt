@@ -1,7 +1,8 @@
 -- A second has one standard offset on each side, and one candidate of each.
-use Rattle.tz_saving.proofs.Words.{AreCandidates, At_a_second, IsAfter, IsBefore, IsFound, IsOnly, IsCandidate, IsRuleStandard, IsStandard, LocalType, None}
-use Rattle.tz_saving.proofs.Words.{Of_rule, Option, Some, TransitionRule, TypeAt, Zone, ap, arith, ints, refl, sym, IsWithinDay, pos, type_once, ℤ, ◌-ℤ◌, ◌≡◌}
-use Rattle.tz_saving.proofs.Words.{◌≢◌}
+use Rattle.tz_saving.proofs.{
+  Words.{AreCandidates, At_a_second, IsAfter, IsBefore, IsCandidate, IsFound, IsOnly, IsRuleStandard, IsStandard, IsWithinDay, LocalType, None, Of_rule},
+  Words.{Option, Some, TransitionRule, TypeAt, Zone, arith, ints, pos, refl, type_once, ℤ, ◌-ℤ◌, ◌≡◌, ◌≢◌},
+}
 
 rule_once : (rule : Option TransitionRule) (a b : ℤ) → IsRuleStandard rule a → IsRuleStandard rule b → a ≡ b
 rule_once rule a b h k = grind arith
@@ -11,12 +12,7 @@ only_once p q a b h k = grind arith
 
 -- with the same property a side has the same candidates
 candidate_by : {P Q : ℤ → Type 0} {offset a : ℤ} → ((s : ℤ) → P s → Q s) → IsCandidate P offset a → IsCandidate Q offset a
-candidate_by by r = record { standard = r.standard; of_side = by r.standard r.of_side; difference = r.difference; some = r.some; within = r.within }
-
-found_by : (P Q : ℤ → Type 0) (offset : ℤ) (found : Option ℤ) → ((s : ℤ) → P s → Q s) → ((s : ℤ) → Q s → P s) → IsFound (IsCandidate P offset) found
-    → IsFound (IsCandidate Q offset) found
-found_by P Q offset None to from h = λ a r. h a (candidate_by from r)
-found_by P Q offset (Some a) to from r = candidate_by to r
+candidate_by by r = record { standard = r.standard; of_side = by _ r.of_side; difference = r.difference; some = r.some; within = r.within }
 
 -- one number has the property
 module _ (is : ℤ → Type 0) (once : (a b : ℤ) → is a → is b → a ≡ b) where
@@ -33,7 +29,8 @@ module _ (is : ℤ → Type 0) (once : (a b : ℤ) → is a → is b → a ≡ b
   -- a candidate by the offset that was found is one by that side
   found_candidate : (offset : ℤ) (standard result : Option ℤ) → IsFound is standard → IsFound (IsCandidate (λ s. standard ≡ Some s) offset) result
       → IsFound (IsCandidate is offset) result
-  found_candidate offset standard result h = found_by (λ s. standard ≡ Some s) is offset result (λ s e. rw e at h) (λ s. the_found standard s h)
+  found_candidate offset standard None h k = λ a r. k a (candidate_by (λ s. the_found standard s h) r)
+  found_candidate offset standard (Some a) h k = candidate_by (λ s e. rw e at h) k
 
 -- a second has one type
 module _ (f : ℤ → LocalType → Type 0) (one : (u : ℤ) (s t : LocalType) → f u s → f u t → s ≡ t) where
@@ -42,7 +39,7 @@ module _ (f : ℤ → LocalType → Type 0) (one : (u : ℤ) (s t : LocalType) �
 
   pub before_once : (u a b : ℤ) → IsBefore f u a → IsBefore f u b → a ≡ b
   before_once u a b h k =
-      standard_once h.at k.at a b (omega (arith, ints, h.last k.at b k.is k.before, k.last h.at a h.is h.before)) h.is k.is
+      grind (arith, ints, h.last k.at b, k.last h.at a)
 
   pub after_once : (rule : Option TransitionRule) (u a b : ℤ) → IsAfter f rule u a → IsAfter f rule u b → a ≡ b
   after_once rule u a b (At_a_second h) (At_a_second k) =
@@ -54,16 +51,16 @@ module _ (f : ℤ → LocalType → Type 0) (one : (u : ℤ) (s t : LocalType) �
   pub candidates_once : (rule : Option TransitionRule) (u offset : ℤ) (p q r s : Option ℤ) → AreCandidates f rule u offset p q
       → AreCandidates f rule u offset r s → (p ≡ r) × (q ≡ s)
   candidates_once rule u offset p q r s h k = (
-    found_once (IsBefore f u) (before_once u) offset p r h.early_is k.early_is,
-    found_once (IsAfter f rule u) (after_once rule u) offset q s h.late_is k.late_is,
+    found_once _ (before_once u) offset p r h.early_is k.early_is,
+    found_once _ (after_once rule u) offset q s h.late_is k.late_is,
   )
 
 pub candidates_found : (z : Zone) (u offset : ℤ) (before after early late : Option ℤ) → IsFound (IsBefore (TypeAt z) u) before
     → IsFound (IsAfter (TypeAt z) z.rule u) after → IsFound (IsCandidate (λ s. before ≡ Some s) offset) early
     → IsFound (IsCandidate (λ s. after ≡ Some s) offset) late → AreCandidates (TypeAt z) z.rule u offset early late
 candidates_found z u offset before after early late b a e l = record {
-  early_is = found_candidate (IsBefore (TypeAt z) u) (before_once (TypeAt z) (type_once z) u) offset before early b e;
-  late_is = found_candidate (IsAfter (TypeAt z) z.rule u) (after_once (TypeAt z) (type_once z) z.rule u) offset after late a l;
+  early_is = found_candidate _ (before_once _ (type_once z) u) offset before early b e;
+  late_is = found_candidate _ (after_once _ (type_once z) z.rule u) offset after late a l;
 }
 
 -- ---- the candidate by an offset
@@ -73,6 +70,3 @@ module _ (offset standard : ℤ) where
 
   pub no_candidate : ((offset -ℤ standard ≢ pos 0) × IsWithinDay (offset -ℤ standard) → ⊥) → (a : ℤ) → IsCandidate (λ s. s ≡ standard) offset a → ⊥
   no_candidate none a r = grind (arith, ints)
-
-  pub by_some : (found : Option ℤ) → IsFound (IsCandidate (λ s. s ≡ standard) offset) found → IsFound (IsCandidate (λ s. Some standard ≡ Some s) offset) found
-  by_some found = found_by (λ s. s ≡ standard) (λ s. Some standard ≡ Some s) offset found (λ s e. ap Some (sym e)) (λ s e. cc)

@@ -1,160 +1,134 @@
--- Walks from change to change: back and on from a second of daylight saving time to standard time, and on to the next use of a type.
-use Rattle.tz_saving.proofs.Words.{Change, FitsSigned, HasNoChange, HasNoStandard, IsBackTo, IsBefore, IsFirst, IsFirstAfter, IsFirstChange, IsFlagged}
-use Rattle.tz_saving.proofs.Words.{IsFlaggedWithin, IsLast, IsLastChange, IsLeftBack, IsLeftOn, IsNextUse, IsOnTo, IsRuleOrNone, IsSoonAfter, IsStandard}
-use Rattle.tz_saving.proofs.Words.{IsUnusedTo, IsValid, IsWithinReach, LocalType, None, TypeAt, Zone, arith, by_lt_z, false, ints, no_change, one_change, pos}
-use Rattle.tz_saving.proofs.Words.{reach, refl, suc, true, type_once, w64, ℕ, ℤ, ◌-◌, ◌-ℤ◌, ◌<◌, ◌<ℤ◌, ◌≡◌, ◌≤ℤ◌}
-use Rattle.tz_saving.proofs.Reach.{back_adds, back_drops, has_none, has_one, on_adds, on_drops}
+-- Walks from change to change, and standard time on both sides of a second of daylight saving time.
+use Rattle.tz_saving.proofs.{
+  Words.{Bool, Change, FitsSigned, HasBetween, HasChanges, HasNoStandard, HasNoTurn, IsBefore, IsBeyond, IsChange, IsFirstAfter, IsFound, IsNearest},
+  Words.{IsNearestChange, IsNearestTurn, IsRuleOrNone, IsSoonAfter, IsStandard, IsTurn, IsValid, IsWalkedTo, IsWanted, LocalType, MatchOption, None, Option},
+  Words.{Precedes, Some, TypeAt, Zone, arith, by_lt_z, false, far_second, far_type, ints, one_change, option_map, pos, reach, refl, suc, true, type_once},
+  Words.{typed_between, unsigned_abs, w64, zero, ℕ, ℤ, ◌+ℤ◌, ◌-ℤ◌, ◌-◌, ◌<ℤ◌, ◌<◌, ◌↔◌, ◌≡◌, ◌≢◌, ◌≤ℤ◌},
+}
 
--- in the zone z
-module _ (z : Zone) where
-  -- the first change after r, and the last one up to r
-  abbrev IsNext : ℤ → Change → Type 0
-  IsNext r c = IsFirstChange (TypeAt z) (λ w. r <ℤ w) c
+-- ---- counts of changes: a walk from change to change uses up one at each step
 
-  abbrev IsPrevious : ℤ → Change → Type 0
-  IsPrevious r c = IsLastChange (TypeAt z) (λ w. w ≤ℤ r) c
+-- f says which type is in force at a second
+module _ (f : ℤ → LocalType → Type 0) where
+  -- seconds that are farther apart have no fewer between them
+  wider : (n : ℕ) (v w a b : ℤ) → w ≤ℤ v → a ≤ℤ b → HasChanges f n v a → HasChanges f n w b
+  unfolding HasChanges
+  wider zero v w a b l m h = tt
+  wider (suc n) v w a b l m (d, is, from, to, rest) = (d, is, omega (arith, ints), omega (arith, ints), wider n v w _ _ l (omega (arith, ints)) rest)
 
-  -- at a standard second not every type has the flag
-  apart : (v offset : ℤ) → IsStandard (TypeAt z) offset v → ((t : LocalType) → TypeAt z v t → t.dst ≡ true) → ⊥
-  apart v offset s each = let flag = each s.type s.in_force_then in cc
+  has_one : (forward : Bool) (r : ℤ) (c : Change) → IsChange f c → IsBeyond forward r c.at → HasBetween forward f 1 r (far_second forward c.at)
+  unfolding HasChanges
+  has_one forward r c is l = grind (arith, ints)
 
-  flagged_one : (u v : ℤ) (t : LocalType) → IsFlagged (TypeAt z) u → u ≡ v → TypeAt z v t → t.dst ≡ true
-  flagged_one u v t h e k = let same = type_once z u t h.type (rw e k) h.in_force_then in cc
+  -- ---- over the nearest change
+  back : (n : ℕ) (r v : ℤ) (c : Change) → IsNearestChange false f (λ w. w ≤ℤ r) c
+      → HasChanges f (suc (suc n)) v r ↔ HasChanges f (suc n) v (c.at -ℤ pos 1)
+  unfolding HasChanges
+  back n r v c last = grind (arith, ints, wider)
+
+  module _ (r : ℤ) (c : Change) (next : IsNearestChange true f (λ w. r <ℤ w) c) where
+    on_drops : (n : ℕ) (v : ℤ) → HasChanges f (suc (suc n)) r v → HasChanges f (suc n) c.at v
+    unfolding HasChanges
+    on_drops zero v h = grind (arith, ints)
+    on_drops (suc n) v (d, is, from, to, rest) = grind (arith, ints, on_drops n (d.at -ℤ pos 1) rest)
+
+    on_adds : (n : ℕ) (v : ℤ) → HasChanges f (suc n) c.at v → HasChanges f (suc (suc n)) r v
+    unfolding HasChanges
+    on_adds zero v h = grind (arith, ints)
+    on_adds (suc n) v (d, is, from, to, rest) = grind (arith, ints, on_adds n (d.at -ℤ pos 1) rest)
+
+  steps : (forward : Bool) (n : ℕ) (r v : ℤ) (c : Change) → IsNearestChange forward f (IsBeyond forward r) c
+      → HasBetween forward f (suc (suc n)) r v ↔ HasBetween forward f (suc n) (far_second forward c.at) v
+  steps true n r v c next = (on_drops r c next n v, on_adds r c next n v)
+  steps false n r v c last = back n r v c last
+
+past : (forward : Bool) (x y : ℤ) → Precedes forward x y → x ≢ y → IsBeyond forward (far_second forward x) y
+past forward x y l other = grind (arith, ints)
+
+-- the walk from u has come to r
+module _ (z : Zone) (forward : Bool) (wanted : LocalType → Type 0) (u r : ℤ) where
+  -- some changes are left, and c is the nearest
+  module _ (left : ℕ) (some : 0 < left) (c : Change) (h : IsWalkedTo forward (TypeAt z) wanted left u r)
+      (next : IsNearestChange forward (TypeAt z) (IsBeyond forward r) c) where
+    left_far : (v : ℤ) → HasBetween forward (TypeAt z) (suc (left - 1)) (far_second forward c.at) v ↔ HasBetween forward (TypeAt z) (suc reach) u v
+    left_far v = let e : left ≡ suc (left - 1) = omega arith in let both = (rw e at h.reach_left) v in grind (arith, steps)
+
+    pub goes : (wanted (far_type forward c) → ⊥) → IsWalkedTo forward (TypeAt z) wanted (left - 1) u (far_second forward c.at)
+    goes other = record {
+      order = grind (arith, ints, next.inside);
+      reach_left = left_far;
+      later = λ d t. past forward c.at d.at (next.nearest d t.is (h.later d t)) (λ e. other (rw (one_change z c d next.is t.is e) t.to));
+    }
+
+    pub turns : wanted (far_type forward c) → IsNearestTurn forward (TypeAt z) wanted u c
+    unfolding HasChanges
+    turns to = record {
+      turn = record { is = next.is; to = to; beyond = grind (arith, ints, next.inside) };
+      near = λ k. let some = (left_far _).1 k in grind (arith, ints);
+      first = λ d t. next.nearest d t.is (h.later d t);
+    }
+
+  pub none : {n : ℕ} → IsWalkedTo forward (TypeAt z) wanted n u r → IsNearest forward (TypeAt z) (IsBeyond forward r) None
+      → HasNoTurn forward (TypeAt z) wanted u
+  none h nothing d t near = nothing d t.is (h.later d t)
+
+  -- out of reach
+  pub far : IsWalkedTo forward (TypeAt z) wanted 0 u r → HasNoTurn forward (TypeAt z) wanted u
+  far h d t near = near ((h.reach_left _).0 (has_one (TypeAt z) forward r d t.is (h.later d t)))
+
+-- ---- the flag between two seconds
+flags_equal : (a b : Bool) → (a ≢ b → a ≡ b) → a ≡ b
+flags_equal a b h = grind arith
+
+-- in a valid zone
+module _ (z : Zone) (valid : IsValid z) (limits : IsRuleOrNone z.rule) where
+  -- without a change from the flag of a type, n seconds later it is the same
+  keeps : (n : ℕ) (u v : ℤ) (s t : LocalType) → v ≡ u +ℤ pos n → FitsSigned w64 u → FitsSigned w64 v → TypeAt z u s → TypeAt z v t
+      → ((d : Change) → IsChange (TypeAt z) d → u <ℤ d.at → d.at ≤ℤ v → d.before.dst ≡ s.dst → d.after.dst ≡ s.dst) → t.dst ≡ s.dst
+  keeps zero u v s t e low high k h none =
+      let here : v ≡ u = omega (arith, ints) in let same = type_once z u s t k (rw here at h) in cc
+  keeps (suc n) u v s t e low high k h none =
+      let (q, at) = typed_between z u v (v -ℤ pos 1) s t valid (omega (arith, ints)) (omega (arith, ints)) k h limits in
+      let fits : FitsSigned w64 (v -ℤ pos 1) = omega (arith, ints) in
+      let before = keeps n u (v -ℤ pos 1) s q (omega (arith, ints)) low fits k at (λ d is l m. none d is l (omega (arith, ints))) in
+      flags_equal t.dst s.dst (λ differ. none (record { at = v; before = q; after = t })
+      (record { fits = high; fits_before = fits; before = at; after = h; differ = λ e. differ (cc) }) (omega (arith, ints)) (omega (arith, ints)) before)
 
   -- at the second u the type t is in force, and has the flag
   module _ (u : ℤ) (t : LocalType) (fits : FitsSigned w64 u) (k : TypeAt z u t) (flag : t.dst ≡ true) where
-    flagged : IsFlagged (TypeAt z) u
-    flagged = record { fits = fits; type = t; in_force_then = k; flag = flag }
+    abbrev Turn : Bool → Change → Type 0
+    Turn forward d = IsTurn forward (TypeAt z) (IsWanted true t) u d
 
-    within_one : IsFlaggedWithin (TypeAt z) u u
-    within_one = record { order = omega (arith, ints); each = λ v t fits from to k. flagged_one u v t flagged (omega (arith, ints)) k }
+    turn_back : (v offset : ℤ) → IsStandard (TypeAt z) offset v → v <ℤ u → ((d : Change) → Turn false d → v <ℤ d.at → ⊥) → ⊥
+    turn_back v offset s l none =
+        let same = keeps (unsigned_abs (u -ℤ v)) v u s.type t (omega (arith, ints)) s.fits fits s.in_force_then k
+            (λ d is low high e. absurd (none d (record { is = is; to = cc; beyond = high }) low)) in cc
 
-    pub starts_back : IsBackTo (TypeAt z) reach u u
-    starts_back = grind (arith, within_one)
+    turn_on : (v offset : ℤ) → IsStandard (TypeAt z) offset v → u <ℤ v → ((d : Change) → Turn true d → d.at ≤ℤ v → ⊥) → ⊥
+    turn_on v offset s l none =
+        let same = keeps (unsigned_abs (v -ℤ u)) u v t s.type (omega (arith, ints)) fits s.fits k s.in_force_then
+            (λ d is low high e. flags_equal d.after.dst t.dst
+            (λ differ. absurd (none d (record { is = is; to = grind arith; beyond = low }) high))) in cc
 
-    pub starts_on : IsOnTo (TypeAt z) reach u u
-    starts_on = grind (arith, within_one)
+    pub standard_back : (found : Option Change) → MatchOption found (HasNoTurn false (TypeAt z) (IsWanted true t) u)
+        (IsNearestTurn false (TypeAt z) (IsWanted true t) u) → IsFound (IsBefore (TypeAt z) u) (option_map (λ c. c.before.offset) found)
+    standard_back None none = λ offset b. turn_back b.at offset b.is b.before (λ d turn l. none d turn (λ has. b.near (grind (arith, ints, wider))))
+    standard_back (Some c) n = let turn = n.turn in record {
+      at = c.at -ℤ pos 1;
+      before = omega (arith, ints);
+      near = n.near;
+      is = record { fits = turn.is.fits_before; type = c.before; in_force_then = turn.is.before; standard = turn.to; of_type = refl };
+      last = λ v other s l. by_lt_z v c.at (λ less. omega (arith, ints))
+          (λ m. absurd (turn_back v other s l (λ d turn low. omega (arith, ints, n.first d turn))));
+    }
 
--- one of the changes that are left
-one_less : (left : ℕ) → 0 < left → left ≡ suc (left - 1)
-one_less left some = omega arith
-
--- the walk from u has come to r
-module _ (z : Zone) (u r : ℤ) where
-  -- ---- the changes that are left to go on
-  module _ (left : ℕ) (some : 0 < left) (c : Change) (next : IsNext z r c) (h : IsLeftOn (TypeAt z) left u r) where
-    left_on : IsLeftOn (TypeAt z) (left - 1) u c.at
-    left_on v = let both = (rw (one_less left some) at h) v in grind (arith, on_adds, on_drops)
-
-    found_near : IsWithinReach (TypeAt z) u c.at
-    found_near k = has_none (TypeAt z) (left - 1) c.at c.at (omega (arith, ints)) ((left_on c.at).1 k)
-
-  -- the zone is valid, and so is its rule
-  module _ (valid : IsValid z) (limits : IsRuleOrNone z.rule) where
-    -- ---- back
-    -- if no change comes up to the second reached, each type has the flag
-    idle_back : {n : ℕ} → IsBackTo (TypeAt z) n u r → (v : ℤ) (t : LocalType) → FitsSigned w64 v → v ≤ℤ u
-        → HasNoChange (TypeAt z) (λ w. (v <ℤ w) × (w ≤ℤ r)) → TypeAt z v t → t.dst ≡ true
-    idle_back w v t fits to none k = let h = w.here in by_lt_z v r
-        (λ l. let same = no_change z v r t h.type valid limits fits h.fits (omega (arith, ints)) none k h.in_force_then in cc)
-        (λ m. w.within.each v t fits m to k)
-
-    -- some changes are left, and c is the last one up to r
-    module _ (left : ℕ) (some : 0 < left) (c : Change) (h : IsBackTo (TypeAt z) left u r) (last : IsPrevious z r c) where
-      since_change : (v : ℤ) (t : LocalType) → FitsSigned w64 v → v ≤ℤ u → c.at ≤ℤ v → TypeAt z v t → t.dst ≡ true
-      since_change v t fits to from k = idle_back h v t fits to (grind (arith, ints)) k
-
-      left_back : IsLeftBack (TypeAt z) (left - 1) u (c.at -ℤ pos 1)
-      left_back v = let both = (rw (one_less left some) at h.reach_left) v in grind (arith, back_adds, back_drops)
-
-      pub goes_back : c.before.dst ≡ true → IsBackTo (TypeAt z) (left - 1) u (c.at -ℤ pos 1)
-      goes_back flag = let here = flagged z (c.at -ℤ pos 1) c.before last.is.fits_before last.is.before flag in let inside = last.inside in record {
-        here = here;
-        within = record {
-          order = omega (arith, ints);
-          each = λ v t fits from to k. by_lt_z v c.at
-              (λ l. flagged_one z (c.at -ℤ pos 1) v t here (omega (arith, ints)) k) (λ m. since_change v t fits to m k);
-        };
-        reach_left = left_back;
-      }
-
-      pub found_back : c.before.dst ≡ false → IsBefore (TypeAt z) u c.before.offset
-      found_back standard = let inside = last.inside in record {
-        at = c.at -ℤ pos 1;
-        before = omega (arith, ints);
-        near = λ k. has_none (TypeAt z) (left - 1) (c.at -ℤ pos 1) (c.at -ℤ pos 1) (omega (arith, ints)) ((left_back (c.at -ℤ pos 1)).1 k);
-        is = record { fits = last.is.fits_before; type = c.before; in_force_then = last.is.before; standard = standard; of_type = refl };
-        last = λ v other s before. by_lt_z v c.at (λ l. omega (arith, ints))
-            (λ m. absurd (apart z v other s (λ t. since_change v t s.fits (omega (arith, ints)) m)));
-      }
-
-    pub none_back : {n : ℕ} (offset : ℤ) → IsBackTo (TypeAt z) n u r → IsLast (TypeAt z) (λ w. w ≤ℤ r) None → IsBefore (TypeAt z) u offset → ⊥
-    none_back offset h none k = apart z k.at offset k.is (λ t. idle_back h k.at t k.is.fits (omega (arith, ints)) (grind arith))
-
-    -- out of reach
-    pub far_back : (offset : ℤ) → IsBackTo (TypeAt z) 0 u r → IsBefore (TypeAt z) u offset → ⊥
-    far_back offset h k = apart z k.at offset k.is (λ t. idle_back h k.at t k.is.fits (omega (arith, ints)) (grind (arith, has_one)))
-
-    -- ---- on
-    idle_on : {n : ℕ} → IsOnTo (TypeAt z) n u r → (v : ℤ) (t : LocalType) → FitsSigned w64 v → u ≤ℤ v
-        → HasNoChange (TypeAt z) (λ w. (r <ℤ w) × (w ≤ℤ v)) → TypeAt z v t → t.dst ≡ true
-    idle_on w v t fits from none k = let h = w.here in by_lt_z r v
-        (λ l. let same = no_change z r v h.type t valid limits h.fits fits (omega (arith, ints)) none h.in_force_then k in cc)
-        (λ m. w.within.each v t fits from m k)
-
-    -- some changes are left, and c is the first one after r
-    module _ (left : ℕ) (some : 0 < left) (c : Change) (h : IsOnTo (TypeAt z) left u r) (next : IsNext z r c) where
-      until_change : (v : ℤ) (t : LocalType) → FitsSigned w64 v → u ≤ℤ v → v <ℤ c.at → TypeAt z v t → t.dst ≡ true
-      until_change v t fits from until k = idle_on h v t fits from (grind (arith, ints)) k
-
-      pub goes_on : c.after.dst ≡ true → IsOnTo (TypeAt z) (left - 1) u c.at
-      goes_on flag = let here = flagged z c.at c.after next.is.fits next.is.after flag in let inside = next.inside in record {
-        here = here;
-        within = record {
-          order = omega (arith, ints);
-          each = λ v t fits from to k. by_lt_z v c.at (λ l. until_change v t fits from l k) (λ m. flagged_one z c.at v t here (omega (arith, ints)) k);
-        };
-        reach_left = left_on left some c next h.reach_left;
-      }
-
-      pub found_on : c.after.dst ≡ false → IsFirstAfter (TypeAt z) u c.after.offset
-      found_on standard = let inside = next.inside in record {
-        at = c.at;
-        after = (omega (arith, ints), found_near left some c next h.reach_left);
-        is = record { fits = next.is.fits; type = c.after; in_force_then = next.is.after; standard = standard; of_type = refl };
-        first = λ v other s after. by_lt_z v c.at (λ l. absurd (apart z v other s (λ t. until_change v t s.fits (omega (arith, ints)) l))) (λ m. m);
-      }
-
-    pub none_on : {n : ℕ} → IsOnTo (TypeAt z) n u r → IsFirst (TypeAt z) (λ w. r <ℤ w) None → HasNoStandard (TypeAt z) (IsSoonAfter (TypeAt z) u)
-    none_on h none v offset s after = apart z v offset s (λ t. idle_on h v t s.fits (omega (arith, ints)) (grind arith))
-
-    -- out of reach
-    pub far_on : IsOnTo (TypeAt z) 0 u r → HasNoStandard (TypeAt z) (IsSoonAfter (TypeAt z) u)
-    far_on h v offset s after = apart z v offset s (λ t. idle_on h v t s.fits (omega (arith, ints)) (grind (arith, has_one)))
-
--- ---- the next use
-module _ (z : Zone) (t : LocalType) (u : ℤ) where
-  pub unused_from : IsUnusedTo (TypeAt z) reach t u u
-  unused_from = grind (arith, ints)
-
-  -- no change to the type t has come up to r
-  module _ (r : ℤ) (c : Change) where
-    module _ (left : ℕ) (some : 0 < left) (h : IsUnusedTo (TypeAt z) left t u r) (next : IsNext z r c) where
-      pub unused_on : (c.after ≡ t → ⊥) → IsUnusedTo (TypeAt z) (left - 1) t u c.at
-      unused_on other = let inside = next.inside in record {
-        order = omega (arith, ints);
-        reach_left = left_on z u r left some c next h.reach_left;
-        later = λ d is to l.
-            let m = next.nearest d is (h.later d is to l) in by_lt_z c.at d.at (λ less. less)
-            (λ least. let same = one_change z c d next.is is (omega (arith, ints)) in absurd (other (cc)));
-      }
-
-      pub used_on : c.after ≡ t → IsNextUse (TypeAt z) t u c
-      used_on same = let near = found_near z u r left some c next h.reach_left in grind (arith, ints)
-
-    -- no change comes, or it is out of reach
-    pub unused : {n : ℕ} → IsUnusedTo (TypeAt z) n t u r → IsFirst (TypeAt z) (λ w. r <ℤ w) None → IsNextUse (TypeAt z) t u c → ⊥
-    unused h none k = grind arith
-
-    pub far_use : IsUnusedTo (TypeAt z) 0 t u r → IsNextUse (TypeAt z) t u c → ⊥
-    far_use h k = grind (arith, ints, has_one)
+    pub standard_on : (found : Option Change) → MatchOption found (HasNoTurn true (TypeAt z) (IsWanted true t) u)
+        (IsNearestTurn true (TypeAt z) (IsWanted true t) u)
+        → MatchOption (option_map (λ c. c.after.offset) found) (HasNoStandard (TypeAt z) (IsSoonAfter (TypeAt z) u)) (IsFirstAfter (TypeAt z) u)
+    standard_on None none = λ v offset s soon. turn_on v offset s soon.0 (λ d turn l. none d turn (λ has. soon.1 (grind (arith, ints, wider))))
+    standard_on (Some c) n = let turn = n.turn in record {
+      at = c.at;
+      after = (turn.beyond, n.near);
+      is = record { fits = turn.is.fits; type = c.after; in_force_then = turn.is.after; standard = turn.to; of_type = refl };
+      first = λ v other s l. by_lt_z v c.at (λ less. absurd (turn_on v other s l (λ d turn high. omega (arith, ints, n.first d turn)))) (λ m. m);
+    }

@@ -9,7 +9,6 @@ use crate::sides::{standard_after, standard_before};
 use tz_info::{LocalTimeType, TimeZone};
 
 // The two candidates of a second at which that type is in force, with the DST flag.
-#[tactic(auto, using(crate::proofs::SideLaws::candidates_found))]
 pub(crate) fn candidates_at(
     zone: &TimeZone,
     second: i64,
@@ -25,25 +24,21 @@ pub(crate) fn candidates_at(
     (candidate_of(offset, before), candidate_of(offset, after))
 }
 
-// The candidate by a standard offset, if one was found.
+// How far the offset is from a standard offset that was found, unless that is 0, or a day or more.
+#[tactic(auto, using(crate::proofs::Words::fitted))]
 fn candidate_of(offset: i32, standard: Option<i32>) -> Option<i32>
     ensures { IsFound (IsCandidate (λ s. standard ≡ Some s) offset) result }
 {
     match standard {
-        Some(standard) => candidate(offset, standard),
+        Some(standard) => {
+            let amount = offset as i64 - standard as i64;
+            if is_amount(amount) {
+                Some(amount as i32)
+            } else {
+                None
+            }
+        }
         None => None,
-    }
-}
-
-// How far the offset is from a standard offset, unless that is 0, or a day or more.
-fn candidate(offset: i32, standard: i32) -> Option<i32>
-    ensures { IsFound (IsCandidate (λ s. s ≡ standard) offset) result }
-{
-    let amount = offset as i64 - standard as i64;
-    if is_amount(amount) {
-        Some(amount as i32)
-    } else {
-        None
     }
 }
 

@@ -1,12 +1,12 @@
 //! The next use of a type.
 
-ghost use Rattle.std.specs.Prelude.{◌≡◌, ◌↔◌, true, IsTrue};
+ghost use Rattle.std.specs.Prelude.{◌≡◌, true};
 ghost use Rattle.tz_info.specs.Zones.{TypeAt};
-ghost use Rattle.tz_saving.specs.{Amounts.{IsNextCandidate}, Steps.Walks.{IsOnlyCandidate, IsSecondOfNextUse}};
+ghost use Rattle.tz_saving.specs.{Amounts.{IsNextCandidate}, Steps.Walks.{IsSecondOfNextUse}};
 ghost use Rattle.tz_saving.specs.Sides.{IsFound};
 
 use crate::candidates::{candidates_at, only_of};
-use crate::sides::REACH;
+use crate::sides::nearest_turn;
 use tz_info::{LocalTimeType, TimeZone};
 
 // The only candidate that the type, which has the DST flag, has when it is next used after the second.
@@ -15,42 +15,20 @@ pub(crate) fn next_candidate(zone: &TimeZone, second: i64, local: &LocalTimeType
     ensures { IsFound (IsNextCandidate (TypeAt zone.now) zone.now.rule local.now second) result }
 {
     match next_use(zone, second, local) {
-        Some(at) => only_candidate(zone, at, local),
+        Some(at) => {
+            let (early, late) = candidates_at(zone, at, local);
+            only_of(early, late)
+        }
         None => None,
     }
-}
-
-// The only candidate of a second at which that type is in force.
-fn only_candidate(zone: &TimeZone, second: i64, local: &LocalTimeType) -> Option<i32>
-    requires in_force { TypeAt zone.now second local.now }
-    requires flagged { local.now.dst ≡ true }
-    ensures { IsOnlyCandidate (TypeAt zone.now) zone.now.rule second local.now.offset result }
-{
-    let (early, late) = candidates_at(zone, second, local);
-    only_of(early, late)
 }
 
 // When the type is next used after the second; `None` if never, or out of reach.
 fn next_use(zone: &TimeZone, second: i64, local: &LocalTimeType) -> Option<i64>
     ensures { IsSecondOfNextUse (TypeAt zone.now) local.now second result }
 {
-    let mut reached = second;
-    let mut left = REACH;
-    'changes: while left > 0 {
-        let Some(change) = zone.next_held_change(reached) else {
-            return None;
-        };
-        if is_same_type(change.after, local) {
-            return Some(change.at);
-        }
-        reached = change.at;
-        left -= 1;
+    match nearest_turn(zone, second, true, false, local) {
+        Some(change) => Some(change.at),
+        None => None,
     }
-    None
-}
-
-fn is_same_type(a: &LocalTimeType, b: &LocalTimeType) -> bool
-    ensures { IsTrue result ↔ (a.now ≡ b.now) }
-{
-    *a == *b
 }

@@ -86,7 +86,7 @@ fn flagged_amount(zone: &TimeZone, second: i64, local: &LocalTimeType) -> i32
 }
 
 // The amount by two candidates.
-#[tactic(auto, using(crate::proofs::Found::of_two_found))]
+#[tactic(auto, using(crate::proofs::AmountLaws::of_two_found))]
 fn amount_of_two(zone: &TimeZone, second: i64, local: &LocalTimeType, early: i32, late: i32) -> i32
     requires in_force { TypeAt zone.now second local.now }
     requires flagged { local.now.dst ≡ true }
@@ -100,6 +100,7 @@ fn amount_of_two(zone: &TimeZone, second: i64, local: &LocalTimeType, early: i32
 }
 
 // Of two amounts the one that was found, or else the usual one.
+#[tactic(auto, using(crate::proofs::Words::fitted))]
 fn chosen_of(next: Option<i32>, early: i32, late: i32) -> i32
     requires { early ≢ late }
     ensures { IsOfTwo (λ a. next ≡ Some a) early late result }

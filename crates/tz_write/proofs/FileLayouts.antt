@@ -1,15 +1,284 @@
--- If any designations have the names of the types at places that a byte can name, those that are laid have them.
+-- If any designations have the names of the types at places that a byte can name, those that are laid have them: each text that is put in
+-- has bytes of its own in any others that have the texts.
+use Rattle.std.proofs.{Common.{length-take}, lemmas.List.{take-append-drop}}
+use Rattle.tz_base.proofs.RunLaws.{all_of}
+use Rattle.tz_write.proofs.{
+  TextBytes.{names_are, no_zeros},
+  Words.{All, All-cons, All-nil, All-weaker, AreNamesIn, AreNotPlacedBefore, AreShortest, Bool, Decides, Decides-by_and, Decides-eqb, HasNoZero, HasPlace},
+  Words.{HavePlaces, IsNameOrNone, List, LocalType, MatchOption, Option, StandsAt, [], ap, append-nil, append_assoc, arith, before_last, before_zero, begins},
+  Words.{cases_lt, drop, drop-append_seam, drop_more, ends, ends_is, eq-eqb, get_or, get_or_at, inl, inr, laid, length, length-append, list_all, name_of},
+  Words.{name_or_none, nat_eq, nat_lt, nat_tests, nil_from_length, place_of, refl, starts_is, starts_with, suc, sym, take, true, with_text, with_text_of},
+  Words.{with_texts, zero, ℕ, ◌&&◌, ◌*◌, ◌++◌, ◌+◌, ◌<◌, ◌∷◌, ◌≡◌, ◌≤◌, ◌⊎◌},
+}
 use Rattle.tz_write.specs.FileLayouts.{ArePlaced, In_order, IsFirstPlaced, IsLaid, IsPlacedFrom, laid_from, text_at}
-use Rattle.tz_write.proofs.Words.{All, All-cons, All-nil, All-weaker, AreNamesIn, AreNotPlacedBefore, AreShortest, Bool, Decides, Decides-by_and, HasNoZero}
-use Rattle.tz_write.proofs.Words.{HasPlace, HavePlaces, IsNameOrNone, IsNamedIn, List, LocalType, MatchOption, Option, StandsAt, ap, append_assoc, arith}
-use Rattle.tz_write.proofs.Words.{before_last, before_zero, cases_lt, drop-append_seam, ends, get_or, inl, inr, laid, length, length-append, list_all}
-use Rattle.tz_write.proofs.Words.{name_of, nat_lt, nat_tests, nil_from_length, place_of, refl, suc, with_text, zero, ℕ, [], ◌&&◌, ◌*◌, ◌++◌, ◌+◌, ◌<◌, ◌∷◌}
-use Rattle.tz_write.proofs.Words.{◌≡◌, ◌≤◌, ◌⊎◌}
 use borrow.Author.Count.{below_more}
-use Rattle.tz_write.proofs.FileRoom.{Behind, Ends, Given, Has_end, In, In_front, Is_end, Room, Stands, before_filled, before_keeps, before_passed, by_text}
-use Rattle.tz_write.proofs.FileRoom.{Filled, Out, added, end_in, end_stands, ends_decided, ends_nothing, in_stands, kept, meet, no_front}
-use Rattle.tz_write.proofs.FileRoom.{place_kept, place_of_put, place_of_stands, put, put_in, put_is, put_stands, room_of}
-use Rattle.tz_write.proofs.FileRecords.{has_text, no_zero}
+
+-- ---- where a text is
+begins_is : (text bytes : List ℕ) → begins text bytes ≡ true → bytes ≡ text ++ (0 ∷ drop (length text + 1) bytes)
+unfolding begins
+begins_is text bytes h = grind (arith, nat_tests, starts_is, drop_more)
+
+begins_there : (text bytes : List ℕ) → place_of text bytes < length bytes → begins text (drop (place_of text bytes) bytes) ≡ true
+begins_there text [] h = absurd (omega arith)
+begins_there text (b ∷ bs) h = grind (arith, nat_tests, begins_there text bs)
+
+pub has_text : (text designations : List ℕ) → HasNoZero text → place_of text designations < length designations
+    → StandsAt designations (place_of text designations) text
+has_text text designations none h = let at = place_of text designations in record {
+  before = take at designations;
+  after = drop (length text + 1) (drop at designations);
+  whole = cc (take-append-drop at designations, begins_is text (drop at designations) (begins_there text designations h));
+  at = omega (arith, length-take {A = ℕ});
+  ends = none;
+}
+
+pub no_zero : (name : Option (List ℕ)) → IsNameOrNone name → HasNoZero (name_or_none name)
+no_zero name h = grind (arith, no_zeros, names_are, all_of)
+
+
+-- a text and its 0 byte are in the bytes
+pub record Stands (bytes text : List ℕ) : Type 0 where
+  pub before : List ℕ
+  pub after : List ℕ
+  pub whole : bytes ≡ before ++ (text ++ (0 ∷ after))
+
+-- the text is the end of that one
+pub record Ends (whole text : List ℕ) : Type 0 where
+  pub front : List ℕ
+  pub is : whole ≡ front ++ text
+
+-- how y, between c and d, lies to x, between b and a
+data Meeting (b x a c y d : List ℕ) : Type 0 where
+  In_front : (e : List ℕ) → b ≡ c ++ (y ++ (0 ∷ e)) → Meeting b x a c y d
+  Behind : (e : List ℕ) → a ≡ e ++ (y ++ (0 ∷ d)) → Meeting b x a c y d
+  Is_end : (m : List ℕ) → x ≡ m ++ y → a ≡ d → Meeting b x a c y d
+  Has_end : (m : List ℕ) → y ≡ m ++ x → a ≡ d → Meeting b x a c y d
+
+-- in front of the first 0 byte is one text
+same_text : (x a y d : List ℕ) → HasNoZero x → HasNoZero y → x ++ (0 ∷ a) ≡ y ++ (0 ∷ d) → (x ≡ y) × (a ≡ d)
+same_text [] a [] d n k e = (refl, cc)
+same_text [] a (y ∷ ys) d n k e = grind arith
+same_text (x ∷ xs) a [] d n k e = grind arith
+same_text (x ∷ xs) a (y ∷ ys) d n k e = grind (arith, same_text xs a ys d)
+
+-- x is at the front
+data Front (x a c y d : List ℕ) : Type 0 where
+  Past : (e : List ℕ) → c ≡ x ++ (0 ∷ e) → a ≡ e ++ (y ++ (0 ∷ d)) → Front x a c y d
+  Inside : (m : List ℕ) → x ≡ m ++ y → a ≡ d → Front x a c y d
+
+from_front : (x a c y d : List ℕ) → HasNoZero x → HasNoZero y → x ++ (0 ∷ a) ≡ c ++ (y ++ (0 ∷ d)) → Front x a c y d
+from_front x a [] y d n k e = let r = same_text x a y d n k e in Inside [] r.0 r.1
+from_front [] a (c ∷ cs) y d n k e = Past cs (cc) (cc)
+from_front (x ∷ xs) a (c ∷ cs) y d n k e = elim (from_front xs a cs y d n.1 k (cc)) [ Past f h l ↦ Past f (cc) l | Inside m h l ↦ Inside (x ∷ m) (cc) l ]
+
+meet : (b x a c y d : List ℕ) → HasNoZero x → HasNoZero y → b ++ (x ++ (0 ∷ a)) ≡ c ++ (y ++ (0 ∷ d)) → Meeting b x a c y d
+meet [] x a c y d n k e = elim (from_front x a c y d n k e) [ Past f h l ↦ Behind f l | Inside f h l ↦ Is_end f h l ]
+meet (p ∷ b) x a [] y d n k e = elim (from_front y d (p ∷ b) x a k n (sym e)) [ Past f h l ↦ In_front f h | Inside f h l ↦ Has_end f h (sym l) ]
+meet (p ∷ b) x a (q ∷ c) y d n k e = elim (meet b x a c y d n k (cc)) [
+  | In_front f h ↦ In_front f (cc)
+  | Behind f h ↦ Behind f h
+  | Is_end f h l ↦ Is_end f h l
+  | Has_end f h l ↦ Has_end f h l
+]
+
+-- ---- the end of the last text
+ends_decided : (last text : List ℕ) → Decides (ends last text) (Ends last text)
+ends_decided last text = let e = ends_is {E = nat_eq} Decides-eqb last text (ends last text) refl in
+    grind arith
+
+-- ---- the place of a text
+begins_again : (text rest : List ℕ) → begins text (text ++ (0 ∷ rest)) ≡ true
+unfolding begins
+begins_again text rest =
+    let starts = (starts_is {E = nat_eq} Decides-eqb (text ++ (0 ∷ rest)) text (starts_with nat_eq (text ++ (0 ∷ rest)) text) refl).1 (0 ∷ rest) refl in
+    grind (arith, nat_tests, length-append, get_or_at)
+
+place_behind : (text front rest : List ℕ) → place_of text (front ++ (text ++ (0 ∷ rest))) ≤ length front
+place_behind [] [] rest = grind (arith, nat_tests, begins_again [] rest)
+place_behind (c ∷ cs) [] rest = grind (arith, nat_tests, begins_again (c ∷ cs) rest)
+place_behind text (b ∷ bs) rest = grind (arith, nat_tests, place_behind text bs rest)
+
+-- bytes put after it don't move it
+still_begins : (text bytes more : List ℕ) → begins text bytes ≡ true → begins text (bytes ++ more) ≡ true
+still_begins text bytes more h = let whole = begins_is text bytes h in grind (arith, append_assoc, begins_again)
+
+place_kept : (text bytes more : List ℕ) → place_of text bytes < length bytes → place_of text (bytes ++ more) ≤ place_of text bytes
+place_kept text [] more h = absurd (omega arith)
+place_kept text (b ∷ bs) more h = grind (arith, nat_tests, still_begins text (b ∷ bs) more, place_kept text bs more)
+
+-- the text is in the designations, or it isn't
+abbrev In : List ℕ → List ℕ → Type 0
+In bytes text = place_of text bytes < length bytes
+
+abbrev Out : List ℕ → List ℕ → Type 0
+Out bytes text = length bytes ≤ place_of text bytes
+
+-- the text and its 0 byte are put at the end
+abbrev added : List ℕ → List ℕ → List ℕ
+added bytes text = bytes ++ (text ++ 0 ∷ [])
+
+in_longer : (bytes more text : List ℕ) → In bytes text → In (bytes ++ more) text
+in_longer bytes more text h = grind (arith, place_kept, length-append)
+
+-- a text comes no later than there
+place_of_stands : (bytes text : List ℕ) (s : Stands bytes text) → place_of text bytes ≤ length s.before
+place_of_stands bytes text s = grind (arith, place_behind)
+
+stands_in : (bytes text : List ℕ) → Stands bytes text → In bytes text
+stands_in bytes text s = grind (arith, place_behind, length-append)
+
+-- the end of a text that is there
+abbrev end_stands : {bytes text other : List ℕ} → Stands bytes text → Ends text other → Stands bytes other
+end_stands s h = record { before = s.before ++ h.front; after = s.after; whole = grind (arith, append_assoc) }
+
+abbrev ends_nothing : (text : List ℕ) → Ends text []
+ends_nothing text = record { front = _; is = sym (append-nil text) }
+
+-- the bytes of designations, and a text that may be put in
+module _ (bytes text : List ℕ) where
+  abbrev put_stands : Stands (added bytes text) text
+  put_stands = record { before = bytes; after = []; whole = refl }
+
+  put_in : (other : List ℕ) → Ends text other → In (added bytes text) other
+  put_in other h = grind (arith, stands_in, end_stands, put_stands)
+
+  in_stands : HasNoZero text → In bytes text → Stands bytes text
+  in_stands none l = let s = has_text text bytes none l in grind arith
+
+  -- what a text that is there ends with is there too
+  end_in : (other : List ℕ) → HasNoZero text → Ends text other → In bytes text → In bytes other
+  end_in other none h l = grind (arith, stands_in, end_stands, in_stands)
+
+  -- a text that isn't there is put in if there is room for it; else all stays as it is
+  put_is : Out bytes text → length bytes + length text < 263 → with_text bytes text ≡ added bytes text
+  unfolding with_text
+  put_is out room = grind (arith, nat_tests)
+
+  by_text : (P : List ℕ → Type 0) → P bytes → (Out bytes text → length bytes + length text < 263 → P (added bytes text))
+      → P (with_text bytes text)
+  unfolding with_text
+  by_text P same put = grind arith
+
+  kept : (other : List ℕ) → In bytes other → In (with_text bytes text) other
+  unfolding with_text
+  kept other h = grind (arith, in_longer)
+
+  -- a text for which there is room is put in
+  pub put : (Out bytes text → length bytes + length text < 263) → In (with_text bytes text) text
+  put room = grind (arith, kept, put_is, put_in)
+
+-- ---- the texts of types
+-- to be put in at that size
+abbrev Turn : List ℕ → ℕ → LocalType → Type 0
+Turn last size t = (length (name_of t) ≡ size) × (Ends last (name_of t) → ⊥)
+
+-- what holds of designations, whatever types are put in
+module _ (P : List ℕ → Type 0) (last : List ℕ) (size : ℕ) where
+  by_turn : (bytes : List ℕ) (t : LocalType) → P bytes → (Turn last size t → P (with_text bytes (name_of t)))
+      → P (with_text_of last size bytes t)
+  by_turn bytes t same put = grind (arith, ends_decided)
+
+  by_types : (types : List LocalType) (bytes : List ℕ) → All (λ t. (d : List ℕ) → P d → P (with_text_of last size d t)) types → P bytes
+      → P (with_texts last size bytes types)
+  unfolding with_texts
+  by_types [] bytes step h = h
+  by_types (t ∷ ts) bytes step h =
+      by_types ts _ (λ i d l. step (suc i) d (omega arith)) (step 0 t (omega arith) bytes h)
+
+  keeps_all : ((d text : List ℕ) → P d → P (with_text d text)) → (types : List LocalType) (bytes : List ℕ) → P bytes
+      → P (with_texts last size bytes types)
+  keeps_all step types bytes h = by_types types bytes (λ i e l d k. by_turn d (get_or types i e) k (λ _. step d _ k)) h
+
+before_keeps : (P : List ℕ → Type 0) → ((d text : List ℕ) → P d → P (with_text d text)) → (last : List ℕ) (types : List LocalType)
+    → P [] → P (before_last last types)
+unfolding before_last
+before_keeps P step last types h = let all = λ (n : ℕ). keeps_all P last n step types in grind arith
+
+-- ---- room in other bytes
+no_front : (m text : List ℕ) → length (m ++ text) ≤ length text → m ++ text ≡ text
+no_front [] text l = refl
+no_front (x ∷ xs) text l = grind (arith, length-append)
+
+-- y between c and d is left when the text between b and a is cut out
+module _ (last text y b a c d : List ℕ) (free : Ends last text → ⊥) (apart : Ends text y → ⊥) (small : (length y ≤ length text) ⊎ Ends last y) where
+  cut : Meeting b text a c y d → Stands (b ++ a) y
+  cut (In_front e h) = grind (arith, append_assoc)
+  cut (Behind e h) = record { before = b ++ e; after = d; whole = cc (append_assoc b e (y ++ (0 ∷ d))) }
+  cut (Is_end m h l) = absurd (grind arith)
+  cut (Has_end m h l) = elim small [
+    | inl s ↦ absurd (apart (record { front = []; is = cc (no_front m text (omega (arith, ap length h))) }))
+    | inr k ↦ absurd (free (record { front = k.front ++ m; is = cc (append_assoc k.front m text) }))
+  ]
+
+-- the last text is to be `last`, and the others are bytes that have the texts
+module _ (last others : List ℕ) where
+  -- what is left of the others when the texts in the designations are cut out of them: the texts that are to come, of
+  -- at most that size or at the end of the last one, are still there
+  pub record Room (bytes : List ℕ) (size : ℕ) : Type 0 where
+    pub left : List ℕ
+    pub fits : length bytes + length left ≤ length others
+    pub rest : (text : List ℕ) → HasNoZero text → (length text ≤ size) ⊎ Ends last text → Stands others text → Out bytes text → Stands left text
+
+  -- a text that isn't there has room
+  room_of : (bytes text : List ℕ) (size : ℕ) → Room bytes size → HasNoZero text → (length text ≤ size) ⊎ Ends last text
+      → Stands others text → Out bytes text → length bytes + length text + 1 ≤ length others
+  room_of bytes text size r none small stands out = grind (arith, length-append)
+
+  -- the text of the type has no 0 byte, and is in the others if it is to be put in
+  pub record Given (t : LocalType) : Type 0 where
+    pub none : HasNoZero (name_of t)
+    pub stands : (Ends last (name_of t) → ⊥) → Stands others (name_of t)
+
+  put_room : (bytes : List ℕ) (size : ℕ) (t : LocalType) → Given t → Room bytes size → Turn last size t → Out bytes (name_of t)
+      → Room (added bytes (name_of t)) size
+  put_room bytes size t g r turn out =
+      let text = name_of t in let s = r.rest _ g.none (inl (omega arith)) (g.stands turn.1) out in record {
+        left = s.before ++ s.after;
+        fits = grind (arith, length-append);
+        rest = λ y nothing small there still.
+            let q = r.rest y nothing small there (let l = in_longer bytes (text ++ 0 ∷ []) y in grind arith) in
+            cut last text y _ _ _ _ turn.1 (λ e. absurd (omega (arith, put_in bytes text y e))) (rw (← turn.0) at small)
+            (meet s.before _ s.after q.before _ q.after g.none nothing (cc));
+      }
+
+  type_room : (bytes : List ℕ) (size : ℕ) (t : LocalType) → Given t → Room bytes size → Room (with_text_of last size bytes t) size
+  type_room bytes size t g r = by_turn (λ d. Room d size) _ _ _ t r (λ turn. by_text _ _ (λ d. Room d size) r (λ out _. put_room _ _ t g r turn out))
+
+  put_all : (size : ℕ) (types : List LocalType) (bytes : List ℕ) → length others ≤ 263 → All Given types → Room bytes size
+      → All (λ t. Turn last size t → In (with_texts last size bytes types) (name_of t)) types
+  unfolding with_texts
+  put_all size [] bytes short g r i d l turn = absurd (omega arith)
+  put_all size (t ∷ ts) bytes short g r (suc i) d l turn =
+      put_all size ts _ short (λ k e m. g (suc k) e (omega arith)) (type_room _ _ t (g 0 t (omega arith)) r) i d (omega arith) turn
+  put_all size (t ∷ ts) bytes short g r zero d l turn =
+      let given = g 0 t (omega arith) in let out = room_of bytes (name_of t) size r given.none (inl (omega arith)) (given.stands turn.1) in
+      let first : In (with_text_of last size bytes t) (name_of t) = grind (arith, put, ends_decided, eq-eqb) in
+      keeps_all (λ d. In d (name_of t)) _ _ (λ d other. kept d other _) ts _ first
+
+  -- ---- in front of the last
+  -- the others have room for the texts of that size, and the longer ones have been put in
+  record Passed (types : List LocalType) (size : ℕ) (bytes : List ℕ) : Type 0 where
+    room : Room bytes size
+    inside : length others ≤ 263
+        → All (λ t. size ≤ length (name_of t) → length (name_of t) ≤ 7 → (Ends last (name_of t) → ⊥) → In bytes (name_of t)) types
+
+  -- the others have the texts of all these types
+  module _ (types : List LocalType) (g : All Given types) where
+    pass : (size : ℕ) (bytes : List ℕ) → Passed types (suc size) bytes → Passed types size (with_texts last size bytes types)
+    pass size bytes p = let r : Room bytes size = let wider = p.room in grind arith in record {
+      room = by_types (λ d. Room d size) _ _ types bytes (λ i e l d k. type_room d size _ (g i e l) k) r;
+      inside = λ short i e l low high free.
+          let all = put_all size types bytes short g r i e l in
+          let keep = keeps_all (λ d. In d (name_of (get_or types i e))) last size (λ d other. kept d other _) types bytes in grind (arith, cases_lt);
+    }
+
+    before_passed : Passed types 3 (before_last last types)
+    unfolding before_last
+    before_passed = let step = pass in grind arith
+
+-- ---- a 0 byte is in designations that have bytes
+abbrev Filled : List ℕ → Type 0
+Filled bytes = (bytes ≡ []) ⊎ In bytes []
 
 -- ---- texts
 at_size : {bytes text : List ℕ} {place : ℕ} (s : StandsAt bytes place text) → length bytes ≡ place + length text + 1 + length s.after
@@ -31,14 +300,10 @@ text_found bytes text none h = let s = has_text text bytes none h in grind (arit
 
 -- ---- designations that have the names
 module _ (others : List ℕ) where
-  pub record Served (t : LocalType) : Type 0 where
-    pub size : (length (name_of t) ≤ 7) × ((length (name_of t) ≡ 0) ⊎ (3 ≤ length (name_of t)))
-    pub stands : StandsAt others (place_of (name_of t) others) (name_of t)
-    pub low : place_of (name_of t) others < 256
-
-  served : (t : LocalType) → IsNameOrNone t.name → IsNamedIn others t → Served t
-  served t named h =
-      let at = place_of_stands others (name_of t) (stands_of h.stands) in let size = at_size h.stands in grind (arith, nat_tests, has_text)
+  record Served (t : LocalType) : Type 0 where
+    size : (length (name_of t) ≤ 7) × ((length (name_of t) ≡ 0) ⊎ (3 ≤ length (name_of t)))
+    stands : StandsAt others (place_of (name_of t) others) (name_of t)
+    low : place_of (name_of t) others < 256
 
   -- the byte after the text, and of two texts before one 0 byte the longer
   key_in : LocalType → ℕ
@@ -48,105 +313,82 @@ module _ (others : List ℕ) where
   IsBelow m t = key_in t ≤ key_in m
 
   -- the place of a type whose key is the greatest
-  greatest : (t : LocalType) (ts : List LocalType)
-      → (place : ℕ) × (place < length (t ∷ ts)) × ((d : LocalType) → All (IsBelow (get_or (t ∷ ts) place d)) (t ∷ ts))
-  greatest t [] = (0, omega arith, λ d. All-cons (IsBelow t) t [] (omega arith) (All-nil (IsBelow t)))
-  greatest t (u ∷ us) = let (place, inside, above) = greatest u us in elim (cases_lt (key_in (get_or (u ∷ us) place u)) (key_in t)) [
-    | inl l ↦ (
-      0,
-      omega arith,
-      λ d. All-cons (IsBelow t) t (u ∷ us) (omega arith)
-          (All-weaker (IsBelow (get_or (u ∷ us) place u)) (IsBelow t) (λ x k. omega arith) (u ∷ us) (above u)),
-    )
-    | inr m ↦ (suc place, omega arith, λ d. All-cons (IsBelow (get_or (u ∷ us) place d)) t (u ∷ us) (omega (arith, above d place u inside)) (above d))
-  ]
-
-  -- the text is in front of the last one, or ends with it
-  pub record EndsWith (m t : LocalType) : Type 0 where
-    pub ends : Ends (name_of m) (name_of t)
-    pub at : place_of (name_of t) others + length (name_of t) ≡ place_of (name_of m) others + length (name_of m)
+  greatest : (d t : LocalType) (ts : List LocalType) → (place : ℕ) × (place < length (t ∷ ts)) × All (IsBelow (get_or (t ∷ ts) place d)) (t ∷ ts)
+  greatest d t [] = (0, omega arith, grind arith)
+  greatest d t (u ∷ us) =
+      let (place, inside, above) = greatest d u us in let m = get_or (u ∷ us) place d in elim (cases_lt (key_in m) (key_in t)) [
+        | inl l ↦ (0, omega arith, All-cons (IsBelow t) t (u ∷ us) (omega arith) (All-weaker (IsBelow m) (IsBelow t) (λ x k. omega arith) (u ∷ us) above))
+        | inr k ↦ (suc place, omega arith, All-cons (IsBelow m) t (u ∷ us) k above)
+      ]
 
 -- ---- laid with that text as the last
 module _ (bytes last : List ℕ) where
   kept_low : (text : List ℕ) → In bytes text → place_of text (with_text bytes last) ≤ place_of text bytes
-  kept_low text h = by_text bytes last (λ d. place_of text d ≤ place_of text bytes) (omega arith)
-      (λ _ _. place_kept text bytes (last ++ 0 ∷ []) h)
-
-  -- a text has its place in what is laid, if it comes before the last one, or else in what that ends
-  in_place : (t : LocalType) → length bytes ≤ 256 → In bytes (name_of t) → HasPlace (with_text bytes last) t
-  in_place t short h = grind (arith, kept, kept_low)
+  unfolding with_text
+  kept_low text h = grind (arith, place_kept)
 
   at_end : (t : LocalType) → Ends last (name_of t) → Out bytes last → length bytes + length last < 263
       → length bytes + length last < 256 + length (name_of t) → HasPlace (with_text bytes last) t
-  at_end t e out room low = grind (arith, put_is, put_in, place_of_put)
+  at_end t e out room low = let there = place_of_stands _ _ (end_stands (put_stands bytes last) e) in grind (arith, put_is, put_in, length-append)
 
 decided : {P : Type 0} (b : Bool) → Decides b P → P ⊎ (¬ P)
 decided b d = grind (arith, nat_tests)
-
-has_end : (last text : List ℕ) → ((Ends last text → ⊥) → ⊥) → Ends last text
-has_end last text h = elim (decided (ends last text) (ends_decided last text)) [ inl e ↦ e | inr none ↦ absurd (h none) ]
 
 laid_short : (last others : List ℕ) (types : List LocalType) → HasNoZero last → Stands others last → All (Given last others) types
     → length (laid last types) ≤ length others
 unfolding laid with_text
 laid_short last others types none stands given =
-    let r = (before_passed last others types given).room in
-    let end : Ends last last = record { front = []; is = refl } in grind (arith, nat_tests, length-append, room_of)
+    let r = before_passed last others types given in
+    grind (arith, nat_tests, length-append, room_of)
 
 -- m is one of the types that the others serve: the one whose name is laid last
 module _ (others : List ℕ) (m : LocalType) (sm : Served others m) where
+  -- the text is in front of the last one, or ends with it
   abbrev Where : LocalType → Type 0
-  Where t = Stands sm.stands.before (name_of t) ⊎ EndsWith others m t
+  Where t = Stands sm.stands.before (name_of t) ⊎ (Ends (name_of m) (name_of t)
+      × (place_of (name_of t) others + length (name_of t) ≡ place_of (name_of m) others + length (name_of m)))
 
   where_is : (t : LocalType) → Served others t → IsBelow others m t → Where t
   unfolding key_in
   where_is t st top =
       let a = sm.stands in let b = st.stands in let m_size = at_size a in let t_size = at_size b in
-      elim (meet a.before (name_of m) a.after b.before (name_of t) b.after a.ends b.ends (cc)) [
-        | In_front e h ↦ inl (record { before = b.before; after = e; whole = h })
+      elim (meet a.before _ a.after b.before _ b.after a.ends b.ends (cc)) [
+        | In_front e h ↦ inl (grind arith)
         | Behind e h ↦ absurd (grind (arith, length-append))
-        | Is_end f h l ↦ inr (record { ends = record { front = f; is = h }; at = omega (arith, ap length l) })
+        | Is_end f h l ↦ inr (record { front = f; is = h }, omega (arith, ap length l))
         | Has_end f h l ↦ grind (arith, no_front)
       ]
 
   -- t is another one, and the designations are those in front of the last name
   module _ (t : LocalType) (st : Served others t) (where_t : Where t) (bytes : List ℕ) (r : Room (name_of m) sm.stands.before bytes 3)
       (filled : Filled bytes) where
-    at_the_end : Out bytes (name_of m) → Out bytes (name_of t) → Ends (name_of m) (name_of t) → Where t
-        → HasPlace (with_text bytes (name_of m)) t
-    at_the_end out away e (inr q) = grind (arith, nat_tests, at_end)
-    at_the_end out away e (inl s) =
-        let size = st.size.1 in
-        let room = room_of (name_of m) sm.stands.before bytes (name_of t) 3 r st.stands.ends (inr e) s away in
-        at_end bytes (name_of m) t e out (omega arith) (grind (arith, nil_from_length))
+    at_the_end : Out bytes (name_of m) → Out bytes (name_of t) → Ends (name_of m) (name_of t) → HasPlace (with_text bytes (name_of m)) t
+    at_the_end out away e =
+        let size = st.size.1 in let put = at_end bytes (name_of m) t e out in
+        let room = λ (s : Stands sm.stands.before (name_of t)). room_of _ _ _ _ _ r st.stands.ends (inr e) s away in
+        grind (arith, nat_tests, nil_from_length)
 
     laid_place : (3 ≤ length (name_of t) → length (name_of t) ≤ 7 → (Ends (name_of m) (name_of t) → ⊥) → In bytes (name_of t))
         → HasPlace (with_text bytes (name_of m)) t
     laid_place inside = elim (cases_lt (place_of (name_of t) bytes) (length bytes)) [
-      | inl l ↦ in_place bytes (name_of m) t (omega arith) l
+      | inl l ↦ grind (arith, kept, kept_low)
       | inr away ↦
-          let e = has_end (name_of m) (name_of t) (λ free. elim st.size.1 [
-            | inl none ↦ free (rw (nil_from_length (name_of t) none) (ends_nothing (name_of m)))
-            | inr three ↦ absurd (omega (arith, inside three st.size.0 free))
-          ]) in
-          let end = end_in bytes (name_of m) (name_of t) sm.stands.ends e in let out = at_the_end in grind (arith, cases_lt)
+          let e : Ends (name_of m) (name_of t) = let d = decided _ (ends_decided (name_of m) (name_of t)) in grind (arith, nil_from_length, ends_nothing) in
+          let end = end_in bytes _ _ sm.stands.ends e in let out = at_the_end in grind (arith, cases_lt)
     ]
-
-  stands_with : (t : LocalType) → Where t → Stands (added sm.stands.before (name_of m)) (name_of t)
-  stands_with t (inl s) = grind (arith, nat_tests, append_assoc)
-  stands_with t (inr q) = end_stands (put_stands sm.stands.before (name_of m)) q.ends
 
   -- ---- all types, of which m has the greatest key
   module _ (types : List LocalType) (s : All (Served others) types) (top : All (IsBelow others m) types) where
     places : All Where types
-    places i d l = where_is (get_or types i d) (s i d l) (top i d l)
+    places i d l = where_is _ (s i d l) (top i d l)
 
     places_with : HavePlaces (laid (name_of m) types) types
     unfolding laid
     places_with i d l =
         let given : All (Given (name_of m) sm.stands.before) types = λ i d l. let st = s i d l in let where_t = places i d l in grind arith in
-        let p = before_passed (name_of m) sm.stands.before types given in
-        laid_place (get_or types i d) (s i d l) (places i d l) (before_last (name_of m) types) p.room (before_filled (name_of m) types)
+        let p = before_passed _ _ types given in
+        laid_place _ (s i d l) (places i d l) _ p.room
+        (before_keeps Filled (λ d text h. by_text d text Filled h (λ _ _. inr (put_in d text [] (ends_nothing text)))) _ types (inl refl))
         (p.inside (omega arith) i d l)
 
     -- the texts are in what is laid in order
@@ -154,7 +396,10 @@ module _ (others : List ℕ) (m : LocalType) (sm : Served others m) where
     unfolding laid
     in_order_in i d l =
         let whole = added sm.stands.before (name_of m) in
-        let stands : All (λ t. Stands whole (name_of t)) types = λ i d l. stands_with (get_or types i d) (places i d l) in
+        let stands : All (λ t. Stands whole (name_of t)) types = λ i d l. elim (places i d l) [
+          | inl s ↦ grind (arith, nat_tests, append_assoc)
+          | inr q ↦ end_stands (put_stands sm.stands.before (name_of m)) q.0
+        ] in
         let short : length whole ≤ 263 = grind (arith, length-append) in
         let t = get_or types i d in let size = (s i d l).size in
         let p = before_passed [] whole types (λ i d l. record { none = (s i d l).stands.ends; stands = λ free. stands i d l }) in
@@ -171,7 +416,7 @@ module _ (others : List ℕ) (m : LocalType) (sm : Served others m) where
 -- ---- no shorter ones
 in_order_short : (types : List LocalType) (others : List ℕ) → 0 < length types → AreNamesIn others types → length (laid [] types) ≤ length others
 in_order_short [] others some names = absurd (omega arith)
-in_order_short (t ∷ ts) others some names = laid_short [] others (t ∷ ts) tt (no_text (stands_of (names 0 t some).stands))
+in_order_short (t ∷ ts) others some names = laid_short [] _ (t ∷ ts) tt (no_text (stands_of (names 0 t some).stands))
     (λ i d l. record { none = (names i d l).stands.ends; stands = λ free. stands_of (names i d l).stands })
 
 -- ---- what is laid
@@ -180,20 +425,17 @@ AreNames types = All (λ t. IsNameOrNone t.name) types
 
 none_laid : (types : List LocalType) (others : List ℕ) → AreNames types → AreNamesIn others types → ¬ (HavePlaces (laid [] types) types)
     → AreNotPlacedBefore types (length (laid [] types)) → ⊥
-none_laid [] others named names unplaced none = unplaced (All-nil (HasPlace (laid [] [])))
+none_laid [] others named names unplaced none = unplaced (All-nil _)
 none_laid (t ∷ ts) others named names unplaced none =
     let types = t ∷ ts in
-    let s : All (Served others) types = λ i d l. served others (get_or types i d) (named i d l) (names i d l) in
-    let (place, inside, above) = greatest others t ts in
+    let s : All (Served others) types = λ i d l.
+        let h = names i d l in let name = named i d l in let at = place_of_stands _ _ (stands_of h.stands) in let size = at_size h.stands in
+        grind (arith, nat_tests, has_text) in
+    let (place, inside, above) = greatest others t t ts in
     let m = get_or types place t in let sm = s place t inside in
-    let found = in_order_in others m sm types s (above t) place t inside in
-    let placed = placed_with others m sm types s (above t) found in
-    let text = text_found (laid [] types) (name_of m) sm.stands.ends found in grind arith
-
--- ---- places are names
-named_in : (bytes : List ℕ) (t : LocalType) → IsNameOrNone t.name → HasPlace bytes t → IsNamedIn bytes t
-named_in bytes t name h =
-    record { place = place_of (name_of t) bytes; stands = has_text (name_of t) bytes (no_zero t.name name) h.stands; named = h.named }
+    let found = in_order_in _ m sm types s above place t inside in
+    let placed = placed_with _ m sm types s above found in
+    let text = text_found _ _ sm.stands.ends found in grind arith
 
 -- the designations that are laid
 abbrev pub AreLaid : List LocalType → List ℕ → Type 0
@@ -207,23 +449,25 @@ places_or_not bytes types =
     let has_place = λ (t : LocalType). nat_lt (place_of (name_of t) bytes) (length bytes) && nat_lt (place_of (name_of t) bytes) 256 in
     decided _ (Decides-by_and has_place (HasPlace bytes) (list_all has_place) (λ t. grind (arith, nat_tests)) refl (λ _ _. refl) types)
 
-placed_or_not : (types : List LocalType) (place : ℕ) → IsPlacedFrom types place ⊎ (¬ (IsPlacedFrom types place))
-placed_or_not types place = let places = places_or_not (laid_from types place) types in grind (arith, cases_lt)
-
 first_placed : (types : List LocalType) (place : ℕ) → AreNotPlacedBefore types place ⊎ ((d : List ℕ) × IsFirstPlaced types d)
-first_placed types zero = inl (λ k l. absurd (omega arith))
+first_placed types zero = inl (grind arith)
 first_placed types (suc n) = elim (first_placed types n) [
   | inr f ↦ inr f
-  | inl none ↦ elim (placed_or_not types n) [
-    | inl h ↦ inr (laid_from types n, record { place = n; placed = h; laid_is = refl; first = none })
-    | inr not ↦ inl (grind (arith, below_more))
-  ]
+  | inl none ↦
+      let places = places_or_not (laid_from types n) types in
+      let placed : IsPlacedFrom types n ⊎ (¬ (IsPlacedFrom types n)) = grind (arith, cases_lt) in elim placed [
+        | inl h ↦ inr (_, record { place = n; placed = h; laid_is = refl; first = none })
+        | inr not ↦ inl (grind (arith, below_more))
+      ]
 ]
 
 -- there are types, and each has a name
 module _ (types : List LocalType) (some : 0 < length types) (names : AreNames types) where
   shortest : (bytes : List ℕ) → HavePlaces bytes types → length bytes ≤ length (laid [] types) → AreShortest bytes types
-  shortest bytes h short = grind (arith, named_in, in_order_short)
+  shortest bytes h short =
+      let named : AreNamesIn bytes types = λ i d l. let p = h i d l in
+          record { place = _; stands = has_text _ bytes (no_zero _ (names i d l)) p.stands; named = p.named } in
+      grind (arith, in_order_short)
 
   pub laid_in_order : (bytes : List ℕ) → bytes ≡ laid [] types → HavePlaces bytes types → AreLaid types bytes
   laid_in_order bytes e h = (h, In_order h e, shortest bytes h (omega (arith, ap length e)))
@@ -240,20 +484,18 @@ module _ (types : List LocalType) (some : 0 < length types) (names : AreNames ty
   -- some designations are laid, if any have the names
   pub laid_of : (bytes : List ℕ) → AreNamesIn bytes types → (d : List ℕ) × AreLaid types d
   laid_of bytes named = elim (places_or_not (laid [] types) types) [
-    | inl h ↦ (laid [] types, laid_in_order (laid [] types) refl h)
+    | inl h ↦ (_, laid_in_order (laid [] types) refl h)
     | inr unplaced ↦ elim (first_placed types (length (laid [] types))) [
-      | inl none ↦ absurd (none_laid types bytes names named unplaced none)
-      | inr f ↦ (f.0, laid_with_last unplaced f.0 f.1)
+      | inl none ↦ grind (arith, none_laid)
+      | inr f ↦ (_, laid_with_last unplaced _ f.1)
     ]
   ]
 
 -- ---- they have room
 size_with : (bytes text : List ℕ) → length bytes ≤ 263 → length (with_text bytes text) ≤ 263
-size_with bytes text h = by_text bytes text (λ d. length d ≤ 263) h (λ _ room. grind (arith, length-append))
-
-size_laid : (last : List ℕ) (types : List LocalType) → length (laid last types) ≤ 263
-unfolding laid
-size_laid last types = size_with (before_last last types) last (before_keeps (λ d. length d ≤ 263) size_with last types (omega arith))
+unfolding with_text
+size_with bytes text h = grind (arith, length-append)
 
 pub laid_size : (types : List LocalType) (bytes : List ℕ) → IsLaid types bytes → length bytes ≤ 263
-laid_size types bytes h = grind (arith, size_laid)
+unfolding laid
+laid_size types bytes h = let size = λ (last : List ℕ). size_with _ last (before_keeps (λ d. length d ≤ 263) size_with last types (omega arith)) in grind arith

@@ -1,33 +1,270 @@
--- The text of a rule: it spells the rule, and each other one is longer.
-use Rattle.tz_write.proofs.Words.{Alternate, AreInPairs, AreTimesOf, Bool, CanBeSpelled, DayTime, IsAlternateRule, IsName, IsNamed, IsPlainTime, IsRule}
-use Rattle.tz_write.proofs.Words.{IsTextTime, IsTzText, IsWithinDay, IsWrittenText, List, LocalType, NoneFirst, Spells, TransitionRule, ap, append-nil}
-use Rattle.tz_write.proofs.Words.{append_assoc, arith, both_ways, comma, spelled_day, spelled_dst_offset, false, inl, inr, ints, is_letter, length, name_of}
-use Rattle.tz_write.proofs.Words.{name_or_none, spelled_name, named_type, nat_tests, not, offset_fits, spelled_offset, refl, spelled_rule, true, ℕ, ℤ, []}
-use Rattle.tz_write.proofs.Words.{◌++◌, ◌<◌, ◌↔◌, ◌∙◌, ◌∷◌, ◌≡◌, ◌⊎◌}
-use Rattle.tz_write.proofs.{Clocks.{Stops, comma_stops, offset_begins, offset_front, offset_writes}, Decimals.{Begins}}
-use Rattle.tz_write.proofs.PieceTexts.{by_hour, day_front, day_plain, day_writes, dst_offset_front, dst_offset_writes, name_begins, name_front, name_writes}
-use Rattle.tz_write.proofs.Shortest.{Best, front_cons, front_then, front_whole}
-use Rattle.tz_write.proofs.TextBytes.{writes_here}
-use Rattle.tz_write.proofs.TextBytes.{AreTextBytes, Writes, writes_byte, writes_last, writes_more, writes_then}
+-- The text of a rule, and of a zone: it spells the rule, or gives the zone, and each other one is longer.
+use Rattle.tz_base.{proofs.RunLaws.{all_of}, specs.Grammar.{Number, Run, Then}}
+use Rattle.tz_info.specs.declared.rule.day.DayForm.TheVariants.{Julian0, Julian1, MonthWeekday}
+use Rattle.tz_write.proofs.{
+  TextBytes.{AreTextBytes, Begins, Best, Front, Writes, all_others, first_optional, front_cons, front_longer, front_nothing, front_optional, front_then},
+  TextBytes.{front_unless, front_whole, names_are, number_begins, number_front, number_writes, pair_front, pair_writes, pairs_over, pairs_rest, trimmed_text},
+  TextBytes.{two_digits, writes_byte, writes_check, writes_colon, writes_first, writes_here, writes_last, writes_mark, writes_more, writes_nothing},
+  TextBytes.{writes_optional, writes_other, writes_then},
+  Words.{AllOf, Alternate, AreInPairs, AreTimesOf, Bool, CanBeSpelled, DayForm, DayTime, Decides-int_eq, HasZoneText, IsAlternateRule, IsName, IsNamed},
+  Words.{IsNoPosixZone, IsOfText, IsPlainTime, IsPosixZone, IsRule, IsRuleDay, IsRuleOrNone, IsSpace, IsTextTime, IsTrimmed, IsTzText, IsWithinDay},
+  Words.{IsWrittenText, IsWrittenZone, List, LocalType, None, NoneFirst, OnErr, Option, Result, Some, Spells, TransitionRule, Without, Zone, [], and_from},
+  Words.{and_parts, ap, append-nil, append_assoc, arith, both_ways, clock_max, colon, comma, cond, false, greater, inl, inr, int_eq, ints, is_digit, is_letter},
+  Words.{is_name_byte, is_not_greater, le-ltb, length, length-append, less, list_all, minus, name_of, name_or_none, named_type, nat_tests, neg_ℤ, not},
+  Words.{offset_fits, pos, refl, slash, spelled_clock, spelled_date, spelled_day, spelled_dst_offset, spelled_name, spelled_offset, spelled_pair, spelled_rule},
+  Words.{spelled_time, time_after, time_limit, true, unsigned_abs, zone_of_rule, ℕ, ℤ, ◌%◌, ◌&&◌, ◌*◌, ◌++◌, ◌+ℤ◌, ◌+◌, ◌/◌, ◌<ℤ◌, ◌<◌, ◌==◌, ◌↔◌, ◌∙◌, ◌∷◌},
+  Words.{◌≡◌, ◌≤◌, ◌⊎◌},
+}
+use Rattle.tz_write.specs.Steps.TextPieces.{is_negative, is_positive, spelled_hands, spelled_minutes, spelled_seconds, spelled_signed}
 use Rattle.tz_info.specs.TzGrammar as tz
 use Rattle.tz_info.specs.declared.rule.transition_rule.TransitionRule.TheVariants as rules
 
+-- ---- offsets and times of day
+-- nothing that goes on with an offset, a day or a time
+abbrev Stops : List ℕ → Type 0
+Stops rest = NoneFirst is_digit rest × Without colon rest × Without slash rest
+
+comma_stops : (rest : List ℕ) → Stops (comma ∷ rest)
+comma_stops rest = grind (arith, nat_tests)
+
+-- ---- numbers with a sign
+abbrev signed : Bool → ℕ → ℤ
+signed negative n = cond negative (neg_ℤ (pos n)) (pos n)
+
+-- seconds below n hours, before or after midnight
+hours_within : (hours : ℕ) (z : ℤ) → (neg_ℤ (pos (3600 * hours)) <ℤ z) × (z <ℤ pos (3600 * hours)) → unsigned_abs z / 3600 < hours
+hours_within hours z h = grind (arith, ints)
+
+clock_begins : (n : ℕ) (rest : List ℕ) → n / 3600 < 1000 → Begins 48 57 (spelled_clock n ++ rest)
+unfolding spelled_clock
+clock_begins n rest l = grind (arith, append_assoc, number_begins)
+
+-- an offset begins with a digit or a minus
+offset_begins : (east : ℤ) (rest : List ℕ) → IsWithinDay east → Begins 45 57 (spelled_offset east ++ rest)
+unfolding spelled_offset
+offset_begins east rest h = grind (arith, clock_begins, hours_within)
+
+-- ---- what is written before a rest that ends it
+module _ (rest : List ℕ) (stops : Stops rest) where
+  minutes_writes : (m s : ℕ) → m ≤ 59 → s ≤ 59 → Writes tz.optional_minutes (spelled_minutes m s) (m, s) rest
+  unfolding tz.optional_minutes tz.minutes_seconds tz.seconds
+  minutes_writes m s a b = let stop = first_optional is_digit (s == 0) colon _ rest refl stops.0 in
+      writes_optional ((m == 0) && (s == 0)) (grind (arith, nat_tests)) stops.1 (λ _. writes_colon (two_digits m _ (omega arith) stop)
+      (writes_then (pair_writes (omega arith) stop (omega arith))
+      (writes_last (grind (arith, writes_optional, writes_colon, two_digits, pair_writes)) (refl, refl))))
+
+  hours_writes : (h m s : ℕ) → h ≤ clock_max → m ≤ 59 → s ≤ 59 → Writes tz.hours_minutes_seconds (spelled_hands h m s) (h, m, s) rest
+  unfolding tz.hours_minutes_seconds
+  hours_writes h m s l a b =
+      writes_then (number_writes l (grind (arith, nat_tests)) (omega arith))
+      (writes_last (minutes_writes m s a b) (refl, refl))
+
+  -- n seconds are z, but for the sign
+  module _ (limit n : ℕ) (z : ℤ) (l : n / 3600 ≤ limit) (k : limit < 1000) where
+    duration_writes : (negative : Bool) → z ≡ signed negative n → Writes (tz.duration limit negative) (spelled_clock n) z rest
+    unfolding spelled_clock tz.duration
+    duration_writes negative v =
+        let e : 3600 * (n / 3600) + 60 * (n / 60 % 60) + n % 60 ≡ n = omega arith in
+        writes_here (writes_last (hours_writes (n / 3600) (n / 60 % 60) (n % 60) (omega arith) (omega arith) (omega arith))
+        ((l, omega arith, omega arith), rw e v, refl))
+
+    -- a minus, if there is to be one, and a duration, whose sign follows from the minus
+    signed_writes : (signs : Bool) (f : Bool → Bool) (negative : Bool) → (signs ≡ false → negative ≡ false) → z ≡ signed (f negative) n
+        → Writes (Then (tz.time_sign signs) (λ m. tz.duration limit (f m))) (spelled_signed negative n) z rest
+    unfolding tz.time_sign tz.sign
+    signed_writes true f true may v = writes_then (writes_other (grind arith) (writes_mark refl (writes_nothing refl))) (duration_writes _ v)
+    signed_writes true f false may v = let first = clock_begins n rest (omega arith) in
+        writes_first false (inr (grind arith, inr (grind arith, (refl, refl))))
+        (duration_writes _ v)
+    signed_writes false f true may v = let e = may refl in cc
+    signed_writes false f false may v = writes_first false (refl, refl) (duration_writes (f false) v)
+
+  offset_writes : (east : ℤ) → IsWithinDay east → Writes tz.offset (spelled_offset east) east rest
+  unfolding spelled_offset tz.offset tz.time_sign
+  offset_writes east h = signed_writes 23 _ east (omega (arith, hours_within 24 east h)) (omega arith) true not (is_positive east) (λ e. cc)
+      (grind (arith, ints))
+
+  time_writes : (extended : Bool) (time : ℤ) → IsTextTime extended time → Writes (tz.time extended) (spelled_time time) time rest
+  unfolding spelled_time tz.time
+  time_writes extended time h = let l : unsigned_abs time / 3600 ≤ time_limit extended = grind (arith, hours_within) in
+      let may : extended ≡ false → is_negative time ≡ false = grind (arith, le-ltb) in
+      signed_writes _ _ time l (grind (arith, nat_tests)) extended (λ m. m) (is_negative time) may (grind (arith, ints))
+
+-- ---- the front of bytes that spell the same
+seconds_front : {bytes rest : List ℕ} (s : ℕ) → Spells tz.seconds bytes s rest → Front (spelled_seconds s) bytes rest
+unfolding tz.seconds
+seconds_front s h = front_optional colon 0 (Number clock_max) (s == 0) (λ _. pair_front) (λ z. rw z refl) h
+
+minutes_given : {bytes rest : List ℕ} (after : List ℕ) (m s : ℕ) → bytes ≡ colon ∷ after → Spells tz.minutes_seconds after (m, s) rest
+    → Front (spelled_pair m ++ spelled_seconds s) bytes rest
+unfolding tz.minutes_seconds
+minutes_given after m s e (x, behind, minutes, (y, end, seconds, (value, same))) =
+    grind (arith, front_then (pair_front e minutes) (seconds_front y seconds))
+
+minutes_front : {bytes rest : List ℕ} (m s : ℕ) → Spells tz.optional_minutes bytes (m, s) rest → Front (spelled_minutes m s) bytes rest
+unfolding tz.optional_minutes
+minutes_front m s h =
+    front_optional colon _ tz.minutes_seconds ((m == 0) && (s == 0)) (λ after is p. minutes_given _ m s is p) (grind (arith, nat_tests)) h
+
+hours_front : {bytes rest : List ℕ} (h m s : ℕ) → Spells tz.hours_minutes_seconds bytes (h, m, s) rest → Front (spelled_hands h m s) bytes rest
+unfolding tz.hours_minutes_seconds
+hours_front h m s (x, after, hours, ((y, z), end, others, (value, same))) =
+    grind (arith, front_then (number_front {max = clock_max} (omega arith) hours) (minutes_front y z others))
+
+duration_front : {bytes rest : List ℕ} (limit : ℕ) (negative : Bool) (z : ℤ) → Spells (tz.duration limit negative) bytes z rest
+    → Front (spelled_clock (unsigned_abs z)) bytes rest
+unfolding spelled_clock tz.duration
+duration_front limit negative z h = grind (arith, ints, hours_front)
+
+-- there is a minus if one is needed, and otherwise nothing
+sign_front : {text bytes unsigned rest : List ℕ} (signs needed negative : Bool) → Spells (tz.time_sign signs) bytes negative unsigned
+    → (needed ≡ true → negative ≡ true) → Front text unsigned rest → Front (cond needed (minus ∷ text) text) bytes rest
+unfolding tz.time_sign tz.sign
+sign_front signs needed negative h need f = grind (arith, both_ways, front_cons, front_longer)
+
+offset_front : {bytes rest : List ℕ} (east : ℤ) → Spells tz.offset bytes east rest → Front (spelled_offset east) bytes rest
+unfolding spelled_offset tz.offset tz.time_sign tz.duration
+offset_front east (negative, unsigned, sign, d) =
+    sign_front true (is_positive east) negative sign (let v = d.3.1 in grind (arith, ints)) (duration_front _ _ east d)
+
+time_front : {bytes rest : List ℕ} (extended : Bool) (time : ℤ) → Spells (tz.time extended) bytes time rest → Front (spelled_time time) bytes rest
+unfolding spelled_time tz.time tz.duration
+time_front extended time (negative, unsigned, sign, d) =
+    sign_front extended (is_negative time) negative sign (let v = d.3.1 in grind (arith, ints)) (duration_front _ _ time d)
+
+-- a text without extensions has no other times
+time_plain : (bytes : List ℕ) (time : ℤ) (rest : List ℕ) → Spells (tz.time false) bytes time rest → IsPlainTime time
+unfolding tz.time tz.time_sign tz.duration
+time_plain bytes time rest (negative, _, sign, ((h, m, s), _, _, ((a, b, c), value, _))) = grind (arith, ints, nat_tests)
+
+-- ---- names
+-- the test p passes on each byte
+module _ (p : ℕ → Bool) where
+  all_from : (bs : List ℕ) → list_all p bs ≡ true → AllOf p bs
+  all_from [] h = tt
+  all_from (b ∷ bs) h = let k = and_parts (p b) (list_all p bs) h in (k.0, all_from bs k.1)
+
+  all_to : (bs : List ℕ) → AllOf p bs → list_all p bs ≡ true
+  all_to [] h = refl
+  all_to (b ∷ bs) h = and_from (p b) (list_all p bs) h.0 (all_to bs h.1)
+
+-- letters are above `<`, which comes in front of other names
+letters_begin : (bs rest : List ℕ) → 0 < length bs → AllOf is_letter bs → Begins 65 122 (bs ++ rest)
+letters_begin [] rest some each = absurd (omega arith)
+letters_begin (b ∷ bs) rest some each = grind arith
+
+run_writes : (p : ℕ → Bool) (name rest : List ℕ) → AllOf p name → AllOf is_name_byte name → NoneFirst p rest → Writes (Run p) name name rest
+run_writes p name rest each all none = grind (arith, names_are, pairs_over is_name_byte (λ b h e. grind arith))
+
+abbrev quoted : List ℕ → List ℕ
+quoted name = less ∷ name ++ (greater ∷ [])
+
+-- a name of letters is its own text, and any other has marks around it
+by_letters : (P : List ℕ → Type 0) (name : List ℕ) → (AllOf is_letter name → P name) → P (quoted name) → P (spelled_name name)
+by_letters P name letters others = grind (arith, all_from)
+
+name_writes : (name rest : List ℕ) → IsName name → NoneFirst is_letter rest → Writes tz.name (spelled_name name) name rest
+unfolding tz.name tz.quoted
+name_writes name rest h none = let all : AllOf is_name_byte name = all_of is_name_byte name h.2 in let l = h.0 in
+    by_letters (λ s. Writes tz.name s name rest) name
+    (λ each. writes_other (grind (arith, letters_begin)) (run_writes is_letter name rest each all none))
+    (writes_mark refl
+    (writes_then (run_writes _ name _ (all_others is_name_byte is_not_greater (λ b h. grind (arith, nat_tests)) name all) all refl)
+    (writes_byte refl (writes_nothing refl))))
+
+name_front : {bytes rest : List ℕ} (name : List ℕ) → Spells tz.name bytes name rest → Front (spelled_name name) bytes rest
+unfolding tz.name tz.quoted
+name_front name (inl (_, is, (text, _, run, (_, end, close, (value, same))))) = rw (value, ← same)
+    (record { front = quoted text; whole = grind (arith, append_assoc); best = λ _. grind (arith, length-append) })
+name_front name (inr (_, run)) = grind (arith, all_to)
+
+-- a name's text begins with a letter or `<`
+name_begins : (name rest : List ℕ) → IsName name → Begins 60 122 (spelled_name name ++ rest)
+name_begins name rest h = grind (arith, by_letters, all_from, letters_begin)
+
+-- ---- dates
+date_writes : (form : DayForm) (rest : List ℕ) → IsRuleDay form → NoneFirst is_digit rest → Writes tz.date (spelled_date form) form rest
+unfolding tz.date tz.month_date tz.julian_date tz.numbered_day tz.checked_day
+date_writes (Julian1 n) rest h none = let l = h.1 in
+    writes_other (grind arith) (writes_mark refl (writes_here (writes_last (number_writes (omega arith) none (omega arith)) (h, refl, refl))))
+date_writes (Julian0 n) rest h none = let first = number_begins n rest (omega arith) in
+    writes_other (grind arith) (writes_other (grind arith)
+    (writes_here (writes_last (number_writes (omega arith) none (omega arith)) (h, refl, refl))))
+date_writes (MonthWeekday m w d) rest h none =
+    let a = h.1 in let b = h.3 in let c = h.4 in
+    writes_mark refl (writes_here (writes_then (number_writes (omega arith) refl (omega arith)) (writes_byte refl
+    (writes_here (writes_then (number_writes (omega arith) refl (omega arith))
+    (writes_byte refl (writes_here (writes_last (number_writes (omega arith) none (omega arith)) (h, refl, refl)))))))))
+
+date_front : {bytes rest : List ℕ} (form : DayForm) → Spells tz.date bytes form rest → Front (spelled_date form) bytes rest
+unfolding tz.date tz.month_date tz.julian_date tz.numbered_day tz.checked_day
+date_front form (inl (_, is, (_, _, month, (_, _, first, (_, _, week, (_, _, second, (_, _, weekday, (_, value, same)))))))) =
+    rw (value, ← same) (front_cons is (front_then (number_front (omega arith) month) (front_cons first
+    (front_then (number_front (omega arith) week) (front_cons second (number_front (omega arith) weekday))))))
+date_front form (inr (_, inl (_, is, (_, _, number, (_, value, same))))) = rw (value, ← same) (front_cons is (number_front (omega arith) number))
+date_front form (inr (_, inr (_, (_, _, number, (_, value, same))))) = rw (value, ← same) (number_front (omega arith) number)
+
+-- ---- times after dates, and days
+-- what is written before a rest that ends it
+module _ (rest : List ℕ) (stops : Stops rest) (extended : Bool) where
+  after_writes : (time : ℤ) → IsTextTime extended time → Writes (tz.optional_time extended) (time_after time) time rest
+  unfolding tz.optional_time
+  after_writes time h = writes_optional _ ((Decides-int_eq time (pos 7_200)).0) stops.2
+      (λ _. writes_mark refl (time_writes rest stops extended time h))
+
+  day_writes : (d : DayTime) → IsRuleDay d.day → IsTextTime extended d.time → Writes (tz.day extended) (spelled_day d) d rest
+  unfolding tz.day
+  day_writes d h t = writes_then (date_writes d.day _ h (grind (arith, nat_tests)))
+      (writes_last (after_writes d.time t) (refl, refl))
+
+after_front : {bytes rest : List ℕ} (extended : Bool) (time : ℤ) → Spells (tz.optional_time extended) bytes time rest → Front (time_after time) bytes rest
+unfolding tz.optional_time
+after_front extended time h =
+    front_optional slash _ (tz.time extended) _ (λ after is p. front_cons is (time_front extended time p)) ((Decides-int_eq time (pos 7_200)).1) h
+
+day_front : {bytes rest : List ℕ} (extended : Bool) (d : DayTime) → Spells (tz.day extended) bytes d rest → Front (spelled_day d) bytes rest
+unfolding tz.day
+day_front extended d h = grind (arith, front_then, date_front, after_front)
+
+day_plain : (bytes : List ℕ) (d : DayTime) (rest : List ℕ) → Spells (tz.day false) bytes d rest → IsPlainTime d.time
+unfolding tz.day tz.optional_time
+day_plain bytes d rest (_, after, _, (at, end, time, (value, _))) = rw value (grind (arith, time_plain))
+
+-- ---- the offset of daylight saving time
+-- it is left out if it is an hour more
+by_hour : (P : List ℕ → Type 0) (std dst : ℤ) → (dst ≡ std +ℤ pos 3_600 → P []) → P (spelled_offset dst) → P (spelled_dst_offset std dst)
+by_hour P std dst hour other = let same = Decides-int_eq dst (std +ℤ pos 3_600) in grind arith
+
+-- the offset has its comma after it
+dst_offset_writes : (std dst : ℤ) (rest : List ℕ) → IsWithinDay dst → Writes (tz.dst_offset std) (spelled_dst_offset std dst ++ (comma ∷ [])) dst rest
+unfolding tz.dst_offset tz.next_hour tz.given_offset tz.more
+dst_offset_writes std dst rest h =
+    let first : Begins 45 57 ((spelled_offset dst ++ (comma ∷ [])) ++ rest) = rw append_assoc (offset_begins dst (comma ∷ rest) h) in
+    by_hour (λ s. Writes (tz.dst_offset std) (s ++ (comma ∷ [])) dst rest) std dst
+    (λ v. writes_here (writes_mark refl (rw v (writes_check (let l = h.1 in omega (arith, ints))))))
+    (writes_here (writes_other (grind arith) (writes_first tt (inr (grind arith, (refl, refl)))
+    (writes_then (offset_writes _ (comma_stops rest) dst h) (writes_first tt (inr ((λ e. cc), (refl, refl))) (writes_byte refl (writes_nothing refl)))))))
+
+dst_offset_front : {bytes rest : List ℕ} (std dst : ℤ) → Spells (tz.dst_offset std) bytes dst rest → Front (spelled_dst_offset std dst) bytes (comma ∷ rest)
+unfolding tz.dst_offset tz.next_hour tz.given_offset tz.more
+dst_offset_front std dst h = grind (arith, front_nothing, front_unless, int_eq, offset_front)
+
 -- ---- what a text that spells a rule shows
 -- the rule can be spelled, has times that need no extensions if the text has none, and its own text is the shortest
-pub record IsRead (extended : Bool) (bytes : List ℕ) (rule : TransitionRule) : Type 0 where
-  pub named : CanBeSpelled rule
-  pub plain : extended ≡ false → AreTimesOf false rule
-  pub best : AreInPairs bytes → Best (spelled_rule rule) bytes
+record IsRead (extended : Bool) (bytes : List ℕ) (rule : TransitionRule) : Type 0 where
+  named : CanBeSpelled rule
+  plain : extended ≡ false → AreTimesOf false rule
+  best : AreInPairs bytes → Best (spelled_rule rule) bytes
 
 day_times : (extended : Bool) (bytes : List ℕ) (d : DayTime) (rest : List ℕ) → Spells (tz.day extended) bytes d rest → extended ≡ false → IsPlainTime d.time
 day_times extended bytes d rest h e = grind (arith, day_plain)
 
-pub rule_read : (extended : Bool) (bytes : List ℕ) (rule : TransitionRule) → IsTzText extended bytes rule → IsRead extended bytes rule
+rule_read : (extended : Bool) (bytes : List ℕ) (rule : TransitionRule) → IsTzText extended bytes rule → IsRead extended bytes rule
 unfolding tz.text tz.rule tz.fixed tz.alternate tz.named tz.days tz.end
 rule_read extended bytes rule (name, after, n, (east, end, o, inl (none, (t, _, (fits, is, _), (value, _))))) = rw (value, is) (record {
   named = ((name, assumption), offset_fits after east end o);
   plain = λ _. tt;
-  best = front_whole (front_then (name_front name n) (rw none at (offset_front east o)));
+  best = front_whole (front_then (name_front _ n) (rw none at (offset_front _ o)));
 })
 rule_read extended bytes rule (name, after, n, (east, end, o, inr (_, (dst_name, at_dst, d, (dst_east, at_days, f, (days, last, said, ends)))))) =
     let (start, at_comma, p, (_, at_end, c, (stop, fin, q, (both, same)))) = said in
@@ -35,10 +272,10 @@ rule_read extended bytes rule (name, after, n, (east, end, o, inr (_, (dst_name,
     let none : last ≡ [] = elim e [ inl k ↦ k.0 | inr k ↦ absurd k.1 ] in
     rw (value, s_is, t_is, both) (record {
       named = ((name, assumption), (dst_name, assumption));
-      plain = λ e. (day_times _ _ start _ p e, day_times _ _ stop _ q e);
-      best = front_whole (front_then (front_then (name_front name n) (offset_front east o)) (front_then (name_front dst_name d)
-          (front_then (dst_offset_front east dst_east f) (front_cons refl (front_then (day_front extended start p)
-          (front_cons c (rw (same ∙ none) at (day_front extended stop q))))))));
+      plain = λ e. (day_times _ _ _ _ p e, day_times _ _ _ _ q e);
+      best = front_whole (front_then (front_then (name_front _ n) (offset_front _ o)) (front_then (name_front _ d)
+          (front_then (dst_offset_front _ _ f) (front_cons refl (front_then (day_front _ _ p)
+          (front_cons c (rw (same ∙ none) at (day_front _ _ q))))))));
     })
 
 pub rule_named : (extended : Bool) (bytes : List ℕ) (rule : TransitionRule) → IsTzText extended bytes rule → CanBeSpelled rule
@@ -55,10 +292,6 @@ from_offset a = spelled_dst_offset a.std.offset a.dst.offset ++ (comma ∷ days_
 -- the type that the parts say
 type_is : (name : List ℕ) (dst : Bool) (t : LocalType) → IsNamed name dst t → t ≡ named_type name dst t.offset
 type_is name dst t h = grind arith
-
--- no letter follows a name, and no digit or colon an offset
-name_stops : (name rest : List ℕ) → IsName name → Stops (spelled_name name ++ rest)
-name_stops name rest h = grind (arith, nat_tests, name_begins)
 
 dst_ends_name : (std dst : ℤ) (rest : List ℕ) → IsWithinDay dst → NoneFirst is_letter (spelled_dst_offset std dst ++ (comma ∷ rest))
 dst_ends_name std dst rest h = grind (arith, nat_tests, offset_begins, by_hour (λ s. NoneFirst is_letter (s ++ (comma ∷ rest))))
@@ -82,16 +315,16 @@ rule_writes extended (rules.Alternate a) fits ((m, s), (n, d)) (start, end) =
     rw (first, second, append_assoc (spelled_name m) (spelled_offset std) tail)
     (writes_here
     (writes_then (name_writes m _ s.allowed (grind (arith, nat_tests, append_assoc, offset_begins)))
-    (writes_then (offset_writes _ (grind (arith, append_assoc, name_stops)) std fits.within.std_offset)
+    (writes_then (offset_writes _ (grind (arith, append_assoc, nat_tests, name_begins)) std fits.within.std_offset)
     (writes_more (grind (arith, append_assoc, name_begins))
     (writes_here
     (writes_then (name_writes n _ d.allowed (grind (arith, append_assoc, dst_ends_name)))
-    (rw (← append_assoc (spelled_dst_offset std dst) (comma ∷ []) (days_of a)) (writes_then (dst_offset_writes std dst (days_of a ++ []) fits.within.dst_offset)
-    (writes_last (days_write extended a fits start end) (
+    (rw (← append_assoc (spelled_dst_offset std dst) (comma ∷ []) (days_of a)) (writes_then (dst_offset_writes std dst _ fits.within.dst_offset)
+    (writes_last (days_write _ a fits start end) (
       tt,
       [],
       inl (refl, (refl, refl)),
-      (a.std, [], (s.allowed, type_is m false a.std s, refl), (a.dst, [], (d.allowed, type_is n true a.dst d, refl), (refl, refl))),
+      (_, [], (s.allowed, type_is m false _ s, refl), (_, [], (d.allowed, type_is n true _ d, refl), (refl, refl))),
     ))))))))))
 
 -- ---- rules
@@ -100,18 +333,11 @@ pub text_begins : (rule : TransitionRule) → CanBeSpelled rule → Begins 60 12
 text_begins rule named = grind (arith, name_begins, append_assoc)
 
 -- each of two is the shortest
-pub both_shortest : (s t : List ℕ) → (t ≡ s) ⊎ (length s < length t) → (s ≡ t) ⊎ (length t < length s) → s ≡ t
+both_shortest : (s t : List ℕ) → (t ≡ s) ⊎ (length s < length t) → (s ≡ t) ⊎ (length t < length s) → s ≡ t
 both_shortest s t p q = grind arith
 
 pub text_once : (rule : TransitionRule) (s t : List ℕ) (d e : Bool) → IsWrittenText rule s d → IsWrittenText rule t e → (s ≡ t) × (d ≡ e)
 text_once rule s t d e p q = grind (arith, both_shortest)
-
--- a rule's times need extensions, or they need none
-both_plain : (start end : ℤ) → (IsPlainTime start × IsPlainTime end) ⊎ (IsPlainTime start × IsPlainTime end → ⊥)
-both_plain start end = grind (arith, ints)
-
-plain_times : (rule : TransitionRule) → (AreTimesOf false rule) ⊎ (AreTimesOf false rule → ⊥)
-plain_times rule = grind (arith, both_plain)
 
 -- a rule that a zone can have
 module _ (rule : TransitionRule) (fits : IsRule rule) where
@@ -123,8 +349,8 @@ module _ (rule : TransitionRule) (fits : IsRule rule) where
     pub rule_spelled : (extended : Bool) → AreTimesOf extended rule → IsTzText extended (spelled_rule rule) rule
     rule_spelled extended times = grind (arith, append-nil, rule_writes)
 
-    pub rule_pairs : AreInPairs (spelled_rule rule)
-    rule_pairs = rw append-nil at ((rule_writes true rule fits named times_extended).pairs tt)
+    rule_pairs : AreInPairs (spelled_rule rule)
+    rule_pairs = grind (arith, append-nil, rule_writes true rule fits named times_extended)
 
     pub text_are : AreTextBytes (spelled_rule rule)
     text_are = grind (arith, rule_writes, times_extended)
@@ -134,10 +360,9 @@ module _ (rule : TransitionRule) (fits : IsRule rule) where
     written plain is = grind (arith, rule_spelled, rule_pairs, rule_read)
 
     text_is : (needed : Bool) × IsWrittenText rule (spelled_rule rule) needed
-    text_is = elim (plain_times rule) [
-      | inl p ↦ (false, grind (arith, written true))
-      | inr n ↦ (true, grind (arith, written false))
-    ]
+    text_is =
+      let p : (AreTimesOf false rule) ⊎ (¬ (AreTimesOf false rule)) = grind (arith, ints) in
+      elim p [ inl p ↦ (false, grind (arith, written true)) | inr n ↦ (true, grind (arith, written false)) ]
 
     pub text_some : (text : List ℕ) × (needed : Bool) × IsWrittenText rule text needed
     text_some = let s = text_is in (spelled_rule rule, s.0, s.1)
@@ -153,3 +378,57 @@ module _ (rule : TransitionRule) (fits : IsRule rule) where
 
 -- what a law says of the text of a rule
 pub ruleset rule_laws = (extensions, rule_named, text_once, text_some)
+
+-- ---- white space at the ends
+-- only white space comes after
+module _ (after : List ℕ) (space : IsSpace after) where
+  pairs_before : (bs : List ℕ) → AreInPairs (bs ++ after) → AreInPairs bs
+  pairs_before [] h = tt
+  pairs_before (b ∷ bs) h = ((λ e. let two = h.0 e in grind (arith, nat_tests)), pairs_before bs h.1)
+
+-- nothing at both ends, or a longer text
+trimmed_or_longer : (before text after : List ℕ) → (before ++ (text ++ after) ≡ text) ⊎ (length text < length (before ++ (text ++ after)))
+trimmed_or_longer [] text [] = inl (append-nil text)
+trimmed_or_longer [] text (c ∷ cs) = inr (grind (arith, length-append))
+trimmed_or_longer (b ∷ bs) text after = inr (grind (arith, length-append))
+
+pub written_zone : (types : List LocalType) (rule : TransitionRule) → IsRule rule → HasZoneText types (Some rule)
+    → IsWrittenZone (zone_of_rule types (Some rule)) (spelled_rule rule)
+written_zone types rule fits h =
+    let named = h.1.0 in
+    let text = rule_spelled rule fits named false h.1.1 in let first = text_begins rule named in
+    let trims = trimmed_text _ (text_are rule fits named) in
+    record {
+      gives = grind arith;
+      pairs = rule_pairs rule fits named;
+      shortest = λ other gives pairs.
+          let s : (trimmed : List ℕ) × IsTrimmed other trimmed × IsTzText false trimmed rule = grind arith in
+          let best = (rule_read false _ rule s.2).best (grind (arith, pairs_before, pairs_rest)) in grind (arith, trimmed_or_longer);
+    }
+
+-- ---- which zones a text gives
+pub given : (text : List ℕ) (z : Zone) → IsPosixZone text z → IsOfText z
+given text z gives = grind (arith, rule_read)
+
+pub no_zone_text : (types : List LocalType) (rule : Option TransitionRule) → ¬ (HasZoneText types rule) → IsNoPosixZone (zone_of_rule types rule)
+no_zone_text types rule none text gives = none ((given text (zone_of_rule types rule) gives).rule)
+
+-- ---- transitions and leap seconds
+pub zone_is : (z : Zone) (types : List LocalType) (rule : Option TransitionRule) → (z.transitions ≡ []) × (z.leaps ≡ []) → types ≡ z.types
+    → rule ≡ z.rule → zone_of_rule types rule ≡ z
+zone_is z types rule h t r = grind arith
+
+rule_some : (types : List LocalType) (rule : Option TransitionRule) → IsRuleOrNone rule → HasZoneText types rule
+    → (text : List ℕ) × IsWrittenZone (zone_of_rule types rule) text
+rule_some types (Some rule) fits h = (_, written_zone types rule fits h)
+rule_some types None fits h = grind arith
+
+pub zone_text_some : (z : Zone) → IsRuleOrNone z.rule → IsOfText z → (text : List ℕ) × IsWrittenZone z text
+zone_text_some z fits h = grind (arith, rule_some)
+
+pub zone_text_once : (z : Zone) (s t : List ℕ) → IsWrittenZone z s → IsWrittenZone z t → s ≡ t
+zone_text_once z s t p q = grind (arith, both_shortest)
+
+-- ---- running out of memory
+pub on_err : {A E : Type 0} (r : Result A E) (P : Type 0) → P → OnErr r P
+on_err r P h = grind arith

@@ -1,12 +1,73 @@
--- Texts that spell a value, made of their pieces. Their bytes are letters, digits, and those of `+ - , . / : < >`: so they are ASCII, and
--- have no white space.
-use Rattle.tz_base.specs.{Grammar.{At, Byte, Check, Ended, Grammar, Here, Marked, Nothing, Optional, Then}, Refusals.{Refusal}, Tests.{Test}}
-use Rattle.tz_write.proofs.Words.{AllDigits, AllOf, AreInPairs, BeginsBare, Bool, EndsBare, IsTrimmed, List, Spells, TwoDigits, Without, append-nil}
-use Rattle.tz_write.proofs.Words.{HasNoZero, NoneFirst, append_assoc, arith, colon, comma, cond, dot, false, greater, is_ascii_whitespace, is_digit}
-use Rattle.tz_write.proofs.Words.{is_name_byte, less, nat_tests, not, refl, slash, sym, true, ℕ, [], ◌&&◌, ◌++◌, ◌==◌, ◌||◌, ◌∷◌, ◌<◌, ◌≡◌, ◌≢◌}
+-- Texts that spell a value, made of their pieces, and what is not longer than what spells the same. Their bytes are letters, digits, and
+-- those of `+ - , . / : < >`: so they are ASCII, and have no white space.
+use Rattle.std.proofs.lemmas.{Fmt.{decimal-digits_value, decimal_nonempty, digits_decimal, digits_value-decimal}, Str.Parse.{IsNumeralModel, numerals_by_fold}}
+use Rattle.tz_base.specs.{Grammar.{At, Byte, Check, Ended, Grammar, Here, Marked, Nothing, Number, Optional, Then}, Refusals.{Refusal}, Tests.{Test}}
+use Rattle.tz_write.proofs.{
+  Words.{AllDigits, AllOf, AreInPairs, BeginsBare, Bool, EndsBare, HasNoZero, IsNumber, IsTrimmed, List, NoneFirst, Spells, TwoDigits, Without, [], append-nil},
+  Words.{append_assoc, arith, both_ways, cases_eq, colon, comma, cond, decimal, dot, false, greater, inl, inr, is_digit, is_name_byte, length, length-append},
+  Words.{less, nat_tests, not, refl, rules, slash, spelled_pair, sym, true, value_from, ℕ, ◌%◌, ◌&&◌, ◌++◌, ◌+◌, ◌/◌, ◌<◌, ◌==◌, ◌^◌, ◌||◌, ◌∷◌, ◌≡◌, ◌≢◌, ◌≤◌},
+  Words.{◌⊎◌},
+}
 
+-- ---- the front of bytes compared with a text
+-- the front is the text, or longer
+abbrev pub Best : List ℕ → List ℕ → Type 0
+Best text front = (front ≡ text) ⊎ (length text < length front)
+
+-- the bytes before the rest are the text, or more of them, if each colon has two digits after it
+pub record Front (text bytes rest : List ℕ) : Type 0 where
+  pub front : List ℕ
+  pub whole : bytes ≡ front ++ rest
+  pub best : AreInPairs bytes → Best text front
+
+pub pairs_rest : (front rest : List ℕ) → AreInPairs (front ++ rest) → AreInPairs rest
+pairs_rest [] rest h = h
+pairs_rest (b ∷ bs) rest h = pairs_rest bs rest h.1
+
+-- nothing is the shortest
+best_nothing : (x : List ℕ) → Best [] x
+best_nothing [] = inl refl
+best_nothing (b ∷ bs) = inr (omega arith)
+
+-- the bytes, and the rest after their front
+module _ {bytes rest : List ℕ} where
+  pub front_nothing : bytes ≡ rest → Front [] bytes rest
+  front_nothing e = grind arith
+
+  front_any : {a : List ℕ} → Front a bytes rest → Front [] bytes rest
+  front_any p = grind (arith, best_nothing)
+
+  front_byte : {t : ℕ} → bytes ≡ t ∷ rest → Front (t ∷ []) bytes rest
+  front_byte {t = t} e = record { front = t ∷ []; whole = e; best = λ _. inl refl }
+
+  -- it is the text a, or longer
+  module _ {a : List ℕ} where
+    pub front_then : {b middle : List ℕ} → Front a bytes middle → Front b middle rest → Front (a ++ b) bytes rest
+    front_then p q = record { front = p.front ++ q.front; whole = grind (arith, append_assoc); best = grind (arith, length-append, pairs_rest) }
+
+    pub front_unless : (b : Bool) → Front a bytes rest → Front (cond b [] a) bytes rest
+    front_unless b p = grind (arith, front_any)
+
+    -- a piece that may be left out, and is if the test passes
+    pub front_optional : {X : Type 0} (tag : ℕ) (v : X) (g : Grammar X) {x : X} (b : Bool)
+        → ((after : List ℕ) → bytes ≡ tag ∷ after → Spells g after x rest → Front a bytes rest)
+        → (x ≡ v → b ≡ true) → Spells (Optional tag v g) bytes x rest → Front (cond b [] a) bytes rest
+    front_optional tag v g b given out h = grind (arith, front_unless, front_nothing)
+
+pub front_whole : {text bytes : List ℕ} → Front text bytes [] → AreInPairs bytes → Best text bytes
+front_whole f pairs = grind (arith, append-nil)
+
+-- a byte of the text, or one that it lacks
+module _ {t : ℕ} {a bytes after rest : List ℕ} (e : bytes ≡ t ∷ after) (p : Front a after rest) where
+  pub front_cons : Front (t ∷ a) bytes rest
+  front_cons = front_then (front_byte e) p
+
+  pub front_longer : Front a bytes rest
+  front_longer = front_then (front_any (front_byte e)) p
+
+-- ---- bytes of texts
 -- a letter, a digit or one of the signs
-abbrev pub is_text_byte : ℕ → Bool
+abbrev is_text_byte : ℕ → Bool
 is_text_byte b = is_name_byte b || (b == comma) || (b == dot) || (b == slash) || (b == colon) || (b == less) || (b == greater)
 
 abbrev pub AreTextBytes : List ℕ → Type 0
@@ -25,13 +86,10 @@ module _ (p : ℕ → Bool) where
   -- no colon, so none lacks its two digits
   pub pairs_over : ((b : ℕ) → p b ≡ true → b ≢ colon) → (bs rest : List ℕ) → AllOf p bs → AreInPairs rest → AreInPairs (bs ++ rest)
   pairs_over other [] rest h pairs = pairs
-  pairs_over other (b ∷ bs) rest h pairs = ((λ e. absurd (other b h.0 e)), pairs_over other bs rest h.1 pairs)
+  pairs_over other (b ∷ bs) rest h pairs = grind (arith, pairs_over other bs rest)
 
   pub first_optional : (b : Bool) (t : ℕ) (text rest : List ℕ) → p t ≡ false → NoneFirst p rest → NoneFirst p (cond b [] (t ∷ text) ++ rest)
   first_optional b t text rest e h = grind (arith, nat_tests)
-
-pub digits_are : (bs : List ℕ) → AllDigits bs → AreTextBytes bs
-digits_are = all_others is_digit is_text_byte (λ b h. grind (arith, nat_tests))
 
 pub names_are : (bs : List ℕ) → AllOf is_name_byte bs → AreTextBytes bs
 names_are = all_others is_name_byte is_text_byte (λ b h. rw h refl)
@@ -54,15 +112,12 @@ pub record Writes {X : Type 0} (g : Grammar X) (text : List ℕ) (x : X) (rest :
 abbrev is_sign : ℕ → Bool
 is_sign t = is_text_byte t && not (t == colon)
 
-sign_is : (t : ℕ) → is_sign t ≡ true → (is_text_byte t ≡ true) × (t ≢ colon)
-sign_is t h = grind (arith, nat_tests)
-
 -- x is spelled before that rest
 module _ {X : Type 0} {x : X} {rest : List ℕ} where
   pub writes_nothing : {v : X} → x ≡ v → Writes (Nothing v) [] x rest
   writes_nothing same = grind arith
 
-  pub writes_check : {P : Type 0} {test : Test P} {refusal : Refusal} → P → Writes (Check P test refusal x) [] x rest
+  pub writes_check : {place : List ℕ} {P : Type 0} {test : Test P} {refusal : Refusal} → P → Writes (At place (Check P test refusal x)) [] x rest
   writes_check h = grind arith
 
   -- the text a spells it
@@ -84,16 +139,13 @@ module _ {X : Type 0} {x : X} {rest : List ℕ} where
     pub writes_here : {f : List ℕ → Grammar X} → Writes (f (a ++ rest)) a x rest → Writes (Here f) a x rest
     writes_here p = assumption
 
-    pub writes_at : {place : List ℕ} {g : Grammar X} → Writes g a x rest → Writes (At place g) a x rest
-    writes_at p = assumption
-
     pub writes_byte : {t : ℕ} {f : Unit {0} → Grammar X} → is_sign t ≡ true → Writes (f tt) a x rest → Writes (Then (Byte t) f) (t ∷ a) x rest
-    writes_byte sign p = grind (arith, nat_tests, sign_is)
+    writes_byte sign p = grind (arith, nat_tests)
 
     -- either of two grammars may come
     module _ {g h : Grammar X} where
       pub writes_mark : {t : ℕ} → is_sign t ≡ true → Writes g a x rest → Writes (Marked t g h) (t ∷ a) x rest
-      writes_mark sign p = grind (arith, nat_tests, sign_is)
+      writes_mark sign p = grind (arith, nat_tests)
 
       pub writes_colon : TwoDigits (a ++ rest) → Writes g a x rest → Writes (Marked colon g h) (colon ∷ a) x rest
       writes_colon two p = grind arith
@@ -110,17 +162,68 @@ module _ {X : Type 0} {x : X} {rest : List ℕ} where
     writes_optional b same none given = grind (arith, writes_other, writes_nothing)
 
 -- ---- no white space
-not_space : (b : ℕ) → is_text_byte b ≡ true → is_ascii_whitespace b ≡ false
-not_space b h = grind (arith, nat_tests)
-
 pub begins_bare : (text : List ℕ) → AreTextBytes text → BeginsBare text
-begins_bare text h = grind (arith, not_space)
+begins_bare text h = grind (arith, nat_tests)
 
 pub ends_bare : (text : List ℕ) → AreTextBytes text → EndsBare text
 ends_bare [] h = tt
-ends_bare (b ∷ []) h = not_space b h.0
-ends_bare (b ∷ c ∷ cs) h = ends_bare (c ∷ cs) h.1
+ends_bare (b ∷ bs) h = grind (arith, nat_tests, ends_bare bs)
 
 pub trimmed_text : (text : List ℕ) → AreTextBytes text → IsTrimmed text text
 trimmed_text text h =
     record { before = []; after = []; whole = sym (append-nil text); space_before = tt; space_after = tt; first = begins_bare text h; last = ends_bare text h }
+
+own : IsNumeralModel AllDigits (value_from 0)
+own = numerals_by_fold AllDigits (search rules) value_from (search rules)
+
+-- ---- decimal digits: without zeros in front they are the shortest that spell a number
+-- the bytes begin with one between those two
+abbrev pub Begins : ℕ → ℕ → List ℕ → Type 0
+Begins low high [] = ⊥
+Begins low high (first ∷ others) = (low ≤ first) × (first ≤ high)
+
+digits_begin : (ds rest : List ℕ) → AllDigits ds → 0 < length ds → Begins 48 57 (ds ++ rest)
+digits_begin [] rest each some = absurd (omega arith)
+digits_begin (d ∷ ds) rest each some = grind (arith, nat_tests)
+
+pub number_begins : (n : ℕ) (rest : List ℕ) → n < 2 ^ 64 → Begins 48 57 (decimal n ++ rest)
+number_begins n rest h = digits_begin (decimal n) rest (digits_decimal own n h) (decimal_nonempty n h)
+
+-- ---- what they spell
+pub two_digits : (n : ℕ) (rest : List ℕ) → n < 100 → NoneFirst is_digit rest → TwoDigits ((48 + n / 10) ∷ (48 + n % 10) ∷ rest)
+two_digits n rest h none = grind (arith, nat_tests)
+
+-- the number n is within its limit, and no digit follows it
+module _ {max n : ℕ} {rest : List ℕ} (l : n ≤ max) (none : NoneFirst is_digit rest) where
+  digits_write : (ds : List ℕ) → AllDigits ds → 0 < length ds → value_from 0 ds ≡ n → Writes (Number max) ds n rest
+  digits_write ds each some value = grind (arith, all_others is_digit is_text_byte (λ b h. grind (arith, nat_tests)), pairs_over)
+
+  pub number_writes : n < 2 ^ 64 → Writes (Number max) (decimal n) n rest
+  number_writes h = digits_write (decimal n) (digits_decimal own n h) (decimal_nonempty n h) (digits_value-decimal own n h)
+
+  pub pair_writes : n < 100 → Writes (Number max) ((48 + n / 10) ∷ (48 + n % 10) ∷ []) n rest
+  pair_writes h = let d = two_digits n [] h tt in digits_write _ (d.0, (d.1, tt)) (omega arith) (omega arith)
+
+-- ---- no fewer digits do
+-- zeros in front may go, and then the digits are those of the number
+decimal_best : (n : ℕ) (ds : List ℕ) → n < 2 ^ 64 → AllDigits ds → 0 < length ds → value_from 0 ds ≡ n → Best (decimal n) ds
+decimal_best n [] h each some value = absurd (omega arith)
+decimal_best n (d ∷ []) h each some value = inl (cc (decimal-digits_value own (d ∷ []) each some (λ _. refl) (omega arith)))
+decimal_best n (d ∷ e ∷ ds) h each some value = elim (cases_eq d 48) [
+  | inl zero ↦ let b = decimal_best n (e ∷ ds) h each.1 (omega arith) (rw zero at value) in inr (grind arith)
+  | inr other ↦ inl (cc (decimal-digits_value own (d ∷ e ∷ ds) each some (λ z. absurd (other z)) (omega arith)))
+]
+
+pub number_front : {max n : ℕ} {bytes rest : List ℕ} → max < 2 ^ 64 → IsNumber max bytes n rest → Front (decimal n) bytes rest
+number_front h p = grind (arith, decimal_best)
+
+-- two digits and no third are those of the number
+paired : (ds rest : List ℕ) (n : ℕ) → AllDigits ds → 0 < length ds → NoneFirst is_digit rest → value_from 0 ds ≡ n → TwoDigits (ds ++ rest)
+    → ds ≡ (48 + n / 10) ∷ (48 + n % 10) ∷ []
+paired [] rest n each some none value pair = absurd (omega arith)
+paired (d ∷ []) rest n each some none value pair = grind (arith, nat_tests, both_ways)
+paired (d ∷ e ∷ []) rest n each some none value pair = grind arith
+paired (d ∷ e ∷ f ∷ ds) rest n each some none value pair = grind (arith, both_ways)
+
+pub pair_front : {max n : ℕ} {bytes after rest : List ℕ} → bytes ≡ colon ∷ after → IsNumber max after n rest → Front (spelled_pair n) bytes rest
+pair_front {n = n} {rest = rest} e p = record { front = colon ∷ p.digits; whole = grind arith; best = grind (arith, paired) }

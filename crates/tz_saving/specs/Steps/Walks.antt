@@ -1,52 +1,59 @@
--- Walks from a second of daylight saving time to standard time, and to the next use of a type.
-use Rattle.std.specs.{Prelude.{ℕ, suc, ℤ, ◌↔◌, ◌≡◌, ◌≤ℤ◌, ◌<ℤ◌, FitsSigned, true, Option, MatchOption}, Int.{w64}}
+-- Walks from a second to the nearest change that has standard time, or a type, on its far side.
+use Rattle.std.specs.Prelude.{ℕ, suc, ℤ, pos, Bool, true, false, ◌↔◌, ◌≡◌, ◌-ℤ◌, ◌≤ℤ◌, ◌<ℤ◌, Option, MatchOption}
 use Rattle.tz_base.specs.{LocalTypes.{LocalType}, declared.change.Change.{Change}}
-use Rattle.tz_info.specs.{Changes.{IsChange}, declared.rule.transition_rule.TransitionRule.{TransitionRule}}
-use Rattle.tz_saving.specs.{Amounts.{IsNextUse}, Candidates.{AreCandidates, IsOnly}, Reach.{HasChanges, reach}, Sides.{IsFound}}
+use Rattle.tz_info.specs.Changes.{IsChange, Precedes}
+use Rattle.tz_saving.specs.{Amounts.{IsNextUse}, Reach.{HasChanges, reach}}
 
--- at the second u a type with the DST flag is in force
-pub record IsFlagged (in_force : ℤ → LocalType → Type 0) (u : ℤ) : Type 0 where
-  pub fits : FitsSigned w64 u
-  pub type : LocalType
-  pub in_force_then : in_force u type
-  pub flag : type.dst ≡ true
+-- in that direction, which is forward or back, a change at that second comes after u
+abbrev pub IsBeyond : Bool → ℤ → ℤ → Type 0
+IsBeyond true u at = u <ℤ at
+IsBeyond false u at = at ≤ℤ u
 
--- from one second to another each type in force has the flag
-pub record IsFlaggedWithin (in_force : ℤ → LocalType → Type 0) (from to : ℤ) : Type 0 where
-  pub order : from ≤ℤ to
-  pub each : (v : ℤ) (t : LocalType) → FitsSigned w64 v → from ≤ℤ v → v ≤ℤ to → in_force v t → t.dst ≡ true
+-- the type on the far side of the change, and the nearest second there
+abbrev pub far_type : Bool → Change → LocalType
+far_type true c = c.after
+far_type false c = c.before
 
--- a second v is beyond the reach of u if more than `left` changes lie between it and the second reached, and only then
-abbrev pub IsLeftBack : (ℤ → LocalType → Type 0) → ℕ → ℤ → ℤ → Type 0
-IsLeftBack in_force left u reached = (v : ℤ) → HasChanges in_force (suc left) v reached ↔ HasChanges in_force (suc reach) v u
+abbrev pub far_second : Bool → ℤ → ℤ
+far_second true at = at
+far_second false at = at -ℤ pos 1
 
-abbrev pub IsLeftOn : (ℤ → LocalType → Type 0) → ℕ → ℤ → ℤ → Type 0
-IsLeftOn in_force left u reached = (v : ℤ) → HasChanges in_force (suc left) reached v ↔ HasChanges in_force (suc reach) u v
+-- at least n changes come between u and v
+abbrev pub HasBetween : Bool → (ℤ → LocalType → Type 0) → ℕ → ℤ → ℤ → Type 0
+HasBetween true in_force n u v = HasChanges in_force n u v
+HasBetween false in_force n u v = HasChanges in_force n v u
 
--- the walk has come back, or on, from the second u
-pub record IsBackTo (in_force : ℤ → LocalType → Type 0) (left : ℕ) (u reached : ℤ) : Type 0 where
-  pub here : IsFlagged in_force reached
-  pub within : IsFlaggedWithin in_force reached u
-  pub reach_left : IsLeftBack in_force left u reached
+-- a type without the DST flag, or that type
+abbrev pub IsWanted : Bool → LocalType → LocalType → Type 0
+IsWanted true t other = other.dst ≡ false
+IsWanted false t other = other ≡ t
 
-pub record IsOnTo (in_force : ℤ → LocalType → Type 0) (left : ℕ) (u reached : ℤ) : Type 0 where
-  pub here : IsFlagged in_force reached
-  pub within : IsFlaggedWithin in_force u reached
-  pub reach_left : IsLeftOn in_force left u reached
+-- a change beyond u to a wanted type
+pub record IsTurn (forward : Bool) (in_force : ℤ → LocalType → Type 0) (wanted : LocalType → Type 0) (u : ℤ) (c : Change) : Type 0 where
+  pub is : IsChange in_force c
+  pub to : wanted (far_type forward c)
+  pub beyond : IsBeyond forward u c.at
+
+-- it is within reach, and the first in that direction
+pub record IsNearestTurn (forward : Bool) (in_force : ℤ → LocalType → Type 0) (wanted : LocalType → Type 0) (u : ℤ) (c : Change) : Type 0 where
+  pub turn : IsTurn forward in_force wanted u c
+  pub near : ¬ (HasBetween forward in_force (suc reach) u (far_second forward c.at))
+  pub first : (d : Change) → IsTurn forward in_force wanted u d → Precedes forward c.at d.at
+
+-- none is within reach
+abbrev pub HasNoTurn : Bool → (ℤ → LocalType → Type 0) → (LocalType → Type 0) → ℤ → Type 0
+HasNoTurn forward in_force wanted u =
+    (d : Change) → IsTurn forward in_force wanted u d → ¬ (¬ (HasBetween forward in_force (suc reach) u (far_second forward d.at)))
+
+-- the walk from u has reached that second: more than `left` changes lie between it and a second if that is beyond the reach of u, and
+-- only then; and each turn is beyond it
+pub record IsWalkedTo (forward : Bool) (in_force : ℤ → LocalType → Type 0) (wanted : LocalType → Type 0) (left : ℕ) (u reached : ℤ) : Type 0 where
+  pub order : Precedes forward u reached
+  pub reach_left : (v : ℤ) → HasBetween forward in_force (suc left) reached v ↔ HasBetween forward in_force (suc reach) u v
+  pub later : (d : Change) → IsTurn forward in_force wanted u d → IsBeyond forward reached d.at
 
 -- the second of the next use, or nothing if the type is not used again
 abbrev pub IsSecondOfNextUse : (ℤ → LocalType → Type 0) → LocalType → ℤ → Option ℤ → Type 0
 IsSecondOfNextUse in_force t u found = MatchOption found
     ((c : Change) → IsNextUse in_force t u c → ⊥)
     (λ at. (c : Change) × IsNextUse in_force t u c × (c.at ≡ at))
-
--- a change to the type t after u comes after `reached`
-pub record IsUnusedTo (in_force : ℤ → LocalType → Type 0) (left : ℕ) (t : LocalType) (u reached : ℤ) : Type 0 where
-  pub order : u ≤ℤ reached
-  pub reach_left : IsLeftOn in_force left u reached
-  pub later : (d : Change) → IsChange in_force d → d.after ≡ t → u <ℤ d.at → reached <ℤ d.at
-
--- the only candidate of the offset at the second u, or nothing if it has none or two
-abbrev pub IsOnlyCandidate : (ℤ → LocalType → Type 0) → Option TransitionRule → ℤ → ℤ → Option ℤ → Type 0
-IsOnlyCandidate in_force rule u offset found =
-    (early : Option ℤ) × (late : Option ℤ) × AreCandidates in_force rule u offset early late × IsFound (IsOnly early late) found

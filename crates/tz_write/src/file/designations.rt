@@ -210,6 +210,7 @@ fn laid_otherwise(types: &[LocalTimeType], in_order: &[u8]) -> Option<Designatio
 }
 
 /// The designations of the types, if any has them at places that a byte can name.
+#[tactic(auto, using(crate::proofs::FileLayouts::laid_if_any))]
 pub fn designations_of(types: &[LocalTimeType]) -> Option<Designations>
     requires { 0 < length types.now }
     ensures { MatchOption result

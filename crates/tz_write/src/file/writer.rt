@@ -46,6 +46,7 @@ fn sizes_of(zone: &TimeZone, designations: &[u8]) -> Option<Sizes>
 }
 
 /// The contents of the second block, if it has room for the zone.
+#[tactic(auto, using(crate::proofs::FileLayouts::laid_size))]
 pub fn room_for(zone: &TimeZone) -> Option<Room>
     ensures { MatchOption result
         (¬ (FitsBlock zone.now))

@@ -1,4 +1,4 @@
-use Rattle.tz_write.proofs.ZoneTexts.{given, zone_text_once, zone_text_some}
+use Rattle.tz_write.proofs.RuleTexts.{given, zone_text_once, zone_text_some}
 use Rattle.tz_write.proofs.laws.one_zone_text.Goals as goal
 
 pub returns : goal.returns

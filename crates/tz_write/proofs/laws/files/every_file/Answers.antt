@@ -1,4 +1,4 @@
-use Rattle.tz_write.proofs.FileLimits.{writable}
+use Rattle.tz_write.proofs.FileWritten.{writable}
 use Rattle.tz_write.proofs.laws.files.every_file.Goals as goal
 
 pub returns : goal.returns

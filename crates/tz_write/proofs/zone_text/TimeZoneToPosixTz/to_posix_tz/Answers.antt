@@ -1,4 +1,4 @@
-use Rattle.tz_write.proofs.{Words.{IsRule, Some, arith, on_err_weaker, rules, spelled_rule}, ZoneTexts.{written_zone, zone_is}}
+use Rattle.tz_write.proofs.{RuleTexts.{written_zone, zone_is}, Words.{IsRule, Some, on_err_weaker, rules, spelled_rule}}
 use Rattle.tz_write.proofs.zone_text.TimeZoneToPosixTz.to_posix_tz.Goals as goal
 
 pub returns-in-Some : goal.returns-in-Some
@@ -10,6 +10,3 @@ returns-in-Some c =
       reason = c.text_of_rule.ensures.reason;
       memory = on_err_weaker c.text_of_rule.result (λ has. (spelled_rule rule, (written_zone types rule fits has).gives)) c.text_of_rule.ensures.memory;
     })
-
-pub returns-in-None : goal.returns-in-None
-returns-in-None c = grind (arith, zone_is)
