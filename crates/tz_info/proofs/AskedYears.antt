@@ -13,7 +13,7 @@ use Rattle.tz_info.proofs.{
 abbrev IsAheadIn : Bool → ℤ → ℤ → ℤ → Type 0
 IsAheadIn w s year u = IsAhead w s u × IsYearOf (u -ℤ pos 1) year
 
--- ---- the year after it is one of the rule's, or no other year lies beyond
+-- the year after it is one of the rule's, or no other year lies beyond
 one_or_last : (w : Bool) (first year y : ℤ) → IsRuleYear first → IsRuleYear year → IsRuleYear y → Precedes w (year_at w first 1) year → Precedes w year y
     → IsRuleYear (year +ℤ pos 1) ⊎ (y ≡ year)
 one_or_last true first year y a b c beyond on = grind linear

@@ -25,9 +25,11 @@ use Rattle.tz_info.specs.{
 abbrev pub Tells : Alternate → ℤ → (ℤ → Bool) → Type 0
 Tells a year dst = (u : ℤ) → IsRuleTime u → new_year year ≤ℤ u → u ≤ℤ new_year (year +ℤ pos 1) → AlternateAt a u (type_when a (dst u))
 
+-- types differ if only one is that of daylight saving time
 type_differs : (a : Alternate) (b c : Bool) → a.std ≢ a.dst → b ≡ not c → type_when a b ≢ type_when a c
 type_differs a b c h e same = grind arith
 
+-- no change comes in the year, or some change does
 abbrev pub HasNoneIn : Alternate → ℤ → Type 0
 HasNoneIn a year = HasNoChange (AlternateAt a) (λ u. IsYearOf (u -ℤ pos 1) year)
 
@@ -65,6 +67,7 @@ flip_on : (first next u : ℤ) (b c : Bool) → cond (int_le u first) false (con
     → (first <ℤ u) × (u ≤ℤ next) × (b ≡ not c)
 flip_on first next u b c h = grind arith
 
+-- if none of the items has it, a given one hasn't
 none_at : (p : ℤ → Bool) (xs : List ℤ) (u : ℤ) → Contains xs u → list_any p xs ≡ false → p u ≡ false
 none_at p xs u (i, below, at) none = grind (arith, list_any_at)
 
@@ -81,6 +84,8 @@ by_kind t offset year fits = grind (linear, kind_found, fits)
 apart : (x y k v w : ℤ) → k +ℤ x ≡ v → k +ℤ y ≡ w → (are_apart x y ≡ false → v ≡ w) × (are_apart x y ≡ true → v ≢ w)
 apart x y k v w e f = (λ h. grind linear, λ h same. grind linear)
 
+-- ---- by a year's own two moments
+-- if they are apart, it begins at the start and ends at the end, and at no other second
 turned : (s e : ℤ) (to_dst : Bool) → s ≢ e → (is_dst_by_one s e (cond to_dst s e) ≡ to_dst) × (is_dst_by_one s e (cond to_dst s e -ℤ pos 1) ≡ not to_dst)
 turned s e to_dst apart = grind arith
 
@@ -90,6 +95,7 @@ never_dst s e u v one = grind arith
 dst_alike : (s e u : ℤ) → (s ≡ u → ⊥) → (e ≡ u → ⊥) → is_dst_by_one s e (u -ℤ pos 1) ≡ is_dst_by_one s e u
 dst_alike s e u h k = grind linear
 
+-- a moment far from the year's ends lies in it, and so does the second before
 amid : (moments : ℤ → ℤ) (year : ℤ) → KeepsMargin moments (pos 172_800) → IsYearOf (moments year) year × IsYearOf (moments year -ℤ pos 1) year
 amid moments year h =
     let low = h.low year in let high = h.high year in let step = year_step year in let least = days_at_least year in

@@ -21,7 +21,7 @@ rule_until u year of_year inside next =
     let here = rule_time _ _ of_year inside in
     let step = year_step (year +ℤ pos 1) in let least = days_at_least (year +ℤ pos 1) in
     let there = rule_time (new_year (year +ℤ pos 1)) _ (omega (arith, floors)) next in
-    (omega linear, omega (arith, floors))
+    omega (arith, floors)
 
 -- what some years' moments enclose at two seconds alike is daylight saving time at both, if moments come in one order
 dst_alike : (f g : ℤ → ℤ) (year other u v : ℤ) (dst : Bool) → f other -ℤ g other ≡ f year -ℤ g year → IsInSomeYear f g u ↔ IsInSomeYear f g v
@@ -194,4 +194,4 @@ nearest_of_year w a year after last from until found rule later earlier =
     ))
     (λ d is one.
     let l = (later (d.at -ℤ pos 1)).0 (omega linear) in let e = (earlier d.at).0 one.inside.1 in
-    (is, record { inside = (omega linear, e.0); of_year = (omega (arith, floors)) }))
+    (is, record { inside = (omega linear, e.0); of_year = omega (arith, floors) }))

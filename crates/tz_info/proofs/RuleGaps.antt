@@ -32,7 +32,7 @@ other b dst h = grind arith
 at : (a : AlternateRule) (s : Season) (u : ℤ) (dst : Bool) → IsSeason a s → IsNear u → IsDecidedIn s u → is_dst_by_one s.turns.start s.turns.end u ≡ dst
     → AlternateAt a u (type_when a dst)
 at a s u dst season near decided e =
-    subst (λ b. AlternateAt a u (type_when a b)) e (season.decided u (omega linear, omega (linear, near)) decided)
+    subst (λ b. AlternateAt a u (type_when a b)) e (season.decided u (omega (linear, near)) decided)
 
 -- at the one that would show it by the one type the other one is in force
 other_at : (a : AlternateRule) (s : Season) (from l : ℤ) (dst : Bool) → IsSeasonFor a from l s → IsNear (l -ℤ (type_when a dst).offset) → IsNeverFrom a from l
@@ -64,7 +64,7 @@ gap_at a s from l dst rule wide is h never =
     let t = turns _ _ u v dst less at_u at_v in
     let moment = cond dst s.turns.start s.turns.end in
     let most = t.most in
-    let near : (w : ℤ) → u ≤ℤ w → w ≤ℤ v → IsNear w = λ w h k. (omega linear, omega (linear, near_v)) in
+    let near : (w : ℤ) → u ≤ℤ w → w ≤ℤ v → IsNear w = λ w h k. omega (linear, near_v) in
     let lesser : (w : ℤ) → u ≤ℤ w → w <ℤ moment → AlternateAt a w (type_when a (not dst)) =
     λ w k m. at a s w _ h.season (near w k (omega linear)) (omega linear) (t.before w k m) in
     record {

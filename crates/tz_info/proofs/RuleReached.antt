@@ -28,7 +28,7 @@ module _ (a : Alternate) (begin t l : ℤ) (s : LocalType) (rule : IsAlternateRu
   reached_now is last = record {
     at = t;
     local_type = s;
-    near = (omega linear, omega (linear, wide));
+    near = omega (linear, wide);
     from = order;
     not_after = omega linear;
     shown = record { fits = omega (linear, wide); type = here; shown = sym is };
@@ -79,7 +79,7 @@ module _ (a : Alternate) (begin t l : ℤ) (s : LocalType) (rule : IsAlternateRu
         (λ more. record {
           at = c.at -ℤ pos 1;
           local_type = c.before;
-          near = (omega (linear, wide, more, offset, offset_before), omega (linear, wide, inside));
+          near = omega (linear, wide, more, offset, offset_before, inside);
           from = omega (linear, since);
           not_after = omega (linear, inside);
           shown = record { fits = last.is.fits_before; type = last.is.before; shown = omega (linear, clamps, is, more) };
@@ -152,7 +152,7 @@ module _ (a : Alternate) (begin local low : ℤ) (rule : IsAlternateRule a) (low
           | inr new ↦ is ∙ ap (λ (x : LocalType). x.offset) (new ∙ sym next.is.after.shown)
         ] in
         record {
-          near = (omega (linear, near_low, inside), omega (linear, near, come));
+          near = omega (linear, near_low, inside, near, come);
           from = omega (linear, clamps, inside);
           shown = record { fits = next.is.fits; type = next.is.after; reached = omega (linear, clamps, inside, reached) };
           first = λ v r begun shows. by_lt_z v c.at

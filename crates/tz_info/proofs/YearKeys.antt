@@ -100,7 +100,7 @@ weekday_on s q = grind arith
 -- two years whose starts are whole weeks apart
 module _ (x y q : ℤ) (leap : is_leap x ≡ is_leap y) (start : year_start y ≡ year_start x +ℤ pos 7 *ℤ q) where
   kind_same : kind_place y ≡ kind_place x
-  kind_same = rw (← leap, start, weekday_on _ q)
+  kind_same = grind (arith, weekday_on)
 
   moment_moved : (seconds : List ℤ) → moment_by seconds y ≡ moment_by seconds x +ℤ pos 86_400 *ℤ (pos 7 *ℤ q)
   moment_moved _ = rw (kind_same) (omega linear)

@@ -29,6 +29,7 @@ impl TransitionRule {
     /// # Errors
     ///
     /// None: the `Result` is that of chrono's signature, and is always `Ok`.
+    #[tactic(auto, using(crate::proofs::Ranges::in_range, crate::proofs::Candidates::from_least))]
     pub fn find_local_time_type_from_local(
         &self,
         local: NaiveDateTime,

@@ -22,7 +22,7 @@ shown : (c : After-max-shown) → IsNear c.max-low.result → SFits w64 c.max-lo
     × (c.max-shown.result ≡ int_max c.max-low.result (c.args.local -ℤ c.type_and_change.result.0.now.offset))
 shown c near fm =
     let ft : SFits w64 c.max-shown.result = search rules in
-    (ft, (omega (arith, ints, clamps)), omega (arith, ints, clamps))
+    (ft, omega (arith, ints, clamps), omega (arith, ints, clamps))
 
 pub returns-in-Some-clause-first : goal.returns-in-Some-clause-first
 returns-in-Some-clause-first c =

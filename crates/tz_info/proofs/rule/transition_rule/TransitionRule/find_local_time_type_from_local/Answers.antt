@@ -1,5 +1,0 @@
-use Rattle.tz_info.proofs.{Candidates.from_least, Words.{arith, ints, to_z-of_z}}
-use Rattle.tz_info.proofs.rule.transition_rule.TransitionRule.find_local_time_type_from_local.Goals as goal
-
-pub returns : goal.returns
-returns c = grind (arith, ints, to_z-of_z, from_least)
