@@ -8,8 +8,8 @@ use Rattle.tz_info.proofs.{
   WallSegments.{leap_time_of, near_of, rule_begun},
   Words.{All-contains, AllPairs-cons, Alternate as AlternateRule, AreUtOffsets, Contains, Contains-append_right, IsAskedAt, IsAskedAtEach, IsAskedAtLeapTime},
   Words.{IsAskedFor, IsAskedFrom, IsAskedSince, IsByRuleFor, IsLeapTime, IsNear, IsSecondFrom, IsStart, IsValid, IsWide, IsWindow, LocalType, None, Option},
-  Words.{Some, Transition, TransitionRule, Zone, [], ap, arith, get_or, inl, inr, length, linear, offsets, offsets_of, refl, rule_offsets, segment_of, suc},
-  Words.{sym, zero, ℕ, ℤ, ⊎_elim, ◌+◌, ◌-ℤ◌, ◌<ℤ◌, ◌<◌, ◌↔◌, ◌∙◌, ◌∷◌, ◌≡◌, ◌≢◌, ◌≤ℤ◌, ◌⊎◌},
+  Words.{Some, Transition, TransitionRule, Zone, [], arith, get_or, inl, inr, length, linear, offsets, offsets_of, refl, rule_offsets, segment_of, suc, sym},
+  Words.{zero, ℕ, ℤ, ⊎_elim, ◌+◌, ◌-ℤ◌, ◌<ℤ◌, ◌<◌, ◌↔◌, ◌∙◌, ◌∷◌, ◌≡◌, ◌≢◌, ◌≤ℤ◌, ◌⊎◌},
   ZoneLaws.same_passed,
 }
 use Rattle.tz_info.specs.{Questions.IsByRule, declared.rule.transition_rule.TransitionRule.TheVariants.{Alternate, Fixed}}

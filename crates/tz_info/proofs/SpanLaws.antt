@@ -185,7 +185,8 @@ pub span_between : (z : Zone) (u : ℤ) (t : LocalType) (last next : Option Chan
 span_between z u t _ _ from until valid limits fits h before after begin end =
     let low = low_of z u t valid limits fits h _ _ before begin in
     let high = high_of z u t valid limits fits h _ _ after end in
-    let inside : IsInSpan (record { local_time_type = t; from = from; until = until }) u = record { fits = fits; since = low.since; until = high.before } in record {
+    let inside : IsInSpan (record { local_time_type = t; from = from; until = until }) u =
+    record { fits = fits; since = low.since; until = high.before } in record {
       in_force_then = h;
       inside = inside;
       span = record {
@@ -250,10 +251,8 @@ span_once z a b u h k i j =
 -- ---- at an end of a span clocks change, if the zone has a type beyond it
 pub begin_changes : (z : Zone) (s : Span) (u : ℤ) (t : LocalType) → IsSpan (TypeAt z) s → s.from ≡ Some u → TypeAt z (u -ℤ pos 1) t
     → IsChange (TypeAt z) (record { at = u; before = t; after = s.local_time_type })
-begin_changes z s u t h is before = let (v, i) = h.some in
-   grind linear
+begin_changes z s u t h is before = let (v, i) = h.some in grind linear
 
 pub end_changes : (z : Zone) (s : Span) (u : ℤ) (t : LocalType) → IsSpan (TypeAt z) s → s.until ≡ Some u → TypeAt z u t
     → IsChange (TypeAt z) (record { at = u; before = s.local_time_type; after = t })
-end_changes z s u t h is after = let (v, i) = h.some in
-   grind linear
+end_changes z s u t h is after = let (v, i) = h.some in grind linear
