@@ -45,7 +45,7 @@ pub rule_among : (rule : Option TransitionRule) (u : ℤ) (t : LocalType) → Is
 rule_among None u t h = absurd h
 rule_among (Some (Fixed f)) u t h = grind linear
 rule_among (Some (Alternate a)) u t h = elim (one_of_two a t u h) [
-  | inl e ↦ rw e (0, omega arith, refl)
+  | inl e ↦ grind arith
   | inr e ↦ rw e (1, omega arith, refl)
 ]
 

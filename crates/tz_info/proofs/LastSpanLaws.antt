@@ -3,7 +3,7 @@ use Rattle.tz_info.proofs.{
   ChangeSearch.nearest_moved,
   ExtremeLaws.{at_least_least, at_most_greatest},
   LeapStarts.saturated,
-  SpanLaws.{no_change_within, until_less},
+  SpanLaws.no_change_within,
   Words.{AreExtremes, Extremes, HasNoChange, IsInSpan, IsLast, IsLastSpan, IsLastTyped, IsShownOnce, IsSince, IsSpanAt, IsWide, LastSpan, LocalType, SFits},
   Words.{Shows, TypeAt, Zone, by_lt_z, false, linear, offsets, pos, saturate_signed, w32, w64, ℤ, ◌+ℤ◌, ◌-ℤ◌, ◌<ℤ◌, ◌≡◌, ◌≤ℤ◌},
   ZoneLaws.type_once,

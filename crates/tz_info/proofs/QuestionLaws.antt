@@ -8,8 +8,8 @@ use Rattle.tz_info.proofs.{
   WallSegments.{leap_time_of, near_of, rule_begun},
   Words.{All-contains, AllPairs-cons, Alternate as AlternateRule, AreUtOffsets, Contains, Contains-append_right, IsAskedAt, IsAskedAtEach, IsAskedAtLeapTime},
   Words.{IsAskedFor, IsAskedFrom, IsAskedSince, IsByRuleFor, IsLeapTime, IsNear, IsSecondFrom, IsStart, IsValid, IsWide, IsWindow, LocalType, None, Option},
-  Words.{Some, Transition, TransitionRule, Zone, [], ap, arith, get_or, inl, inr, length, linear, offsets, offsets_of, refl, rule_offsets, segment_of, suc},
-  Words.{sym, zero, ℕ, ℤ, ⊎_elim, ◌+◌, ◌-ℤ◌, ◌<ℤ◌, ◌<◌, ◌↔◌, ◌∙◌, ◌∷◌, ◌≡◌, ◌≢◌, ◌≤ℤ◌, ◌⊎◌},
+  Words.{Some, Transition, TransitionRule, Zone, [], arith, get_or, inl, inr, length, linear, offsets, offsets_of, refl, rule_offsets, segment_of, suc, sym},
+  Words.{zero, ℕ, ℤ, ⊎_elim, ◌+◌, ◌-ℤ◌, ◌<ℤ◌, ◌<◌, ◌↔◌, ◌∙◌, ◌∷◌, ◌≡◌, ◌≢◌, ◌≤ℤ◌, ◌⊎◌},
   ZoneLaws.same_passed,
 }
 use Rattle.tz_info.specs.{Questions.IsByRule, declared.rule.transition_rule.TransitionRule.TheVariants.{Alternate, Fixed}}
@@ -89,13 +89,13 @@ asked_more _ c p q r (inl (k, e)) others = record {
 asked_more asks c p q r (inr (none, e)) others = grind arith
 
 one_second : (asks : ℤ → Type 0) (c : ℤ) (p q : ℕ) → ((u : ℤ) → asks u → u ≡ c) → IsAskedIf asks c p q → IsAskedAtEach asks p q
-one_second asks c p q only k = asked_more _ c p q q k (nowhere (λ u. asks u × (u ≢ c)) q q (λ u h. h.1 (only u h.0)) refl)
+one_second asks c p q only k = asked_more _ c p q q k (nowhere (λ u. asks u × (u ≢ c)) q q (grind linear) refl)
 
 -- two, the one asked after the other
 two_seconds : (asks : ℤ → Type 0) (c d : ℤ) (p q r : ℕ) → c ≢ d → ((u : ℤ) → asks u → (u ≡ c) ⊎ (u ≡ d)) → IsAskedIf asks c p q
     → IsAskedIf asks d q r → IsAskedAtEach asks p r
 two_seconds asks c d p q r other both j k = asked_more _ c p q r j (one_second (λ u. asks u × (u ≢ c)) d q r
-    (λ u h. ⊎_elim (λ e. absurd (h.1 e)) (λ e. e) (both u h.0))
+    (grind linear)
     (⊎_elim (λ h. inl ((h.0, λ e. other (sym e)), h.1)) (λ h. inr (λ i. h.0 i.0, h.1)) k))
 
 -- ---- those of a rule
@@ -106,8 +106,7 @@ asked_since rule from l o p q of_rule (inr (early, e)) = grind linear
 
 pub asked_fixed : (f : LocalType) (from l : ℤ) (p q : ℕ) → IsAskedSince from (l -ℤ f.offset) p q → IsAskedFrom (Fixed f) from l p q
 asked_fixed f _ l p q asked = one_second _ _ p q
-    (λ u k. let e = in_one _ _ k.of_rule in
-    k.of_second ∙ ap (λ o. l -ℤ o) e) (asked_since _ _ l _ p q (0, omega arith, refl) asked)
+    (grind linear) (asked_since _ _ l _ p q (0, omega arith, refl) asked)
 
 std_or_dst : (a : AlternateRule) (from l u : ℤ) → IsSecondFrom (Alternate a) from l u → (u ≡ l -ℤ a.std.offset) ⊎ (u ≡ l -ℤ a.dst.offset)
 std_or_dst a _ l u k = grind arith
@@ -121,9 +120,8 @@ asked_std_dst a from l p q r other std dst =
 
 pub asked_dst_std : (a : AlternateRule) (from l : ℤ) (p q r : ℕ) → a.std.offset ≢ a.dst.offset → IsAskedSince from (l -ℤ a.dst.offset) p q
     → IsAskedSince from (l -ℤ a.std.offset) q r → IsAskedFrom (Alternate a) from l p r
-asked_dst_std a from l p q r other dst std =
-    two_seconds _ _ _ p q r (λ e. other (omega linear))
-    (λ u k. elim (std_or_dst a _ l u k) [ inl e ↦ inr e | inr e ↦ inl e ])
+asked_dst_std a from l p q r other dst std = two_seconds _ _ _ p q r (λ e. other (omega linear))
+    (grind linear)
     (asked_since _ _ l _ p q (1, omega arith, refl) dst)
     (asked_since _ _ l _ q r (0, omega arith, refl) std)
 

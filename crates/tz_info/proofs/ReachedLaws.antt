@@ -4,12 +4,12 @@ use Rattle.tz_info.proofs.{
   ExtremeLaws.{at_most_greatest, listed_at_most},
   LeapStarts.saturated,
   SegmentEndLaws.{begun_by, come_by, end_at, shows_less},
-  SegmentLaws.{come_from, place_before, place_begin, place_most, places_rise},
+  SegmentLaws.{come_from, place_before, place_begin, places_rise},
   TableLaws.{table_of, top_least},
   WallSegments.type_there,
   Words.{HasType, IsFirstAtOrAfter, IsGreatest, IsNear, IsUtOffset, IsValid, IsWide, LocalType, SFits, Shows, TypeAt, Zone, ap, arith, begin_of, by_lt_z},
-  Words.{cases_lt, index_of, inl, inr, least_time, length, linear, offsets, place_at, pos, refl, suc, sym, top_of, w32, w64, zero, ℕ, ℤ, ◌+ℤ◌, ◌-ℤ◌, ◌<ℤ◌, ◌<◌},
-  Words.{◌↔◌, ◌≡◌, ◌≤ℤ◌, ◌≤◌},
+  Words.{cases_lt, index_of, inl, inr, least_time, length, linear, offsets, place_at, pos, refl, suc, top_of, w32, w64, zero, ℕ, ℤ, ◌+ℤ◌, ◌-ℤ◌, ◌<ℤ◌, ◌<◌, ◌↔◌},
+  Words.{◌≡◌, ◌≤ℤ◌, ◌≤◌},
   ZoneLaws.inside_listed,
 }
 use Rattle.tz_info.specs.{

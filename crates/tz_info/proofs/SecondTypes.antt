@@ -18,7 +18,7 @@ second_false u out = grind arith
 
 all_true : (cs : List ℤ) (u : ℤ) (n : ℕ) → ((k : ℕ) → k < n → SFits w64 (u +ℤ get_or cs k (pos 0))) → all_fit cs u n ≡ true
 all_true cs u zero h = refl
-all_true cs u (suc n) h = rw (second_true _ (h n (omega arith)), all_true cs u n (λ k l. h k (omega arith)))
+all_true cs u (suc n) h = rw (second_true _ (h n (omega arith)), all_true cs u n (grind arith))
 
 all_false : (cs : List ℤ) (u : ℤ) (n k : ℕ) → k < n → (SFits w64 (u +ℤ get_or cs k (pos 0)) → ⊥) → all_fit cs u n ≡ false
 all_false cs u zero k l out = absurd (omega arith)

@@ -20,8 +20,7 @@ use Rattle.tz_info.specs.declared.rule.transition_rule.TransitionRule.TheVariant
 -- ---- between two seconds that have a type each has one
 -- before 1970 no entry has come
 early : (es : List LeapSecond) (v x : ℤ) → AreLeapSeconds es → v <ℤ pos 0 → IsLeapTime es v x → x ≡ v
-early es v x valid h l =
-    let none = none_counted _ v es (follow es valid) (λ d k. let f = (valid.first d k).since_epoch in omega linear) in
+early es v x valid h l = let none = none_counted _ v es (follow es valid) (grind linear) in
     let s = rw none at l.sum in
     omega linear
 
@@ -186,7 +185,8 @@ pub span_between : (z : Zone) (u : ℤ) (t : LocalType) (last next : Option Chan
 span_between z u t _ _ from until valid limits fits h before after begin end =
     let low = low_of z u t valid limits fits h _ _ before begin in
     let high = high_of z u t valid limits fits h _ _ after end in
-    let inside : IsInSpan (record { local_time_type = t; from = from; until = until }) u = record { fits = fits; since = low.since; until = high.before } in record {
+    let inside : IsInSpan (record { local_time_type = t; from = from; until = until }) u =
+    record { fits = fits; since = low.since; until = high.before } in record {
       in_force_then = h;
       inside = inside;
       span = record {
@@ -223,13 +223,10 @@ module _ (z : Zone) (a b : Span) (u x : ℤ) (same : a.local_time_type ≡ b.loc
     (i : IsInSpan a u) (j : IsInSpan b u) where
   -- an end of one of two spans that share a second, and have one type, lies outside the other
   begin_outside : a.from ≡ Some x → IsSince b.from (x -ℤ pos 1) → ⊥
-  begin_outside is since =
-      let end = rw is at h.begins in end.out (rw (← same) at (k.each (x -ℤ pos 1)
-      (grind linear)))
+  begin_outside is since = let end = rw is at h.begins in grind linear
 
   end_outside : a.until ≡ Some x → IsUntil b.until x → ⊥
-  end_outside is until =
-      let end = rw is at h.ends in end.out (rw (← same) at (k.each x (grind linear)))
+  end_outside is until = let end = rw is at h.ends in grind linear
 
 same_begin : (p q : Option ℤ) → ((x : ℤ) → p ≡ Some x → IsSince q (x -ℤ pos 1) → ⊥) → ((x : ℤ) → q ≡ Some x → IsSince p (x -ℤ pos 1) → ⊥) → p ≡ q
 same_begin None None h k = refl
@@ -254,16 +251,8 @@ span_once z a b u h k i j =
 -- ---- at an end of a span clocks change, if the zone has a type beyond it
 pub begin_changes : (z : Zone) (s : Span) (u : ℤ) (t : LocalType) → IsSpan (TypeAt z) s → s.from ≡ Some u → TypeAt z (u -ℤ pos 1) t
     → IsChange (TypeAt z) (record { at = u; before = t; after = s.local_time_type })
-begin_changes z s u t h is before =
-    let (v, i) = h.some in
-    let end = rw is at h.begins in let from = rw is at i.since in
-    let here : SFits w64 u = omega linear in
-    grind linear
+begin_changes z s u t h is before = let (v, i) = h.some in grind linear
 
 pub end_changes : (z : Zone) (s : Span) (u : ℤ) (t : LocalType) → IsSpan (TypeAt z) s → s.until ≡ Some u → TypeAt z u t
     → IsChange (TypeAt z) (record { at = u; before = s.local_time_type; after = t })
-end_changes z s u t h is after =
-    let (v, i) = h.some in
-    let end = rw is at h.ends in let until = rw is at i.until in
-    let there : SFits w64 (u -ℤ pos 1) = omega linear in
-    grind linear
+end_changes z s u t h is after = let (v, i) = h.some in grind linear

@@ -9,8 +9,8 @@ use Rattle.tz_info.proofs.{
   WallSegments.{leap_time_of, near_of, offset_here, rule_begun, type_of_table},
   Words.{AreRising, AreUtOffsets, Bool, Counts, IsNear, IsShownIn, IsStart, IsTried, IsValid, IsWallAnswer, IsWide, IsWindow, List, LocalResult, LocalType},
   Words.{None, Option, RoseByWalk, RoseWithin, RuleAt, Shows, Some, Transition, TransitionRule, TypeAt, TypeFrom, Zone, [], ap, arith, begin_of, cases_lt},
-  Words.{come_between, digits, digits-le, filter, get_or, get_or_default, index_of, inl, inr, least_time, length, linear, reads_more, refl, segment_of, suc},
-  Words.{sym, table_count, true, zero, ℕ, ℤ, ⊎_elim, ◌+ℤ◌, ◌+◌, ◌-ℤ◌, ◌<ℤ◌, ◌<◌, ◌∙◌, ◌∷◌, ◌≡◌, ◌≤ℤ◌, ◌≤◌, ◌⊎◌},
+  Words.{come_between, digits, digits-le, filter, get_or, get_or_default, index_of, inl, inr, least_time, length, linear, reads_more, segment_of, suc, sym},
+  Words.{table_count, true, zero, ℕ, ℤ, ⊎_elim, ◌+ℤ◌, ◌+◌, ◌-ℤ◌, ◌<ℤ◌, ◌<◌, ◌∙◌, ◌∷◌, ◌≡◌, ◌≤ℤ◌, ◌≤◌, ◌⊎◌},
 }
 use Rattle.tz_info.specs.Steps.Walk.{IsTimeWithin}
 

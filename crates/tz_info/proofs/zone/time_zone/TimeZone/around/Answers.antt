@@ -18,8 +18,7 @@ entries : (c : After-answer-shown) → AreEntries c.args.self.now c.self.inside.
 entries c = rw (← c.self.view_is) c.self.invariant.list
 
 reach : (c : After-answer-shown) → HasReach c.args.self.now c.args.local
-reach c =
-    reach_of _ _ c.self.inside.extremes c.requires.local (search rules) (search rules) (rw (← c.self.view_is) c.self.invariant.extremes)
+reach c = reach_of _ _ c.self.inside.extremes c.requires.local (search rules) (search rules) (grind arith)
 
 pub answer_behind-season-requires-clause-shown : goal.answer_behind-season-requires-clause-shown
 answer_behind-season-requires-clause-shown c =

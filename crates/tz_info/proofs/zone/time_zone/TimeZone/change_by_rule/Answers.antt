@@ -6,9 +6,7 @@ returns-in_err-turns c = rw c.from_residual.ensures (steady _ _ (rw
     (← c.self.view_is) c.self.invariant.valid) c.in_err-turns.ensures)
 
 pub returns-then-begin : goal.returns-then-begin
-returns-then-begin c =
-    none_begun _ _ _ (rw
-    (← c.self.view_is) c.self.invariant.valid) c.rule_begin-begin.ensures.begin (λ u fits ahead. omega (arith, ints))
+returns-then-begin c = none_begun _ _ _ (grind arith) c.rule_begin-begin.ensures.begin (λ u fits ahead. omega (arith, ints))
 
 pub returns : goal.returns
 returns c =

@@ -11,14 +11,7 @@ between : (c : After-second_showing-before)
     → SFits w64 c.args.from × SFits w64 c.args.until × SFits w64 c.second_showing-since.result × SFits w64 c.second_showing-before.result
     × (c.second_showing-since.result ≡ c.args.from -ℤ c.next_run.result.1.now.offset)
     × (c.second_showing-before.result ≡ c.args.until -ℤ c.next_run.result.1.now.offset)
-between c =
-    let ff = c.ranges.from in let fu = c.ranges.until in
-    let fs : SFits w64 c.second_showing-since.result = search rules in
-    let fb : SFits w64 c.second_showing-before.result = search rules in
-    let g1 = c.offset.type_inv in
-    let g2 = c.offset-in-loop-left.type_inv in
-    let since = rw c.offset.ensures.value at (simp fits at c.second_showing-since.ensures.value) in
-    (ff, fu, fs, fb, since, rw c.offset-in-loop-left.ensures.value at (simp fits at c.second_showing-before.ensures.value))
+between c = let ff = c.ranges.from in let fu = c.ranges.until in grind (arith, rules)
 
 pub loop-left-smaller : goal.loop-left-smaller
 loop-left-smaller c =

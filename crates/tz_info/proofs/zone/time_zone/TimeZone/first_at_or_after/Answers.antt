@@ -19,7 +19,7 @@ valid : (c : After-first_reaching-place) → IsValid c.args.self.now
 valid c = rw (← c.self.view_is) c.self.invariant.valid
 
 reach : (c : After-first_reaching-place) → HasReach c.args.self.now c.args.local
-reach c = reach_of _ _ c.self.inside.extremes c.requires.local (search rules) (search rules) (rw (← c.self.view_is) c.self.invariant.extremes)
+reach c = reach_of _ _ c.self.inside.extremes c.requires.local (search rules) (search rules) (grind linear)
 
 first : (c : After-first_reaching-place) → IsFirstSegment c.args.self.now.types c.self.inside.changes.items c.args.local c.first_reaching-place.result
 first c =

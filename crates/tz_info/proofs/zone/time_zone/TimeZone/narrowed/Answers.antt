@@ -1,9 +1,5 @@
-use Rattle.tz_info.proofs.{Fits.fits, Words.linear}
+use Rattle.tz_info.proofs.Words.{linear}
 use Rattle.tz_info.proofs.zone.time_zone.TimeZone.narrowed.Goals as goal
 
 pub returns-then-has_type-clause-searched : goal.returns-then-has_type-clause-searched
-returns-then-has_type-clause-searched c =
-    let fe = c.ranges.end in let fs = c.ranges.second in
-    let has = simp fits at c.has_type.ensures in
-    let h = c.requires.searched in
-    let far = h.far in simp fits (record { typed = has.0 c.if-has_type.true; not = h.not; far = omega linear; less = c.requires.earlier })
+returns-then-has_type-clause-searched c = let fe = c.ranges.end in let fs = c.ranges.second in grind linear

@@ -110,9 +110,7 @@ loop-place-preserved c =
     }
 
 pub try_last-requires-clause-seen : goal.try_last-requires-clause-seen
-try_last-requires-clause-seen c =
-    let e : c.loop-place.place ≡ length c.args.self.now.transitions = omega arith in
-    rw e at c.loop-place.invariant.found
+try_last-requires-clause-seen c = let e : c.loop-place.place ≡ length c.args.self.now.transitions = omega arith in grind linear
 
 pub returns : goal.returns
 returns c =
