@@ -19,9 +19,6 @@ pieces_found types ts place before behind p q b a pieces = grind arith
 
 -- ---- pieces that are pushed
 
-start_by_later : (ps : List Piece) (a b : ℤ) → StartBy ps a → a ≤ℤ b → StartBy ps b
-start_by_later ps a b by h = grind linear
-
 -- the pieces' last segment has no end, so it is over at no local time
 abbrev IsOpen : Shown → List Piece → Type 0
 IsOpen b ps = (l : ℤ) (j : ℕ) → together (answer_at b ps l) (Skipped j) ≡ answer_at b ps l
