@@ -119,6 +119,6 @@ maxima_more types ts k maxima out latest next made is e =
     ((λ h. r.1 (by_lt_z l latest (λ b. inl (a.0 b)) (λ b. grind linear))), (λ s. grind linear)) in
     rw e (record {
       count = grind (arith, length_push, made.count);
-      reached = λ i d l h fits. grind (arith, made.count, made.reached i d l, more l, get_or_append_left maxima (next ∷ []) d i, get_or_push maxima next d i);
+      reached = λ i d l h fits. grind (arith, made, more l, get_or_append_left maxima (next ∷ []) d i, get_or_push maxima next d i);
       all = more;
     })

@@ -76,8 +76,8 @@ start_begun z e s valid made begun u x near l = grind (linear, come_at_time z u 
 
 pub begin_by : (z : Zone) (e : Entries) (s : ℤ) → IsValid z → AreEntries z e → least_time ≤ℤ s → IsBegun e s → IsBegin z s
 begin_by z e s valid made low begun = record {
-  comes = λ u x fits l. grind (linear, made.come, begun);
-  alone = λ none. grind (linear, made.some, made.few, place_most, begun least_time);
+  comes = grind (linear, made.come, begun);
+  alone = grind (linear, made.some, made.few, place_most, begun least_time);
 }
 
 -- ---- the gap at the begin of a segment
@@ -134,4 +134,4 @@ module _ (z : Zone) (e : Entries) (s : ℤ) (none : length e.items ≡ 0) (begun
       let table = table_of z e valid made in
       let w = table.within in
       let top : top_of z.rule e ≡ 1 = omega arith in
-      is_plain _ (λ l wide. rw top (grind (arith, shown_inside z e.items (top_of z.rule e) 0 t table some has offset l wide)))
+      is_plain _ (rw top (grind (arith, shown_inside z e.items (top_of z.rule e) 0 t table some has offset)))
