@@ -15,21 +15,18 @@ FailFrom {X} p xs n = (k : ℕ) (d : X) → n ≤ k → k < length xs → p (get
 pub filter_first : {X : Type 0} (p : X → Bool) (xs : List X) (n : ℕ) → n ≤ length xs → PassFirst p xs n → FailFrom p xs n → filter p xs ≡ take n xs
 filter_first p [] n h passes fails = grind arith
 filter_first p (x ∷ xs) zero h passes fails =
-    rw (fails 0 x (omega arith) (omega arith))
-    (filter_first p xs zero (omega arith) (λ k d l. absurd (omega arith)) (λ k d l u. fails (suc k) d (omega arith) (omega arith)))
-filter_first p (x ∷ xs) (suc n) h passes fails =
-    rw (passes 0 x (omega arith))
-    (ap (λ ys. x ∷ ys) (filter_first p xs n (omega arith) (λ k d l. passes (suc k) d (omega arith))
-    (λ k d l u. fails (suc k) d (omega arith) (omega arith))))
+    rw (fails 0 x (omega arith) (omega arith)) (filter_first p xs zero (omega arith) (grind arith) (λ k d l u. fails (suc k) d (omega arith) (omega arith)))
+filter_first p (x ∷ xs) (suc n) h passes fails = rw (passes 0 x (omega arith)) (ap (λ ys. x ∷ ys) (filter_first p xs n (omega arith)
+    (λ k d. grind (arith, passes (suc k) d)) (λ k d. grind (arith, fails (suc k) d))))
 
 pub count_first : {X : Type 0} (p : X → Bool) (xs : List X) (n : ℕ) → n ≤ length xs → PassFirst p xs n → FailFrom p xs n → count_by p xs ≡ n
 count_first p [] n h passes fails = omega arith
 count_first p (x ∷ xs) zero h passes fails =
-    let rest = count_first p xs zero (omega arith) (λ k d l. absurd (omega arith)) (λ k d l u. fails (suc k) d (omega arith) (omega arith)) in
-    grind (arith, sum_by-cons (λ x. cond (p x) 1 0) x xs, fails 0 x)
+    grind (arith, count_first p xs zero (omega arith) (grind arith) (λ k d l u. fails (suc k) d (omega arith) (omega arith)),
+    sum_by-cons (λ x. cond (p x) 1 0) x xs, fails 0 x)
 count_first p (x ∷ xs) (suc n) h passes fails =
-    let rest = count_first p xs n (omega arith) (λ k d l. passes (suc k) d (omega arith)) (λ k d l u. fails (suc k) d (omega arith) (omega arith)) in
-    grind (arith, sum_by-cons (λ x. cond (p x) 1 0) x xs, passes 0 x)
+    grind (arith, count_first p xs n (omega arith) (λ k d l. passes (suc k) d (omega arith)) (λ k d l u. fails (suc k) d (omega arith) (omega arith)),
+    sum_by-cons (λ x. cond (p x) 1 0) x xs, passes 0 x)
 
 pub count_least : {X : Type 0} (p : X → Bool) (xs : List X) (n : ℕ) → n ≤ length xs → PassFirst p xs n → n ≤ count_by p xs
 count_least p xs zero h passes = omega arith

@@ -82,5 +82,4 @@ first_near z l low high u t valid limits reach first =
 pub gap_at_first : (z : Zone) (l low high u : ℤ) (t before : LocalType) → IsNever z l → IsWindowOf z l l low high → low ≤ℤ u → u ≤ℤ high
     → IsFirstAtOrAfter (TypeAt z) l u t → TypeAt z (u -ℤ pos 1) before → HasGap (TypeAt z) l before t u
 gap_at_first z l low _ u t _ never reach since most first earlier =
-    gap_found z l low _ u t _ never reach (omega linear, omega linear) (λ v near_v h s k. grind (linear, first.first v s)) first.shown.type
-    (grind (linear, never u t)) earlier
+    gap_found z l low _ u t _ never reach (omega linear, omega linear) (grind (linear, first.first)) first.shown.type (grind (linear, never u t)) earlier

@@ -49,20 +49,13 @@ pub record Raising (before after : List ℕ) (greatest n : ℕ) : Type 0 where
   pub up_to : (j : ℕ) → j < n → slice_index before j ≤ greatest
   pub is : ((n ≡ 0) × (greatest ≡ 0)) ⊎ ((0 < n) × (greatest ≡ slice_index after (n - 1)))
 
--- the greatest of one number more is that number, unless it is 0
-greatest_with : (before after : List ℕ) (greatest n : ℕ) → Raising before after greatest n → n < length before → RiseFromZero before
-    → 0 < slice_index before n → greatest ≤ slice_index before n
-greatest_with before after greatest n r h rise some = grind (arith, r.raised.some (n - 1))
-
 pub raising_more : (before after : List ℕ) (greatest n here : ℕ) → Raising before after greatest n → n < length before → RiseFromZero before
     → (slice_index after n ≡ 0 → here ≡ greatest) × (slice_index after n ≢ 0 → here ≡ slice_index after n)
     → Raising before (set after n here) here (n + 1)
 raising_more before after greatest n here r h rise is_here =
     let same_here = r.rest n (omega arith) in
-    let e : here ≡ max greatest (slice_index before n) = elim (cases_eq (slice_index before n) 0) [
-      | inl none ↦ grind arith
-      | inr some ↦ grind (arith, greatest_with before after greatest n)
-    ] in
+    let last = r.raised.some (n - 1) in
+    let e : here ≡ max greatest (slice_index before n) = elim (cases_eq (slice_index before n) 0) [ inl none ↦ grind arith | inr some ↦ grind arith ] in
     let long = length-set after n here in
     let at : (b : ℕ) → b ≡ n → slice_index (set after n here) b ≡ here = λ b same. get_or-set_at after n b here 0 same (omega arith) in
     let other : (b : ℕ) → b ≢ n → slice_index (set after n here) b ≡ slice_index after b = λ b differs. get_or-set_other after n b here 0 differs in
@@ -74,7 +67,7 @@ raising_more before after greatest n here r h rise is_here =
           | inl same ↦ let a = at b same in elim (cases_lt (slice_index before n) greatest) [
             | inl k ↦ elim r.is [
               | inl z ↦ absurd (grind arith)
-              | inr g ↦ let s = r.raised.some (n - 1) (grind arith) in (s.0, grind arith, grind arith)
+              | inr g ↦ let s = last (grind arith) in (s.0, grind arith, grind arith)
             ]
             | inr k ↦ (n, omega arith, omega arith)
           ]

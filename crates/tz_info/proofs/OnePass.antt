@@ -19,9 +19,6 @@ pieces_found types ts place before behind p q b a pieces = grind arith
 
 -- ---- pieces that are pushed
 
-start_by_later : (ps : List Piece) (a b : ℤ) → StartBy ps a → a ≤ℤ b → StartBy ps b
-start_by_later ps a b by h = grind linear
-
 -- the pieces' last segment has no end, so it is over at no local time
 abbrev IsOpen : Shown → List Piece → Type 0
 IsOpen b ps = (l : ℤ) (j : ℕ) → together (answer_at b ps l) (Skipped j) ≡ answer_at b ps l
@@ -105,13 +102,13 @@ module _ (z : Zone) (ts : List Transition) (place : ℕ) (p q : Piece) (a : AreP
         let cuts = cuts_between in
         let by_then = by in
         let end_next = next in
+        let rise : Piece → Piece → Type 0 = λ a b. a.start ≤ℤ b.start in
         let amid : (l : ℤ) → p.start ≤ℤ l → l <ℤ q.start
         → p.answer ≡ together (answer_at b (ps ++ (r ∷ [])) l)
         (answer_at (Skipped place) (piece (cut_of ts place a.type.offset) (Once (index_of ts place)) ∷ []) l) =
         λ l from until. ⊎_elim (λ gap. grind (linear, at_later b ps r l)) (λ fold. grind (linear, at_earlier b ps r l, at_all b ps l, o.last)) a.pieces in
         record {
-          ordered =
-              let rise : Piece → Piece → Type 0 = λ a b. a.start ≤ℤ b.start in all_pairs_push rise _ q (all_pairs_push rise ps p o.ordered by) by_first;
+          ordered = all_pairs_push rise _ q (all_pairs_push rise ps p o.ordered by) by_first;
           count = grind (arith, length_push);
           answers = λ l. grind (linear, at_earlier, at_later);
         }
@@ -122,11 +119,10 @@ module _ (z : Zone) (ts : List Transition) (place : ℕ) (p q : Piece) (a : AreP
     open_more top out table some own e =
         let within = table.within in
         let one : suc place - 1 ≡ place = omega arith in
-        let end : ℤ = cut_of ts place a.before.offset in
         let (ended, _, end_by, start_by) = cuts_between in
-        let end_here : end_of z.types ts place ≡ end = end_before z.types ts place a.before a.listed_before in
-        let r = piece end Less in
-        let first : ArePieces z ts 0 place (Once i) (ps ++ (r ∷ [])) = o.closed (omega arith) a.before a.listed_before a.offset_before (grind linear) in
+        let end_here = end_before z.types ts place a.before a.listed_before in
+        let r = piece (cut_of ts place a.before.offset) Less in
+        let first = o.closed (omega arith) a.before a.listed_before a.offset_before (grind linear) in
         let before = ps ++ (p ∷ []) in
         let all = before ++ (q ∷ []) in
         let by_all = start_by_push before q q.start by_first (omega linear) in

@@ -2,16 +2,10 @@
 use Rattle.tz_info.proofs.{
   SegmentEndLaws.{begun_by, come_by, shows_less}, SegmentLaws.{segment_at, segment_most, type_from, type_in_from},
   TableLaws.{same_table, table_of, time_then, top_least}, WallSegments.{leap_time_of, near_wide},
-  Words.{IsFirstAtOrAfter, IsLeapTime, IsNear, IsValid, IsWide, LocalType, RuleAt, RuleOrType, SFits, Some, TransitionRule, TypeAt, Zone, arith, begin_of},
-  Words.{cases_lt, inl, inr, length, linear, place_at, segment_of, table_count, top_of, w64, ℕ, ℤ, ◌<◌, ◌≡◌, ◌≤ℤ◌, ◌≤◌},
+  Words.{IsFirstAtOrAfter, IsLeapTime, IsNear, IsValid, IsWide, LocalType, RuleAt, SFits, Some, TransitionRule, TypeAt, Zone, arith, begin_of, cases_lt, inl},
+  Words.{inr, length, linear, place_at, segment_of, table_count, top_of, w64, ℕ, ℤ, ◌<◌, ◌≡◌, ◌≤ℤ◌, ◌≤◌},
 }
 use Rattle.tz_info.specs.Steps.{Entries.{AreEntries, Entries}, SegmentEnds.IsFirstSegment, Since.{IsFirstSince, IsReachedSince}}
-
-all_of_table : (z : Zone) (rule : TransitionRule) → z.rule ≡ Some rule → table_count z ≡ length z.transitions
-all_of_table z _ is = rw is
-
-of_rule_or : (z : Zone) (rule : TransitionRule) (u : ℤ) (i : ℕ) (t : LocalType) → z.rule ≡ Some rule → RuleAt rule u t → RuleOrType z u i t
-of_rule_or z _ u i t is k = rw is k
 
 module _ (z : Zone) (e : Entries) (rule : TransitionRule) (k : ℕ) (valid : IsValid z) (made : AreEntries z e) (is : z.rule ≡ Some rule)
     (within : k ≤ length e.items) (beyond : top_of z.rule e ≤ k) where
@@ -22,16 +16,16 @@ module _ (z : Zone) (e : Entries) (rule : TransitionRule) (k : ℕ) (valid : IsV
       let come = come_by e.items k u made.rising within from in
       let most = segment_most z u valid.transitions.rising in
       let same = same_table z e valid made u fits time in
-      grind (arith, all_of_table z rule is)
+      let all : table_count z ≡ length z.transitions = rw is in grind arith
 
   to_rule : (u : ℤ) (t : LocalType) → begin_of e.items k ≤ℤ u → SFits w64 u → TypeAt z u t → RuleAt rule u t
-  to_rule u t from fits here = rw is at (type_from z u t valid.transitions.rising (record { type = here; segment = all_come u from fits (time_then z u t here) }))
+  to_rule u t from fits here =
+      rw is at (type_from z u t valid.transitions.rising (record { type = here; segment = all_come u from fits (time_then z u t here) }))
 
   from_rule : (u : ℤ) (t : LocalType) → begin_of e.items k ≤ℤ u → IsNear u → RuleAt rule u t → TypeAt z u t
   from_rule u t from near here =
       let (x, l) = leap_time_of z u valid near in
-      let b = segment_at z u (length z.transitions) valid.transitions.rising (all_come u from (omega linear) (λ _. (x, l))) in
-      (type_in_from z u x t l (rw (← l.sum) at b) (rw is here)).type
+      (type_in_from z u x t l (rw (← l.sum) at (segment_at z u _ valid.transitions.rising (all_come u from (omega linear) (λ _. (x, l))))) (rw is here)).type
 
   -- what the rule's clocks show there the zone's clocks do
   pub reached_by_rule : (t l : ℤ) → IsReachedSince (RuleAt rule) (begin_of e.items k) t l → IsReachedSince (TypeAt z) (begin_of e.items k) t l

@@ -99,12 +99,8 @@ module _ (z : Zone) (ts : List Transition) (top k : ℕ) (l : ℤ) (table : IsTa
             (λ earlier.
             let rise = places_rise ts v at table.rising (omega linear) in
             let less = shows_less z ts top k l v s table first.within (near_wide l wide) first.before h.fits in
-            elim (cases_lt (place_at ts v) k) [
-              | inl before ↦ grind (linear, less)
-              | inr same ↦
-                  let one = offset_there z ts top k t table own is.listed is.offset v s h.fits (omega arith) h.type in
-                  grind (linear, is.from v, begun_by ts k v table.rising first.within same)
-            ])
+            let one = offset_there z ts top k t table own is.listed is.offset v s h.fits in
+            grind (linear, less, one, is.from v, begun_by ts k v table.rising first.within))
             (λ m. m);
       }
 
@@ -123,6 +119,6 @@ maxima_more types ts k maxima out latest next made is e =
     ((λ h. r.1 (by_lt_z l latest (λ b. inl (a.0 b)) (λ b. grind linear))), (λ s. grind linear)) in
     rw e (record {
       count = grind (arith, length_push, made.count);
-      reached = λ i d l h fits. grind (arith, made.count, made.reached i d l, more l, get_or_append_left maxima (next ∷ []) d i, get_or_push maxima next d i);
+      reached = λ i d l h fits. grind (arith, made, more l, get_or_append_left maxima (next ∷ []) d i, get_or_push maxima next d i);
       all = more;
     })

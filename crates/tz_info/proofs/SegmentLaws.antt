@@ -63,10 +63,10 @@ pub begin_first : (ts : List Transition) → begin_of ts 0 ≡ least_time
 begin_first ts = grind arith
 
 pub begin_next : (ts : List Transition) (i : ℕ) (d : Transition) → i < length ts → begin_of ts (i + 1) ≡ (get_or ts i d).unix_leap_time
-begin_next ts i d h = grind (linear, last_taken)
+begin_next ts i d h = grind (arith, begin_suc)
 
 pub index_next : (ts : List Transition) (i : ℕ) (d : Transition) → i < length ts → index_of ts (i + 1) ≡ (get_or ts i d).type_index
-index_next ts i d h = grind (linear, last_taken)
+index_next ts i d h = grind (arith, last_taken)
 
 begun_before : (ts : List Transition) (x : ℤ) (i : ℕ) → least_time ≤ℤ x → Between ts x i i → begin_of ts i ≤ℤ x
 begun_before ts x zero h b = rw (begin_first ts) h
@@ -134,10 +134,7 @@ pub type_in_from : (z : Zone) (u x : ℤ) (t : LocalType) → IsLeapTime z.leaps
 type_in_from z u x t l b k =
     let e = search_found _ x _ _ (omega arith) b in
     let c = split_count _ x _ b in
-    record {
-      type = record { leap_time = x; of_second = λ _. l; in_force = grind arith };
-      segment = segment_is z u _ (rw l.sum at b);
-    }
+    record { type = record { leap_time = x; of_second = grind arith; in_force = grind arith }; segment = segment_is z u _ (rw l.sum at b) }
 
 -- ---- how many have come by a second
 pub place_most : (ts : List Transition) (u : ℤ) → AreRising ts → length (passed ts u) ≤ length ts

@@ -4,15 +4,14 @@ use Rattle.tz_info.proofs.{
   EntryChanges.{index_there, looks_most}, ExtremeLaws.window_made, GapLaws.{IsNever, gap_found, not_less}, PassedTransitions.no_items,
   SegmentLaws.{come_at_time, come_from, place_before, place_begin, place_most, segment_here, segment_most}, TableSearch.search_found,
   WallSegments.{indexes_below, leap_time_of, near_fits, shown_inside, type_in_table, type_of_table, typed_answer},
-  Words.{AreBelow, AreExtremes, AreLess, AreListed, ArePieces, Change, Counts, Extremes, HasGap, HasReach, HasType, IsBegin, IsBegun, IsBegunNear, IsIndex},
-  Words.{IsJump, IsLeapTime, IsRuleOrNone, IsShownAmong, IsStart, IsTable, IsTableAnswer, IsTableLess, IsValid, IsWallAnswer, IsWide, IsWindowOf, List},
-  Words.{LocalResult, LocalType, MatchOption, None, Option, Piece, RoseWithin, SFits, Shown, ShownAmong, Some, TransitionRule, TypeAt, WallIndex, Zone, []},
-  Words.{arith, begin_of, cases_lt, index_of, inl, inr, least_time, length, linear, nat_tests, offsets, place_at, pos, refl, segment_of, shown_indexes},
-  Words.{slice_get, suc, sym, table_count, top_of, w32, w64, zero, ℕ, ℤ, ◌*◌, ◌+◌, ◌-ℤ◌, ◌<ℤ◌, ◌<◌, ◌↔◌, ◌∙◌, ◌≡◌, ◌≤ℤ◌, ◌≤◌}, ZoneChanges.time_of,
+  Words.{AreBelow, AreExtremes, AreLess, AreListed, Change, Counts, Extremes, HasGap, HasReach, HasType, IsBegin, IsBegun, IsBegunNear, IsIndex, IsJump},
+  Words.{IsLeapTime, IsRuleOrNone, IsShownAmong, IsStart, IsTable, IsTableAnswer, IsTableLess, IsValid, IsWallAnswer, IsWide, IsWindowOf, LocalResult},
+  Words.{LocalType, MatchOption, None, Option, RoseWithin, SFits, Shown, ShownAmong, Some, TransitionRule, TypeAt, WallIndex, Zone, [], arith, begin_of},
+  Words.{cases_lt, index_of, inl, inr, least_time, length, linear, offsets, place_at, pos, refl, segment_of, shown_indexes, slice_get, suc, sym, table_count},
+  Words.{top_of, w32, w64, zero, ℕ, ℤ, ◌*◌, ◌+◌, ◌-ℤ◌, ◌<ℤ◌, ◌<◌, ◌↔◌, ◌∙◌, ◌≡◌, ◌≤ℤ◌, ◌≤◌}, ZoneChanges.time_of,
 }
 use Rattle.tz_info.specs.{
-  Counts.RoseByPieces, Looks.RoseByWallClock, Steps.{Entries.{AreEntries, Entries, most_looks}, SegmentEnds.AreEnds},
-  declared.zone.made.shown.Shown.TheVariants.{Less, Once, Skipped},
+  Counts.RoseByPieces, Looks.RoseByWallClock, Steps.Entries.{AreEntries, Entries, most_looks}, declared.zone.made.shown.Shown.TheVariants.{Less, Once, Skipped},
 }
 
 -- ---- the table's seconds
@@ -77,8 +76,8 @@ start_begun z e s valid made begun u x near l = grind (linear, come_at_time z u 
 
 pub begin_by : (z : Zone) (e : Entries) (s : ℤ) → IsValid z → AreEntries z e → least_time ≤ℤ s → IsBegun e s → IsBegin z s
 begin_by z e s valid made low begun = record {
-  comes = λ u x fits l. grind (linear, made.come, begun);
-  alone = λ none. grind (linear, made.some, made.few, place_most, begun least_time);
+  comes = grind (linear, made.come, begun);
+  alone = grind (linear, made.some, made.few, place_most, begun least_time);
 }
 
 -- ---- the gap at the begin of a segment
@@ -116,11 +115,6 @@ pub rose_by_wall : (z : Zone) (a b c : Counts) (n : ℕ) → n ≤ 2 * length z.
 rose_by_wall z a b c n few pieces looked rule = let most = looks_most n (2 * length z.transitions + 1) (omega arith) (omega arith) in grind arith
 
 -- ---- the index
-pub pieces_index : (z : Zone) (e : Entries) (b : Shown) (ps : List Piece) (ms : List ℤ) (s : ℤ) → AreEntries z e → ArePieces z e.items 0 (top_of z.rule e) b ps
-    → AreEnds z.types e.items ms → IsBegunNear e s
-    → IsIndex z e (record { before = b; pieces = ps; maxima = ms; rule_from = s })
-pieces_index z e b ps ms s made pieces ends begun = grind (arith, nat_tests)
-
 -- without entries
 module _ (z : Zone) (e : Entries) (s : ℤ) (none : length e.items ≡ 0) (begun : IsBegunNear e s)
     (never : 0 < length z.transitions → s ≡ pos 9_223_372_036_854_775_807) where
@@ -140,4 +134,4 @@ module _ (z : Zone) (e : Entries) (s : ℤ) (none : length e.items ≡ 0) (begun
       let table = table_of z e valid made in
       let w = table.within in
       let top : top_of z.rule e ≡ 1 = omega arith in
-      is_plain _ (λ l wide. rw top (grind (arith, shown_inside z e.items (top_of z.rule e) 0 t table some has offset l wide)))
+      is_plain _ (rw top (grind (arith, shown_inside z e.items (top_of z.rule e) 0 t table some has offset)))

@@ -63,8 +63,8 @@ shown_joined : (z : Zone) (ts : List Transition) (low middle high : ℕ) (l : �
     → IsShownAmong z ts low middle l a → IsShownAmong z ts middle high l b → IsShownAmong z ts low high l (together a b)
 shown_joined z ts low middle high l a b rising h k x y = record {
   wall = rw (wall_together a b) (joined_answer (ListedAmong z ts low middle l) (ListedAmong z ts middle high l) _ _ _ (record {
-    first = λ u i m. grind arith;
-    last = λ u i m. grind arith;
+    first = grind arith;
+    last = grind arith;
     all = λ u i m. ⊎_elim (λ b. inl (grind arith)) (λ b. inr (grind arith)) (cases_lt (place_at ts u) middle);
     order = grind (linear, places_rise);
   }) x.wall y.wall);
@@ -107,7 +107,7 @@ module _ (z : Zone) (ts : List Transition) (top k : ℕ) (t : LocalType) (table 
     cut_begun j inner within = grind (linear, saturated, come_from ts j, near_wide l)
 
     second_of : (v : ℤ) (j : ℕ) → ListedAmong z ts k (suc k) l v j → v ≡ l -ℤ t.offset
-    second_of v j a = let e = offset_there v _ a.shows.fits (omega arith) a.shows.type in omega linear
+    second_of v j a = grind (linear, offset_there v a.local_type)
 
     -- if it comes after the segment's end, its clocks show less
     shown_behind : k < length ts → cut_of ts (suc k) t.offset ≤ℤ l → IsShownAmong z ts k (suc k) l Less

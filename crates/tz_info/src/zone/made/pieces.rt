@@ -71,6 +71,7 @@ pub(super) fn merged(
 }
 
 // The answer of the piece before that place.
+#[tactic(auto, using(crate::proofs::Prefixes::last_taken))]
 fn answer_before(before: &Shown, pieces: &[Piece], place: usize) -> Shown
     requires { place ≤ length pieces.now }
     ensures { result ≡ answer_before before.now (take place pieces.now) }

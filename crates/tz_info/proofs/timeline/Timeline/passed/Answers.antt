@@ -1,6 +1,6 @@
 use Rattle.tz_info.proofs.{
   Fits.fits, HintLaws.near_hinted, SearchSteps.{all_passed, digits-halved, none_passed},
-  SearchWords.{AreEnds, AreHints, SFits, arith, length, length-map, linear, map, pow_pos, rules, to_z-of_z, w64, ◌≡◌},
+  SearchWords.{AreEnds, AreHints, SFits, arith, length, length-map, linear, map, pow_pos, rules, w64, ◌≡◌},
   timeline.Timeline.passed.{Given.Over, Goals.After-self},
 }
 use Rattle.tz_info.proofs.timeline.Timeline.passed.Goals as goal
@@ -23,7 +23,7 @@ pub count_look-requires : goal.count_look-requires
 count_look-requires g c = grind (arith, digits-halved)
 
 pub returns-then-second-self-clause-passed : goal.returns-then-second-self-clause-passed
-returns-then-second-self-clause-passed g c = grind (linear, to_z-of_z, none_passed)
+returns-then-second-self-clause-passed g c = grind (linear, none_passed)
 
 pub returns-then-second-self-clause-cost : goal.returns-then-second-self-clause-cost
 returns-then-second-self-clause-cost g c = grind (linear, digits-halved)

@@ -14,8 +14,7 @@ pub narrowed-left-requires-then-left-gt1-clause-room : goal.narrowed-left-requir
 narrowed-left-requires-then-left-gt1-clause-room g c = grind (arith, digits-three)
 
 pub narrowed-left-requires-then-left-gt1-2-clause-room : goal.narrowed-left-requires-then-left-gt1-2-clause-room
-narrowed-left-requires-then-left-gt1-2-clause-room g c =
-    grind (arith, digits-halved)
+narrowed-left-requires-then-left-gt1-2-clause-room g c = grind (arith, digits-halved)
 
 pub loop-left-init : goal.loop-left-init
 loop-left-init g c =
@@ -31,8 +30,7 @@ pub loop-left-preserved : goal.loop-left-preserved
 loop-left-preserved g c = grind (arith, one_step)
 
 pub returns-clause-passed : goal.returns-clause-passed
-returns-clause-passed g c =
-    grind (arith, near_one)
+returns-clause-passed g c = grind (arith, near_one)
 
 pub returns-clause-cost : goal.returns-clause-cost
 returns-clause-cost g c = grind arith

@@ -6,10 +6,9 @@ use Rattle.tz_info.proofs.timeline.hints.mark.Goals as goal
 
 pub seconds_between-requires : goal.seconds_between-requires
 seconds_between-requires g c =
-    let ff = c.ranges.first in
     let fs : SFits w64 c.second.result = search rules in
     let time = time_read g.T.Timed.time c.args.items.now c.loop-place.place c.index-items-place.result c.loop-place-test.true c.index-items-place.is in
-    grind (linear, c.requires.first c.loop-place.place)
+    grind (linear, c.ranges.first, c.requires.first c.loop-place.place)
 
 -- the stretch of the item, which has a slot after it
 slot : (g : Over) (c : goal.After-seconds_between g)

@@ -47,7 +47,7 @@ returns-then-most-count g c = c.none-then-most-count.ensures _
 -- the numbers that were raised are those that were marked
 raised : (g : Over) (c : After-deref g) → length c.deref_mut.result.now ≡ c.seconds_between-span.result / 2 ^ c.shift_for-shift.result + 2
     → AreRaised c.mark.new.places c.raise.new.numbers
-raised g c count = let same = c.mark.ensures.length in grind (arith, written)
+raised g c count = grind (arith, written, c.mark.ensures.length)
 
 -- and are kept
 kept : (g : Over) (c : After-deref g) → length c.deref_mut.result.now ≡ c.seconds_between-span.result / 2 ^ c.shift_for-shift.result + 2

@@ -5,8 +5,7 @@ pub returns-in_default-clause-found : goal.returns-in_default-clause-found
 returns-in_default-clause-found c = λ s at.
     let fs = c.ranges.second in
     let fit : SFits w64 c.args.second = omega linear in
-    let refused = rw (ap (λ p. p.zone) c.self.view_is) at (simp fits at c.in_default.ensures) in
-    type_not_refused _ _ s.local_time_type at.in_force_then refused.0
+    type_not_refused _ _ s.local_time_type at.in_force_then (rw (ap (λ p. p.zone) c.self.view_is) at (simp fits at c.in_default.ensures)).0
 
 pub returns-clause-found : goal.returns-clause-found
 returns-clause-found c =

@@ -3,8 +3,7 @@ use Rattle.tz_info.proofs.zone.made.extremes.Extremes.with_rule.Goals as goal
 
 pub returns-in-Alternate-clause-joined : goal.returns-in-Alternate-clause-joined
 returns-in-Alternate-clause-joined c =
-    let fs : SFits w32 c.offset-in-Alternate.result = let b = c.offset-in-Alternate.ensures.bound in
-    let v = c.offset-in-Alternate.ensures.value in omega linear in
+    let fs : SFits w32 c.offset-in-Alternate.result = grind linear in
     let fd : SFits w32 c.offset-in-Alternate-2.result = omega linear in
     rw c.in-Alternate.is (
       c.with-one.result,
