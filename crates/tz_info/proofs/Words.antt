@@ -112,7 +112,7 @@ pub use Rattle.tz_info.specs.{
   Steps.{Typed.{IsAfterTyped, IsBeginBy, IsEndBy, IsFirstTyped, IsLastTyped, IsSearched, IsTyped}, Validity.Stands},
   Steps.Walk.{IsAskedLast, IsShownIn, IsTried, TypeIn},
   Steps.WallPieces.{AreInOrder, AreLessAmong, IsBegun, IsBegunNear, IsIndex, IsShownAmong, IsSideAmong, IsStart, IsTable, IsTableAnswer, IsTableLess, Jumps},
-  Steps.WallPieces.{ListedAmong, ShownAmong, answer_at, answer_before, place_at, shown_indexes, top_of},
+  Steps.WallPieces.{ListedAmong, ShownAmong, WallIndex, answer_at, answer_before, place_at, shown_indexes, top_of},
   Transitions.{AreRising, AreTransitions, passed},
   Trims.{BeginsBare, EndsBare, IsSpace, IsTrimmed},
   TzFiles.{ContentFault, HasRule, In_contents, In_file, In_footer, In_indicators, In_piece, In_type, IsFileFault, IsTzFile, IsZoneFault, No_memory, Not_valid},
