@@ -23,7 +23,7 @@ pub use Rattle.zoned_ref.proofs.Words.{IsWide, IsWithinDay, IsZoneSecond, Law, L
 pub use Rattle.zoned_ref.proofs.Words.{in_seconds, inl, inr, ints, law_of, length, map_of, of_secs, off_of, pos, reading, refl, rule_types, subst, suc, sym}
 pub use Rattle.zoned_ref.proofs.Words.{to_z-of_z, true, type_decided, w32, w64, wall_decided, zero, zoned, ℕ, ℤ, ◌++◌, ◌-ℤ◌, ◌<◌, ◌∙◌, ◌∷◌, ◌≡◌, ◌≢◌, ◌⊎◌, []}
 pub use Rattle.zoned_ref.specs.ZoneOffset.{ahead_of}
-pub use Rattle.zoneq_lib.specs.Answers.{AnswersData, AnswersFile, AnswersLine, AnswersLines, AnswersRead, AnswersResolve, AnswersShow, AnswersText, law_by}
+pub use Rattle.zoneq_lib.specs.Answers.{AnswersData, AnswersFile, AnswersLine, AnswersLines, AnswersQuery, AnswersResolve, AnswersShow, AnswersText, law_by}
 pub use Rattle.zoneq_lib.specs.{Answers.{shown_date_time, shown_refusal, shown_type, shown_wall, shown_zone}, Endings.{WritesUnlessFailed}, Faults.{fault_text}}
 pub use Rattle.zoneq_lib.specs.{Hex.{bytes_of, bytes_test}, Lines.{HasNoNewline, IsSplit, ended_lines, without_return}}
 pub use Rattle.zoneq_lib.specs.Questions.{Asks, At, Data, IsBadLine, Query, Resolve, Show, Text, Wall, utf8_test}

@@ -76,15 +76,9 @@ answered_join z b xs o m k ys p a r s u =
 -- the answer to the last line, by what is kept for it
 last_answer : (z : Option Zone) (r front last : List ℕ) → IsKeptFor r front → AnswersLast z r last → AnswersLast z front last
 last_answer z r front last (inl same) h = grind arith
-last_answer z [] front last (inr both) h = grind arith
-last_answer z (c ∷ r) [] last (inr both) h = grind arith
-last_answer z (c ∷ r) (d ∷ front) last (inr both) h = (
-  h.0,
-  h.1,
-  same_answer z (c ∷ r) (d ∷ front) h.0 h.1 (subst IsBadLine (append-nil (c ∷ r)) (both.1.whole []))
-      (subst IsBadLine (append-nil (d ∷ front)) (both.0.whole [])) h.2,
-  h.3,
-)
+last_answer z (c ∷ r) (d ∷ front) last (inr both) h =
+    (h.0, h.1, same_answer z (c ∷ r) (d ∷ front) h.0 h.1 (rw append-nil at (both.1.whole [])) (rw append-nil at (both.0.whole [])) h.2, h.3)
+last_answer z r front last both h = grind arith
 
 all_answered : (input o : List ℕ) (z : Option Zone) (pieces : List (List ℕ)) (front last : List ℕ) → IsSplit input pieces front
     → AnswersLines None (ended_lines pieces) o z → AnswersLast z front last → Answers input (o ++ last)

@@ -6,10 +6,7 @@ pub mod LineLaws
 pub mod HexLaws
 pub mod ZoneAnswers
 pub mod Joining
-pub mod Bytes
 pub mod Stopping
 pub mod Showing
 pub mod Covering
-pub mod Ending
-pub mod Sending
 pub mod HopelessLaws

@@ -8,16 +8,16 @@ use Rattle.zoneq_lib.proofs.CitedWords.{map_of, of_secs, refl, rule_types, shown
 within_or_not : (k : ℤ) → IsWithinDay k ⊎ (IsWithinDay k → ⊥)
 within_or_not k = grind arith
 
-both_or_not : {P Q : Type 0} → P ⊎ (P → ⊥) → Q ⊎ (Q → ⊥) → (P × Q) ⊎ (P × Q → ⊥)
-both_or_not h q = grind arith
-
 all_or_not : (types : List LocalType) → All (λ t. IsWithinDay t.offset) types ⊎ (All (λ t. IsWithinDay t.offset) types → ⊥)
 all_or_not [] = grind arith
 all_or_not (t ∷ types) =
     let within = λ (s : LocalType). IsWithinDay s.offset in
-    elim (both_or_not (within_or_not t.offset) (all_or_not types)) [
-      | inl all ↦ inl (All-cons within t types all.0 all.1)
-      | inr not ↦ inr (λ h. not (All-head within t types h, All-tail within t types h))
+    elim (within_or_not t.offset) [
+      | inl one ↦ elim (all_or_not types) [
+        | inl all ↦ inl (All-cons within t types one all)
+        | inr not ↦ inr (λ h. not (All-tail within t types h))
+      ]
+      | inr not ↦ inr (λ h. not (All-head within t types h))
     ]
 
 pub narrow_or_not : (z : Zone) → IsNarrow z ⊎ (IsNarrow z → ⊥)
@@ -32,10 +32,10 @@ show_covered z seconds nanos valid rule = elim (narrow_or_not z) [
     | inl stamp ↦
         let has = zone_has_offsets z valid rule seconds (grind arith) in
         let t = has.1.type in
-        (shown_date_time (of_secs seconds nanos) t.offset, inr (inr (narrow, stamp, (t, has.1.in_force, refl))))
-    | inr none ↦ (codes "out of range", inr (inl (narrow, none, refl)))
+        (_, inr (inr (narrow, stamp, (_, has.1.in_force, refl))))
+    | inr none ↦ (_, inr (inl (narrow, none, refl)))
   ]
-  | inr wide ↦ (codes "wide zone", inl (wide, refl))
+  | inr wide ↦ (_, inl (wide, refl))
 ]
 
 -- no instant is given but of a timestamp
@@ -57,10 +57,10 @@ resolve_covered z l choice valid rule inside = elim (narrow_or_not z) [
       elim has.2 [
         | inl taken ↦
             let d = taken_instant has.0 l choice taken.0 taken.1 taken.2 in
-            (shown_date_time d.0.utc d.0.offset, inr (narrow, has.0, has.1, inl (d.0, d.1, refl)))
-        | inr refused ↦ (shown_refusal (resolve_error_number refused.0), inr (narrow, has.0, has.1, inr (refused.0, refused.1, refl)))
+            (_, inr (narrow, has.0, has.1, inl (d.0, d.1, refl)))
+        | inr refused ↦ (_, inr (narrow, has.0, has.1, inr (refused.0, refused.1, refl)))
       ]
-  | inr wide ↦ (codes "wide zone", inl (wide, refl))
+  | inr wide ↦ (_, inl (wide, refl))
 ]
 
 -- what is written of the instant that a choice selects
