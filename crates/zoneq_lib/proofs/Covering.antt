@@ -1,10 +1,10 @@
 -- Every line has an answer, so that answers to a front of an input can be carried on to its end.
-use Rattle.zoneq_lib.proofs.CitedWords.{All-head, All-nil, All-tail, Answered, AnswersBefore, AnswersLast, AnswersLine, AnswersLines, AnswersQuery, Asks, At, BeginsAnswers}
-use Rattle.zoneq_lib.proofs.CitedWords.{Data, HasNoNewline, IsKeptFor, IsRuleOrNone, IsSplit, IsValid, List, None, Option, Query, Resolve, Show, Some, Text}
-use Rattle.zoneq_lib.proofs.CitedWords.{Wall, Zone, append-nil, append_assoc, arith, cases_eq, codes, ended_lines, file_rule_fits, inl, inr, length}
-use Rattle.zoneq_lib.proofs.CitedWords.{length-append, posix_zone_valid, refl, shown_refusal, shown_type, shown_wall, subst, sym, type_decided, wall_decided, ℕ}
-use Rattle.zoneq_lib.proofs.{CitedWords.{◌++◌, ◌<◌, ◌∷◌, ◌≢◌, [], error_number, text_fault_or_zone}, Joining.{answered_join, answers_all}}
-use Rattle.zoneq_lib.proofs.{LineLaws.{asks_or_bad, resolved_in_range}, Showing.{resolve_covered, show_covered}}
+use Rattle.zoneq_lib.proofs.CitedWords.{All-head, All-nil, All-tail, Answered, AnswersBefore, AnswersLast, AnswersLine, AnswersLines, AnswersQuery, Asks, At}
+use Rattle.zoneq_lib.proofs.CitedWords.{BeginsAnswers, Data, HasNoNewline, IsKeptFor, IsRuleOrNone, IsSplit, IsValid, List, None, Option, Query, Resolve, Show}
+use Rattle.zoneq_lib.proofs.CitedWords.{Some, Text, Wall, Zone, append-nil, append_assoc, arith, cases_eq, ended_lines, file_rule_fits, inl, inr, length}
+use Rattle.zoneq_lib.proofs.CitedWords.{length-append, posix_zone_valid, refl, subst, sym, text_fault_or_zone, type_decided, wall_decided, ℕ, [], ◌++◌, ◌<◌}
+use Rattle.zoneq_lib.proofs.{CitedWords.{◌∷◌, ◌≢◌}, Joining.{answered_join, answers_all}, LineLaws.{asks_or_bad, resolved_in_range}}
+use Rattle.zoneq_lib.proofs.Showing.{resolve_covered, show_covered}
 use Rattle.tz_base.proofs.Decided.{either}
 use Rattle.tz_info.proofs.PosixLaws.{posix_law}
 use Rattle.tz_base.specs.declared.error.Error.TheVariants as errors
@@ -92,9 +92,9 @@ begins_answers done left output more z rest s =
     let next = lines_covered z (ended_lines cut.0) given in
     let behind_it : Answered z rest left next.0 z cut.1 =
         record { pieces = cut.0; front = cut.1; cut = cut.2; kept = inl refl; lone = cut.2.last; answered = next.1 } in
-    (more ++ (next.0 ++ _), simp append_assoc at (answers_all _ _ _ _ _ (answered_join _ _ _ _ _ _ _ _ _ _ s behind_it) (last_covered z cut.1 given).1))
+    (more ++ (next.0 ++ _), simp append_assoc at (answers_all _ (answered_join s behind_it) (last_covered z cut.1 given).1))
 
 -- answers to the lines before one that could not be answered
-pub answers_before : (done left output : List ℕ) (z : Option Zone) (rest : List ℕ) → 0 < length (rest ++ left) → Answered None [] done output z rest
-    → AnswersBefore (done ++ left) output
-answers_before done left output z rest some s = grind (arith, some_failed rest s.front left s.kept some, append_assoc, append-nil, All-nil)
+pub answers_before : {done output : List ℕ} {z : Option Zone} {rest : List ℕ} (left : List ℕ) → 0 < length (rest ++ left)
+    → Answered None [] done output z rest → AnswersBefore (done ++ left) output
+answers_before left some s = grind (arith, some_failed _ s.front left s.kept some, append_assoc, append-nil, All-nil)

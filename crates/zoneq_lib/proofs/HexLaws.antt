@@ -1,19 +1,20 @@
 -- Which digits spell bytes, and that what the crate `hex` decodes are those bytes.
 use Rattle.hex.proofs.HexLemmas.{decode_of-ok}
-use Rattle.std.specs.Str.Parse.{AllDigits}
-use Rattle.zoneq_lib.proofs.CitedWords.{All-head, All-tail, AllPass, Bool, Decides, List, Ok, arith, bytes_of, decode_of, decode_pairs, digit_value, false}
-use Rattle.zoneq_lib.proofs.CitedWords.{get_or, is_hex_digit, length, nat_tests, pair_value, suc, true, ℕ, ◌%◌, ◌*◌, ◌+◌, ◌<◌, ◌∷◌, ◌≡◌, []}
+use Rattle.std.proofs.lemmas.Str.{IsUtf8-from_is_utf8, is_utf8-from_IsUtf8}
+use Rattle.zoneq_lib.specs.Hex.{are_hex}
+use Rattle.zoneq_lib.proofs.CitedWords.{All-head, All-tail, AllPass, List, Ok, arith, bytes_of, decode_of, decode_pairs, digit_value, false}
+use Rattle.zoneq_lib.proofs.CitedWords.{get_or, is_hex_digit, length, nat_tests, pair_value, refl, suc, true, ℕ, ◌%◌, ◌*◌, ◌+◌, ◌<◌, ◌∷◌, ◌≡◌, ◌≤◌, []}
 
-pub refuted : {P : Type 0} (t : Bool) → Decides t P → (P → ⊥) → t ≡ false
-refuted t d never = grind arith
+-- what the test of UTF-8 says
+pub ruleset utf8_tested = (IsUtf8-from_is_utf8, is_utf8-from_IsUtf8)
 
-pub hex_at : (digits : List ℕ) (i : ℕ) → i < length digits → AllDigits 16 digits → digit_value (get_or digits i 0) < 16
-hex_at (c ∷ digits) (suc i) h all = hex_at digits i (omega (arith, h)) all.1
-hex_at digits i h all = grind arith
+pub not_hex : (digits : List ℕ) (i : ℕ) → i < length digits → 16 ≤ digit_value (get_or digits i 0) → are_hex digits ≡ false
+not_hex (c ∷ digits) (suc i) h other = grind (arith, nat_tests, not_hex digits i (omega (arith, h)) other)
+not_hex digits i h other = grind (arith, nat_tests)
 
-pub all_hex_from : (digits : List ℕ) → ((k : ℕ) → k < length digits → digit_value (get_or digits k 0) < 16) → AllDigits 16 digits
-all_hex_from [] each = tt
-all_hex_from (c ∷ digits) each = grind (arith, each 0, all_hex_from digits (λ k h. each (suc k) (omega (arith, h))))
+pub all_hex : (digits : List ℕ) → ((k : ℕ) → k < length digits → digit_value (get_or digits k 0) < 16) → are_hex digits ≡ true
+all_hex [] each = refl
+all_hex (c ∷ digits) each = grind (arith, nat_tests, each 0, all_hex digits (λ k h. each (suc k) (omega (arith, h))))
 
 -- ---- the crate `hex`
 pair_read : (high low i : ℕ) → is_hex_digit high ≡ true → is_hex_digit low ≡ true → pair_value high low i ≡ Ok (digit_value high * 16 + digit_value low)

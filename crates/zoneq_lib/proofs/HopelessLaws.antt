@@ -1,9 +1,40 @@
 -- Which beginnings of a line let no line ask anything.
-use Rattle.zoneq_lib.specs.{Steps.LineReading.{scan}, declared.bad_line.BadLine.TheVariants.{Hopeless}}
+use Rattle.tz_base.specs.Grammar.{Grammar}
+use Rattle.std.specs.Prelude.{Bool, false, true}
+use Rattle.zoneq_lib.specs.Questions.{Word, at_query, calendar_day, choice, chosen, data_query, fold, gap, integer, local_time, next, resolve_query, show_query}
 use Rattle.zoneq_lib.proofs.CitedWords.{Begins, Err, IsBadLine, IsHopeless, List, Spells, after_byte, ap, append-nil, append_assoc, arith, codes, drop, inl}
 use Rattle.zoneq_lib.proofs.CitedWords.{inr, length, length-append, query_line, question, refl, subst, sym, take, take-append-add, take-append-drop}
-use Rattle.zoneq_lib.proofs.{CitedWords.{without_return, ℕ, ◌++◌, ◌-◌, ◌<◌, ◌∙◌, ◌∷◌, ◌≡◌, ◌⊎◌, []}, PlainLines.{plain_line}, ScanLaws.{never, stops}}
+use Rattle.zoneq_lib.proofs.{CitedWords.{without_return, ℕ, [], ◌++◌, ◌-◌, ◌<◌, ◌∙◌, ◌∷◌, ◌≡◌, ◌⊎◌}, ScanLaws.{IsPlain, never, stops}}
+use Rattle.zoneq_lib.specs.{Questions.{text_query, unix_seconds, wall_query}, Steps.LineReading.{scan}, declared.bad_line.BadLine.TheVariants.{Hopeless}}
 
+-- ---- no part of the grammar of lines sees the bytes that follow it
+word : (letters : List ℕ) → IsPlain (Word letters)
+unfolding Word
+word [] = tt
+word (c ∷ letters) = (tt, λ _. word letters)
+
+begins : (letters : List ℕ) → IsPlain (Begins letters)
+unfolding Begins
+begins [] = tt
+begins (c ∷ letters) = ((word letters, λ _. tt), tt)
+
+one_of : {X : Type 0} (g h : Grammar X) → IsPlain g → IsPlain h → (first : Bool) → IsPlain (chosen g h first)
+one_of g h p q true = p
+one_of g h p q false = q
+
+local : IsPlain local_time
+unfolding calendar_day integer local_time next
+local = search depth 60
+
+policy : IsPlain choice
+unfolding choice fold gap
+policy = search (begins, one_of) depth 60
+
+plain_line : IsPlain query_line
+unfolding at_query data_query integer next query_line question resolve_query show_query text_query unix_seconds wall_query
+plain_line = search (begins, local, one_of, policy) depth 60
+
+-- ---- beginnings
 cut_or_whole : (bytes : List ℕ) → (without_return bytes ≡ take (length bytes - 1) bytes) ⊎ (without_return bytes ≡ bytes)
 cut_or_whole bytes = grind arith
 

@@ -1,6 +1,5 @@
 pub mod CitedWords
 pub mod ScanLaws
-pub mod PlainLines
 pub mod NumberLaws
 pub mod LineLaws
 pub mod HexLaws

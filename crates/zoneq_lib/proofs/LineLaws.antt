@@ -18,22 +18,14 @@ asks_or_bad bytes = decided (scan query_line bytes) refl
     decided (Err fault) e = inr (λ query. not_scanned query_line bytes fault e query [])
 
 -- ---- dates and times
-year_in_range : (bytes rest : List ℕ) (y : ℤ) → Spells (integer 262_143 262_142) bytes y rest → IsYearInRange y
-unfolding integer
-year_in_range bytes rest y h = grind arith
-
-within : (max : ℕ) (bytes rest : List ℕ) (n : ℕ) → Spells (next max) bytes n rest → n ≤ max
-unfolding next
-within max bytes rest n h = grind arith
-
 date_in_range : (bytes rest : List ℕ) (day : ℤ) → Spells calendar_day bytes day rest → IsDayInRange day
-unfolding calendar_day
+unfolding calendar_day integer next
 date_in_range bytes rest day (y, a, year, (m, b, month, (u, c, (first, one, stays), (d, e, number, (exists, value, same))))) =
-    rw value (date_in_years y m d (year_in_range bytes a y year) (first, within 12 a b m month, exists.0, exists.1))
+    rw value (date_in_years y m d (grind arith) (first, grind arith, exists.0, exists.1))
 
 time_in_range : (bytes rest : List ℕ) (l : Reading) → Spells local_time bytes l rest → IsInRange l.s
-unfolding local_time
-time_in_range bytes rest l h = grind (arith, date_in_range, within)
+unfolding local_time next
+time_in_range bytes rest l h = grind (arith, date_in_range)
 
 -- what the calendar says of the numbers
 pub dated : (y : ℤ) (m d : ℕ) (found : NaiveDate) → IsDateOf y m d (Some found) → (nat_le 1 d && nat_le d (days_in_month (is_leap y) m)) ≡ true

@@ -1,9 +1,9 @@
 -- Every instant that is asked for has an answer.
-use Rattle.offset_core.specs.{ResolveNumbers.{resolve_error_number}, declared.local_result.LocalResult.TheVariants.{Single}}
+use Rattle.offset_core.specs.declared.local_result.LocalResult.TheVariants.{Single}
 use Rattle.zoneq_lib.proofs.CitedWords.{All, All-cons, All-head, All-tail, AnswersResolve, AnswersShow, AreOffsetsOf, Choice, IsAtWhere, IsInRange, IsNarrow}
 use Rattle.zoneq_lib.proofs.CitedWords.{IsResolved, IsRuleOrNone, IsStamp, IsTaken, IsValid, IsWide, IsWithinDay, Law, List, LocalResult, LocalType, Meaning}
-use Rattle.zoneq_lib.proofs.CitedWords.{Reading, Some, Zone, Zoned, arith, behind, choice_covered, codes, in_range_or_not, in_seconds, inl, inr, ints, law_by}
-use Rattle.zoneq_lib.proofs.CitedWords.{map_of, of_secs, refl, rule_types, shown_date_time, shown_refusal, zone_has_offsets, ℕ, ℤ, ◌-ℤ◌, ◌∷◌, ◌≡◌, ◌⊎◌, []}
+use Rattle.zoneq_lib.proofs.CitedWords.{Reading, Some, Zone, Zoned, arith, behind, choice_covered, in_range_or_not, in_seconds, inl, inr, ints, law_by, map_of}
+use Rattle.zoneq_lib.proofs.CitedWords.{of_secs, refl, rule_types, shown_date_time, zone_has_offsets, ℕ, ℤ, [], ◌-ℤ◌, ◌∷◌, ◌≡◌, ◌⊎◌}
 
 within_or_not : (k : ℤ) → IsWithinDay k ⊎ (IsWithinDay k → ⊥)
 within_or_not k = grind arith

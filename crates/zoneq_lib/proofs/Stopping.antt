@@ -1,10 +1,11 @@
 -- What has been written when a step of a run goes on or stops, and when the run ends.
 use Rattle.zoneq_lib.proofs.CitedWords.{Answered, Answers, AnswersAtEnd, AnswersIn, AnswersLine, Appends, Bool, Consumes, Err, HasNoNewline, IfErr, IsAtEnd}
-use Rattle.zoneq_lib.proofs.CitedWords.{IsKeptFor, IsSentOf, Keeps, List, MatchResult, None, Ok, OnOk, Option, Result, RunError, StopsAt, StopsAtEnd, StopsIn}
-use Rattle.zoneq_lib.proofs.CitedWords.{StopsWith, WritesUnlessFailed, Zone, append-nil, append_assoc, arith, codes, drop, false, inl, inr, length, length-append}
-use Rattle.zoneq_lib.proofs.CitedWords.{Replies, nil_from_length, refl, sym, take, take-add, take-append-drop, true, without_return, ℕ, ◌++◌, ◌+◌, ◌<◌, ◌==◌, ◌∷◌, ◌≡◌, []}
+use Rattle.zoneq_lib.proofs.CitedWords.{IsKeptFor, IsSentOf, Keeps, List, MatchResult, None, Ok, OnOk, Option, Replies, Result, RunError, StopsAt, StopsAtEnd}
+use Rattle.zoneq_lib.proofs.CitedWords.{StopsIn, StopsWith, WritesUnlessFailed, Zone, append-nil, append_assoc, arith, codes, drop, false, inl, inr, length}
+use Rattle.zoneq_lib.proofs.CitedWords.{length-append, nil_from_length, refl, sym, take, take-add, take-append-drop, true, without_return, ℕ, [], ◌++◌, ◌+◌}
+use Rattle.zoneq_lib.proofs.{CitedWords.{◌<◌, ◌==◌, ◌∷◌, ◌≡◌}, Covering.{answers_before, begins_answers}}
+use Rattle.zoneq_lib.proofs.Joining.{answered_join, answered_line, answered_more, answers_all}
 use Rattle.std.proofs.KnownBytes.{Appends-kept, Appends-trans, Consumes-trans}
-use Rattle.zoneq_lib.proofs.{Covering.{answers_before, begins_answers}, Joining.{answered_join, answered_line, answered_more, answers_all}}
 use Rattle.zoneq_lib.specs.declared.run_error.RunError.TheVariants as errors
 
 -- a write of n more of the bytes
@@ -24,7 +25,7 @@ pub no_items : (b : Bool) (n : ℕ) (xs : List ℕ) → b ≡ (n == 0) → b ≡
 no_items b n xs e h k = grind (arith, nil_from_length)
 
 -- ---- a line of a block, after those that were answered
-module _ (z : Option Zone) (b block done output : List ℕ) (m : Option Zone) (k rest : List ℕ) (e : block ≡ done ++ rest)
+module _ {z : Option Zone} {b block done output : List ℕ} {m : Option Zone} {k : List ℕ} (rest : List ℕ) (e : block ≡ done ++ rest)
     (s : Answered z b done output m k) where
   -- it was answered too
   pub line_taken : (piece more answer : List ℕ) (next : Option Zone) (r : List ℕ) → HasNoNewline piece → rest ≡ piece ++ 10 ∷ more
@@ -44,7 +45,7 @@ module _ (z : Option Zone) (b block done output : List ℕ) (m : Option Zone) (k
   -- what is after the last newline is kept, or counted
   pub rest_kept : (m' : Option Zone) (k' : List ℕ) → HasNoNewline rest → m' ≡ m → IsKeptFor k' (k ++ rest) → HasNoNewline k' → Answered z b block output m' k'
   rest_kept m' k' h same kept lone =
-      rw (e, same) (rw append-nil at (answered_join z b done output m k rest [] m k' s (answered_more m k rest k' s.lone h kept lone)))
+      rw (e, same) (rw append-nil at (answered_join s (answered_more m k rest k' s.lone h kept lone)))
 
 -- what became of the last line's answer
 pub last_is : (r : Result (Unit {0}) RunError) (f : Bool) (a c : Option (List ℕ)) (z : Option Zone) (l : List ℕ) (after : Option Zone) → 0 < length l
@@ -91,18 +92,18 @@ module _ (rf wf : Bool) (n : ℕ) (ra rb rc wa wb wc : Option (List ℕ)) (input
   pub block_stopped : (block : List ℕ) (e : RunError) → Consumes rb rc block → StopsIn wf wb wc z rest block e
       → (x : List ℕ) × (y : List ℕ) × Consumes ra rc x × Appends wa wc y × StopsWith rf wf n e x y
   block_stopped block errors.Write took' stop =
-      let joined = answered_join _ _ _ _ _ _ _ _ _ _ s stop.8 in
+      let joined = answered_join s stop.8 in
       grind (arith, append_assoc, begins_answers (input ++ stop.3) stop.4 (output ++ stop.1) stop.2 stop.5 stop.6)
   block_stopped block errors.Memory took' stop =
       let some : 0 < length (stop.5 ++ stop.3) = simp length-append (omega (arith, stop.7)) in
-      let before = answers_before _ stop.3 _ _ _ some (answered_join _ _ _ _ _ _ _ _ _ _ s stop.8) in
+      let before = answers_before stop.3 some (answered_join s stop.8) in
       let read = Consumes-trans _ _ _ _ _ took took' in let written = Appends-trans _ _ _ _ _ wrote stop.9 in
       grind (arith, append_assoc input stop.2 stop.3)
   block_stopped block e took' stop = absurd stop
 
   -- the last line stopped the run
   last_stopped : (e : RunError) → StopsAtEnd wf wb wc z rest e → (y : List ℕ) × Appends wa wc y × StopsWith rf wf n e input y
-  last_stopped errors.Write (failed, inl part) = grind (arith, append_assoc, answers_all input output z rest (part.0 ++ part.1) s part.2)
+  last_stopped errors.Write (failed, inl part) = grind (arith, append_assoc, answers_all (part.0 ++ part.1) s part.2)
   last_stopped errors.Write (failed, inr none) = grind (arith, append-nil, begins_answers input [] output [] z rest)
   last_stopped e stop = grind (arith, append-nil)
 
@@ -111,5 +112,5 @@ module _ (rf wf : Bool) (n : ℕ) (ra rb rc wa wb wc : Option (List ℕ)) (input
       → IfErr r (StopsAtEnd wf wb wc z rest)
       → (x : List ℕ) × (y : List ℕ) × Consumes ra rc x × Appends wa wc y
       × MatchResult r (λ _. (re ≡ true) × IsAtEnd rc × (rf ≡ false) × (wf ≡ false) × Answers x y) (λ e. StopsWith rf wf n e x y)
-  reader_ended re (Ok u) ended at_end took' ok err = grind (arith, append_assoc, answers_all input output z rest)
+  reader_ended re (Ok u) ended at_end took' ok err = grind (arith, append_assoc, answers_all ok.1.0 s ok.1.1)
   reader_ended re (Err e) ended at_end took' ok err = grind (arith, last_stopped e err)

@@ -1,7 +1,7 @@
 -- The answer to what sets the zone, by what was read.
 use Rattle.tz_info.specs.{FilePieces.{FilePieces, HasPieces}, TzFiles.{IsZoneFault, IsZoneFault.{In_file, No_memory}}}
 use Rattle.zoneq_lib.proofs.CitedWords.{AnswersFile, AnswersText, Err, Error, IfErr, IfOk, IsFileFault, IsOutOfMemory, IsPosixFault, IsPosixZone, IsTzFile}
-use Rattle.zoneq_lib.proofs.CitedWords.{IsValid, List, MatchResult, Ok, Option, Result, Some, TimeZone, Zone, arith, error_number, file_fault_or_zone, inl, inr, refl}
+use Rattle.zoneq_lib.proofs.CitedWords.{IsValid, List, MatchResult, Ok, Option, Result, Some, TimeZone, Zone, arith, error_number, file_fault_or_zone, inl, inr}
 use Rattle.zoneq_lib.proofs.CitedWords.{shown_refusal, shown_zone, text_fault_or_zone, ℕ, ◌≡◌, ◌⊎◌}
 
 -- what is written and kept of what was read

@@ -3,7 +3,7 @@ use Rattle.zoneq_lib.proofs.runs.answer_all.Goals as goal
 
 pub loop-preserved : goal.loop-preserved
 loop-preserved g c =
-    let joined = answered_join _ _ _ _ _ _ _ _ _ _ c.loop.invariant.answered.4 c.in_ok-take_block-in-Ok.ensures.ok.1.1 in grind (arith, append_assoc)
+    let joined = answered_join c.loop.invariant.answered.4 c.in_ok-take_block-in-Ok.ensures.ok.1.1 in grind (arith, append_assoc)
 
 pub returns-in_err-take_block-in-Ok-clause-answers : goal.returns-in_err-take_block-in-Ok-clause-answers
 returns-in_err-take_block-in-Ok-clause-answers g c =

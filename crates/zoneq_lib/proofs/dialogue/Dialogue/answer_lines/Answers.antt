@@ -7,13 +7,13 @@ loop-piece-init g c = grind (arith, answered_none c.args.self.now.zone c.args.se
 pub loop-piece-preserved : goal.loop-piece-preserved
 loop-piece-preserved g c =
     let f = c.loop-piece.invariant.answered in let replied = c.in-Ok.ensures.ok in
-    let taken = line_taken _ _ _ _ _ _ _ _ f.2 f.3 _ _ _ _ _ c.in-Some.ensures.0 c.in-Some.ensures.1 replied.1.1.1 replied.0 in
+    let taken = line_taken _ f.2 f.3 _ _ _ _ _ c.in-Some.ensures.0 c.in-Some.ensures.1 replied.1.1.1 replied.0 in
     grind (arith, append_assoc)
 
 pub returns-in-Err-clause-err : goal.returns-in-Err-clause-err
 returns-in-Err-clause-err g c =
     let f = c.loop-piece.invariant.answered in
-    line_stops _ _ _ _ _ _ _ _ f.2 f.3 _ _ _ _ _ _ c.in-Err.e c.in-Some.ensures.0 c.in-Some.ensures.1 f.4 c.in-Err.ensures.err
+    line_stops _ f.2 f.3 _ _ _ _ _ _ c.in-Err.e c.in-Some.ensures.0 c.in-Some.ensures.1 f.4 c.in-Err.ensures.err
 
 pub returns-in-Ok-begin_line-clause-ok : goal.returns-in-Ok-begin_line-clause-ok
 returns-in-Ok-begin_line-clause-ok g c = grind (arith, rest_kept)
