@@ -1,10 +1,10 @@
 -- Every line has an answer, so that answers to a front of an input can be carried on to its end.
+use Rattle.std.proofs.lemmas.Bool.{cases_eq}
 use Rattle.zoneq_lib.proofs.CitedWords.{All-head, All-nil, All-tail, Answered, AnswersBefore, AnswersLast, AnswersLine, AnswersLines, AnswersQuery, Asks, At}
 use Rattle.zoneq_lib.proofs.CitedWords.{BeginsAnswers, Data, HasNoNewline, IsKeptFor, IsRuleOrNone, IsSplit, IsValid, List, None, Option, Query, Resolve, Show}
-use Rattle.zoneq_lib.proofs.CitedWords.{Some, Text, Wall, Zone, append-nil, append_assoc, arith, cases_eq, ended_lines, file_rule_fits, inl, inr, length}
-use Rattle.zoneq_lib.proofs.CitedWords.{length-append, posix_zone_valid, refl, subst, sym, text_fault_or_zone, type_decided, wall_decided, ℕ, [], ◌++◌, ◌<◌}
-use Rattle.zoneq_lib.proofs.{CitedWords.{◌∷◌, ◌≢◌}, Joining.{answered_join, answers_all}, LineLaws.{asks_or_bad, resolved_in_range}}
-use Rattle.zoneq_lib.proofs.Showing.{resolve_covered, show_covered}
+use Rattle.zoneq_lib.proofs.CitedWords.{Some, Text, Wall, Zone, append-nil, append_assoc, arith, ended_lines, file_rule_fits, inl, inr, length, length-append}
+use Rattle.zoneq_lib.proofs.CitedWords.{posix_zone_valid, refl, subst, sym, text_fault_or_zone, type_decided, wall_decided, ℕ, [], ◌++◌, ◌<◌, ◌∷◌, ◌≢◌}
+use Rattle.zoneq_lib.proofs.{Joining.{answered_join, answers_all}, LineLaws.{asks_or_bad, resolved_in_range}, Showing.{resolve_covered, show_covered}}
 use Rattle.tz_base.proofs.Decided.{either}
 use Rattle.tz_info.proofs.PosixLaws.{posix_law}
 use Rattle.tz_base.specs.declared.error.Error.TheVariants as errors
@@ -53,7 +53,7 @@ query_covered None line (Resolve l choice) given asks = grind arith
 query_covered None line (Show seconds nanos) given asks = grind arith
 
 line_covered : (z : Option Zone) (line : List ℕ) → IsGiven z → (answer : List ℕ) × AnswersLine z line answer z
-line_covered z line given = elim (asks_or_bad line) [
+line_covered z line given = elim (asks_or_bad line _ refl) [
   | inl asked ↦ let told = query_covered z line asked.0 given asked.1 in (told.0, inl (asked.0, asked.1, told.1))
   | inr bad ↦ (_, inr (bad, refl, refl))
 ]

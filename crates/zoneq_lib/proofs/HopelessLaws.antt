@@ -2,10 +2,10 @@
 use Rattle.tz_base.specs.Grammar.{Grammar}
 use Rattle.std.specs.Prelude.{Bool, false, true}
 use Rattle.zoneq_lib.specs.Questions.{Word, at_query, calendar_day, choice, chosen, data_query, fold, gap, integer, local_time, next, resolve_query, show_query}
-use Rattle.zoneq_lib.proofs.CitedWords.{Begins, Err, IsBadLine, IsHopeless, List, Spells, after_byte, ap, append-nil, append_assoc, arith, codes, drop, inl}
-use Rattle.zoneq_lib.proofs.CitedWords.{inr, length, length-append, query_line, question, refl, subst, sym, take, take-append-add, take-append-drop}
-use Rattle.zoneq_lib.proofs.{CitedWords.{without_return, ℕ, [], ◌++◌, ◌-◌, ◌<◌, ◌∙◌, ◌∷◌, ◌≡◌, ◌⊎◌}, ScanLaws.{IsPlain, never, stops}}
-use Rattle.zoneq_lib.specs.{Questions.{text_query, unix_seconds, wall_query}, Steps.LineReading.{scan}, declared.bad_line.BadLine.TheVariants.{Hopeless}}
+use Rattle.zoneq_lib.proofs.CitedWords.{Begins, Err, IsBadLine, IsHopeless, List, after_byte, append-nil, append_assoc, arith, codes, drop, inl, inr, length}
+use Rattle.zoneq_lib.proofs.CitedWords.{length-append, query_line, question, refl, take, take-append-add, take-append-drop, without_return, ℕ, [], ◌++◌, ◌-◌}
+use Rattle.zoneq_lib.{proofs.{CitedWords.{◌<◌, ◌∷◌, ◌≡◌, ◌⊎◌}, ScanLaws.{IsPlain, never, stops}}, specs.Questions.{text_query, unix_seconds, wall_query}}
+use Rattle.zoneq_lib.specs.{Steps.LineReading.{scan}, declared.bad_line.BadLine.TheVariants.{Hopeless}}
 
 -- ---- no part of the grammar of lines sees the bytes that follow it
 word : (letters : List ℕ) → IsPlain (Word letters)
@@ -45,15 +45,15 @@ GoesOn front bytes = (more : List ℕ) × (bytes ≡ front ++ more)
 from_front : (front more : List ℕ) → GoesOn (without_return front) (front ++ more)
 from_front front more = elim (cut_or_whole front) [
   | inl cut ↦ grind (arith, take-append-drop (length front - 1) front, append_assoc (take (length front - 1) front) (drop (length front - 1) front) more)
-  | inr whole ↦ (more, ap (λ w. w ++ more) (sym whole))
+  | inr whole ↦ (more, cc)
 ]
 
 from_front_ended : (front more : List ℕ) → GoesOn (without_return front) (without_return (front ++ more))
-from_front_ended front [] = ([], ap without_return (append-nil front) ∙ sym (append-nil (without_return front)))
+from_front_ended front [] = ([], simp append-nil)
 from_front_ended front (c ∷ more) = elim (cut_or_whole (front ++ (c ∷ more))) [
   | inl cut ↦
       grind (arith, length-append front (c ∷ more), take-append-add front (c ∷ more) (length more), from_front front (take (length more) (c ∷ more)))
-  | inr whole ↦ subst (GoesOn (without_return front)) (sym whole) (from_front front (c ∷ more))
+  | inr whole ↦ rw whole (from_front front (c ∷ more))
 ]
 
 some_bytes : (front : List ℕ) → scan query_line (without_return front) ≡ Err Hopeless → 0 < length front
@@ -61,7 +61,7 @@ some_bytes [] h = absurd (rw h at (stops query_line))
 some_bytes (c ∷ front) h = omega arith
 
 still_bad : (front bytes : List ℕ) → scan query_line front ≡ Err Hopeless → GoesOn front bytes → IsBadLine bytes
-still_bad front bytes h on = λ query asks. never query_line front on.0 plain_line h query [] (subst (λ (l : List ℕ). Spells query_line l query []) on.1 asks)
+still_bad front bytes h on = λ query asks. never query_line front on.0 plain_line h query [] (rw on.1 at asks)
 
 pub hopeless : (front : List ℕ) → scan query_line (without_return front) ≡ Err Hopeless → IsHopeless front
 hopeless front h = grind (arith, some_bytes, still_bad, from_front, from_front_ended)

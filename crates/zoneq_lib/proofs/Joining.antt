@@ -1,12 +1,11 @@
 -- How the answers to the parts of an input make the answers to the whole.
-use Rattle.std.proofs.lemmas.List.{get_or-append-add}
+use Rattle.std.proofs.lemmas.List.{get_or-append-add, Concat.{flat_map-append}}
 use Rattle.zoneq_lib.proofs.CitedWords.{All-append, All-head, All-tail, Answered, Answers, AnswersLast, AnswersLine, AnswersLines, HasNoNewline, IsBadLine}
 use Rattle.zoneq_lib.proofs.CitedWords.{IsHopeless, IsKeptFor, IsSplit, List, None, Option, Zone, append-nil, append_assoc, arith, codes, ended_lines, flat_map}
-use Rattle.zoneq_lib.proofs.CitedWords.{flat_map-append, inl, inr, length-append, map-append, refl, without_return, ℕ, [], ◌++◌, ◌∷◌, ◌≡◌, ◌≢◌}
-use Rattle.zoneq_lib.proofs.HopelessLaws.{more_hopeless}
+use Rattle.zoneq_lib.proofs.{CitedWords.{inl, inr, length-append, map-append, refl, without_return, ℕ, [], ◌++◌, ◌∷◌, ◌≡◌, ◌≢◌}, HopelessLaws.{more_hopeless}}
 
 -- the answers to some lines, and then to more
-pub lines_join : (z : Option Zone) (lines : List (List ℕ)) (o : List ℕ) (m : Option Zone) (more : List (List ℕ)) (p : List ℕ) (a : Option Zone)
+lines_join : (z : Option Zone) (lines : List (List ℕ)) (o : List ℕ) (m : Option Zone) (more : List (List ℕ)) (p : List ℕ) (a : Option Zone)
     → AnswersLines z lines o m → AnswersLines m more p a → AnswersLines z (lines ++ more) (o ++ p) a
 lines_join z [] o m more p a h k = grind arith
 lines_join z (l ∷ lines) o m more p a h k = grind (arith, lines_join h.1 lines h.2 m more p a h.4 k, append_assoc (h.0 ++ codes "\n") h.2 p)

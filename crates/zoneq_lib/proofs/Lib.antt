@@ -1,8 +1,7 @@
 pub mod CitedWords
 pub mod ScanLaws
-pub mod NumberLaws
 pub mod LineLaws
-pub mod HexLaws
+pub mod DigitLaws
 pub mod ZoneAnswers
 pub mod Joining
 pub mod Stopping

@@ -1,21 +1,19 @@
 -- Each line asks something or is bad, and a local time that is asked for is in range.
-use Rattle.zoneq_lib.specs.Steps.LineReading.{scan}
-use Rattle.zoneq_lib.proofs.CitedWords.{Asks, BadLine, Choice, Err, IsBadLine, IsDateOf, IsDayInRange, IsInRange, IsYearInRange, List, NaiveDate, None, Ok}
-use Rattle.zoneq_lib.proofs.CitedWords.{Query, Reading, Resolve, Result, Some, Spells, arith, at_query, calendar_day, data_query, date_in_years, days_in_month}
-use Rattle.zoneq_lib.proofs.CitedWords.{false, inr, integer, is_leap, local_time, nat_le, next, query_line, question, refl, resolve_query, show_query}
-use Rattle.zoneq_lib.proofs.{CitedWords.{text_query, true, wall_query, ℕ, ℤ, ◌&&◌, ◌≡◌, ◌≤◌, ◌⊎◌, []}, ScanLaws.{not_scanned, scanned}}
+use Rattle.naive_base.{proofs.ForCallers.{date_in_years}, specs.declared.date.NaiveDate.{NaiveDate}}
+use Rattle.zoneq_lib.proofs.CitedWords.{Asks, BadLine, Choice, Err, IsBadLine, IsDateOf, IsDayInRange, IsInRange, IsYearInRange, List, None, Ok, Query, Reading}
+use Rattle.zoneq_lib.proofs.CitedWords.{Resolve, Result, Some, Spells, arith, at_query, calendar_day, data_query, days_in_month, false, inr, integer, is_leap}
+use Rattle.zoneq_lib.proofs.CitedWords.{local_time, nat_le, next, query_line, question, resolve_query, show_query, text_query, true, wall_query, ℕ, ℤ, [], ◌&&◌}
+use Rattle.zoneq_lib.{proofs.{CitedWords.{◌≡◌, ◌≤◌, ◌⊎◌}, ScanLaws.{not_scanned, scanned}}, specs.Steps.LineReading.{scan}}
 
 -- ---- each line
 ends : (bytes rest : List ℕ) (query : Query) → Spells query_line bytes query rest → rest ≡ []
 unfolding query_line
 ends bytes rest query h = grind arith
 
-pub asks_or_bad : (bytes : List ℕ) → ((query : Query) × Asks bytes query) ⊎ IsBadLine bytes
-asks_or_bad bytes = decided (scan query_line bytes) refl
-  where
-    decided : (r : Result (Query × List ℕ) BadLine) → scan query_line bytes ≡ r → ((query : Query) × Asks bytes query) ⊎ IsBadLine bytes
-    decided (Ok (query, rest)) e = let asked = scanned query_line bytes query rest e in grind (arith, ends bytes rest query asked)
-    decided (Err fault) e = inr (λ query. not_scanned query_line bytes fault e query [])
+pub asks_or_bad : (bytes : List ℕ) (r : Result (Query × List ℕ) BadLine) → scan query_line bytes ≡ r
+    → ((query : Query) × Asks bytes query) ⊎ IsBadLine bytes
+asks_or_bad bytes (Ok (query, rest)) e = let asked = scanned query_line bytes query rest e in grind (arith, ends bytes rest query asked)
+asks_or_bad bytes (Err fault) e = inr (λ query. not_scanned query_line bytes fault e query [])
 
 -- ---- dates and times
 date_in_range : (bytes rest : List ℕ) (day : ℤ) → Spells calendar_day bytes day rest → IsDayInRange day

@@ -1,11 +1,10 @@
 -- What is read at the front of a line is what it spells, and no line that goes on from a hopeless front spells anything.
-use Rattle.tz_base.proofs.RunLaws.{value_grows}
-use Rattle.tz_base.specs.{declared.error.{Error.TheVariants.{ParseInt}, Expected.TheVariants.{NumberWithinItsLimit}}, Grammar.{At, Here}}
-use Rattle.zoneq_lib.specs.{Steps.LineReading.{scan}, declared.bad_line.BadLine.TheVariants.{Hopeless, Unfinished}}
 use Rattle.zoneq_lib.proofs.CitedWords.{AllOf, BadLine, Bool, Ended, Err, Error, Exact, Grammar, List, Marked, Number, Ok, Result, Run, Spells, Then}
 use Rattle.zoneq_lib.proofs.CitedWords.{after_byte, append-nil, append_assoc, arith, exact_at, exact_cut, int_at, is_digit, lawful, length-append, length-take}
-use Rattle.zoneq_lib.proofs.CitedWords.{number_within, optional_tag_at, read, refl, run_again, run_of, run_splits, tag_at, take, take-append-drop, value_from}
-use Rattle.zoneq_lib.proofs.CitedWords.{ℕ, ◌*◌, ◌++◌, ◌+◌, ◌-◌, ◌>>=◌, ◌∷◌, ◌≡◌, []}
+use Rattle.zoneq_lib.proofs.CitedWords.{number_within, optional_tag_at, read, refl, run_of, tag_at, take, take-append-drop, value_from, ℕ, [], ◌*◌, ◌++◌, ◌+◌}
+use Rattle.zoneq_lib.{proofs.CitedWords.{◌-◌, ◌∷◌, ◌≡◌}, specs.{Steps.LineReading.{scan, ◌>>=◌}, declared.bad_line.BadLine.TheVariants.{Hopeless, Unfinished}}}
+use Rattle.tz_base.{proofs.{ForCallers.{run_again, run_splits}, RunLaws.{value_grows}}, specs.{Grammar.{At, Here}, declared.error.Error.TheVariants.{ParseInt}}}
+use Rattle.tz_base.specs.declared.error.Expected.TheVariants.{NumberWithinItsLimit}
 use Rattle.tz_base.specs.Fronts as fronts
 
 -- ---- the same value as `read` gives, or none
@@ -106,11 +105,12 @@ onward (At place g) (b ∷ bytes) more p = onward g (b ∷ bytes) more p
 onward g (b ∷ bytes) more p = grind (arith, number_onward)
 
 -- ---- what callers use
-pub scanned : {X : Type 0} (g : Grammar X) (bytes : List ℕ) (x : X) (rest : List ℕ) → scan g bytes ≡ Ok (x, rest) → Spells g bytes x rest
-scanned g bytes x rest h = grind (arith, same g bytes, (lawful g bytes).takes (x, rest))
+module _ {X : Type 0} (g : Grammar X) (bytes : List ℕ) where
+  pub scanned : (x : X) (rest : List ℕ) → scan g bytes ≡ Ok (x, rest) → Spells g bytes x rest
+  scanned x rest h = grind (arith, same g bytes, (lawful g bytes).takes (x, rest))
 
-pub not_scanned : {X : Type 0} (g : Grammar X) (bytes : List ℕ) (e : BadLine) → scan g bytes ≡ Err e → (x : X) (rest : List ℕ) → Spells g bytes x rest → ⊥
-not_scanned g bytes e h x rest spelled = grind (arith, same g bytes, (lawful g bytes).again (x, rest) spelled)
+  pub not_scanned : (e : BadLine) → scan g bytes ≡ Err e → (x : X) (rest : List ℕ) → Spells g bytes x rest → ⊥
+  not_scanned e h x rest spelled = grind (arith, same g bytes, (lawful g bytes).again (x, rest) spelled)
 
 pub never : {X : Type 0} (g : Grammar X) (bytes more : List ℕ) → IsPlain g → scan g bytes ≡ Err Hopeless → (x : X) (rest : List ℕ)
     → Spells g (bytes ++ more) x rest → ⊥

@@ -1,9 +1,12 @@
 -- Every instant that is asked for has an answer.
-use Rattle.offset_core.specs.declared.local_result.LocalResult.TheVariants.{Single}
-use Rattle.zoneq_lib.proofs.CitedWords.{All, All-cons, All-head, All-tail, AnswersResolve, AnswersShow, AreOffsetsOf, Choice, IsAtWhere, IsInRange, IsNarrow}
-use Rattle.zoneq_lib.proofs.CitedWords.{IsResolved, IsRuleOrNone, IsStamp, IsTaken, IsValid, IsWide, IsWithinDay, Law, List, LocalResult, LocalType, Meaning}
-use Rattle.zoneq_lib.proofs.CitedWords.{Reading, Some, Zone, Zoned, arith, behind, choice_covered, in_range_or_not, in_seconds, inl, inr, ints, law_by, map_of}
-use Rattle.zoneq_lib.proofs.CitedWords.{of_secs, refl, rule_types, shown_date_time, zone_has_offsets, ℕ, ℤ, [], ◌-ℤ◌, ◌∷◌, ◌≡◌, ◌⊎◌}
+use Rattle.zoned_ref.proofs.ForCallers.{choice_covered, zone_has_offsets}
+use Rattle.zoned_time.specs.Stamps.{IsAtWhere}
+use Rattle.naive_base.specs.Stamp.{IsStamp}
+use Rattle.offset_core.specs.declared.local_result.LocalResult.{LocalResult, TheVariants.{Single}}
+use Rattle.zoneq_lib.proofs.CitedWords.{All, All-cons, All-head, All-tail, AnswersResolve, AnswersShow, AreOffsetsOf, Choice, IsInRange, IsNarrow, IsResolved}
+use Rattle.zoneq_lib.proofs.CitedWords.{IsRuleOrNone, IsTaken, IsValid, IsWide, IsWithinDay, Law, List, LocalType, Meaning, Reading, Some, Zone, Zoned, arith}
+use Rattle.zoneq_lib.proofs.CitedWords.{behind, in_range_or_not, in_seconds, inl, inr, ints, law_by, map_of, of_secs, refl, rule_types, shown_date_time, ℕ, ℤ}
+use Rattle.zoneq_lib.proofs.CitedWords.{[], ◌-ℤ◌, ◌∷◌, ◌≡◌, ◌⊎◌}
 
 within_or_not : (k : ℤ) → IsWithinDay k ⊎ (IsWithinDay k → ⊥)
 within_or_not k = grind arith

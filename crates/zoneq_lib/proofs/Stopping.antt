@@ -1,10 +1,10 @@
 -- What has been written when a step of a run goes on or stops, and when the run ends.
 use Rattle.zoneq_lib.proofs.CitedWords.{Answered, Answers, AnswersAtEnd, AnswersIn, AnswersLine, Appends, Bool, Consumes, Err, HasNoNewline, IfErr, IsAtEnd}
-use Rattle.zoneq_lib.proofs.CitedWords.{IsKeptFor, IsSentOf, Keeps, List, MatchResult, None, Ok, OnOk, Option, Replies, Result, RunError, StopsAt, StopsAtEnd}
-use Rattle.zoneq_lib.proofs.CitedWords.{StopsIn, StopsWith, WritesUnlessFailed, Zone, append-nil, append_assoc, arith, codes, drop, false, inl, inr, length}
-use Rattle.zoneq_lib.proofs.CitedWords.{length-append, nil_from_length, refl, sym, take, take-add, take-append-drop, true, without_return, ℕ, [], ◌++◌, ◌+◌}
-use Rattle.zoneq_lib.proofs.{CitedWords.{◌<◌, ◌==◌, ◌∷◌, ◌≡◌}, Covering.{answers_before, begins_answers}}
-use Rattle.zoneq_lib.proofs.Joining.{answered_join, answered_line, answered_more, answers_all}
+use Rattle.zoneq_lib.proofs.CitedWords.{IsKeptFor, Keeps, List, MatchResult, None, Ok, OnOk, Option, Result, StopsAtEnd, StopsIn, StopsWith, Zone, append-nil}
+use Rattle.zoneq_lib.proofs.CitedWords.{append_assoc, arith, codes, drop, false, inl, inr, length, length-append, nil_from_length, refl, sym, take, take-add}
+use Rattle.zoneq_lib.proofs.CitedWords.{take-append-drop, true, without_return, ℕ, [], ◌++◌, ◌+◌, ◌<◌, ◌==◌, ◌∷◌, ◌≡◌}
+use Rattle.zoneq_lib.proofs.{Covering.{answers_before, begins_answers}, Joining.{answered_join, answered_line, answered_more, answers_all}}
+use Rattle.zoneq_lib.specs.{Endings.{WritesUnlessFailed}, Steps.{Replies.{Replies, StopsAt}, Sending.{IsSentOf}}, declared.run_error.RunError.{RunError}}
 use Rattle.std.proofs.KnownBytes.{Appends-kept, Appends-trans, Consumes-trans}
 use Rattle.zoneq_lib.specs.declared.run_error.RunError.TheVariants as errors
 

@@ -4,7 +4,6 @@ ghost use Rattle.std.specs.Prelude.{◌≡◌};
 ghost use Rattle.zoneq_lib.specs.Hex.{spells_bytes};
 
 /// Returns whether these are hex digits of either case, two for each of some bytes.
-#[tactic(auto, using(crate::proofs::HexLaws::all_hex, crate::proofs::HexLaws::not_hex))]
 pub fn spell_bytes(digits: &[u8]) -> bool
     ensures { result ≡ spells_bytes digits.now }
 {

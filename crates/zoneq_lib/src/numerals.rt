@@ -55,10 +55,10 @@ pub fn next_number(text: &[u8], max: u32) -> Result<(u32, &[u8]), BadLine>
 
 // The number that the longest run of digits spells, up to `max`, and the bytes after it.
 #[tactic(auto, using(
-    crate::proofs::NumberLaws::no_bytes,
-    crate::proofs::NumberLaws::no_number,
-    crate::proofs::NumberLaws::number_ends,
-    crate::proofs::NumberLaws::number_stops,
+    crate::proofs::DigitLaws::no_bytes,
+    crate::proofs::DigitLaws::no_number,
+    crate::proofs::DigitLaws::number_ends,
+    crate::proofs::DigitLaws::number_stops,
     std::proofs::lemmas::List::drop_all
 ))]
 fn number(text: &[u8], max: u64) -> Result<(u64, &[u8]), BadLine>

@@ -95,7 +95,7 @@ impl<'a> Question<'a> {
 }
 
 // The question about a TZ string, which is all that is left.
-#[tactic(auto, using(crate::proofs::HexLaws::utf8_tested), unfolding(crate::specs::Questions::text_query))]
+#[tactic(auto, using(crate::proofs::DigitLaws::utf8_tested), unfolding(crate::specs::Questions::text_query))]
 fn read_text(bytes: &[u8]) -> Result<(Question<'_>, &[u8]), BadLine>
     ensures { ReadsAs (λ p. (query_of p.0, p.1.now)) result (scan text_query bytes.now) }
 {

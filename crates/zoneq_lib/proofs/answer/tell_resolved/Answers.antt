@@ -1,6 +1,6 @@
+use Rattle.zoned_ref.specs.ZoneOffset.{ahead_of}
 use Rattle.offset_core.specs.ResolveNumbers.{resolve_error_number}
-use Rattle.zoneq_lib.proofs.CitedWords.{ahead_of, arith, codes, inr, law_of, on_ok_weaker, refl, shown_date_time, shown_refusal, zoned}
-use Rattle.zoneq_lib.proofs.Showing.{resolved_instant}
+use Rattle.zoneq_lib.proofs.{CitedWords.{arith, codes, inr, law_of, on_ok_weaker, refl, shown_date_time, shown_refusal, zoned}, Showing.{resolved_instant}}
 use Rattle.zoneq_lib.proofs.answer.tell_resolved.Goals as goal
 
 pub returns-in_default : goal.returns-in_default
