@@ -1,7 +1,7 @@
 -- The words that this crate's proofs cite, passed on from std, from the crates below and from specs/.
 pub use Rattle.std.proofs.{Common.{Err, None, Ok, OnOk, Option, Result, Some, codes}, Math.Seq.{take-add, take-append-add}}
 pub use Rattle.std.proofs.lemmas.{List.{drop_all, drop_more, map-append, Elements.{All-cons, All-head, All-nil, All-tail}}, Result.{on_ok_weaker}}
-pub use Rattle.std.specs.{Char.{IsNotAsciiDigit, digit_value}, Io.KnownBytes.{Appends, Consumes, IsAtEnd, Keeps}, List.{AllPass, flat_map}}
+pub use Rattle.std.specs.{Io.KnownBytes.{Appends, Consumes, IsAtEnd, Keeps}, List.{AllPass, flat_map}}
 pub use Rattle.offset_core.specs.declared.choice.Choice.{Choice}
 pub use Rattle.naive_base.proofs.Words.{IsDateOf, IsDayInRange, IsYearInRange, ◌^◌}
 pub use Rattle.tz_base.specs.{Fronts.{AllOf, after_run, is_digit, number_within, run_of, value_from}, Grammar.{Ended, Grammar, Marked, Number, Run, Then}}
@@ -14,8 +14,8 @@ pub use Rattle.zoned_time.proofs.Words.{IsResolved, MatchResult, behind, by_lt_z
 pub use Rattle.zoned_ref.proofs.Words.{All, All-append, AreOffsetsOf, Bool, FitsSigned, IsInRange, IsNarrow, IsRuleOrNone, IsTaken, IsValid, IsWide}
 pub use Rattle.zoned_ref.proofs.Words.{IsWithinDay, IsZoneSecond, Law, List, LocalType, Meaning, Reading, Zone, Zoned, ap, arith, false, get_or, in_seconds}
 pub use Rattle.zoned_ref.proofs.Words.{inl, inr, ints, law_of, length, map_of, of_secs, pos, refl, rule_types, subst, suc, sym, to_z-of_z, true, type_decided}
-pub use Rattle.zoned_ref.proofs.Words.{w32, w64, wall_decided, zero, zoned, ℕ, ℤ, ◌++◌, ◌-ℤ◌, ◌<◌, ◌∙◌, ◌∷◌, ◌≡◌, ◌≢◌, ◌⊎◌, []}
-pub use Rattle.zoneq_lib.specs.Answers.{AnswersFile, AnswersLine, AnswersLines, AnswersQuery, AnswersResolve, AnswersShow, AnswersText, law_by, shown_date_time}
+pub use Rattle.zoned_ref.proofs.Words.{w32, w64, wall_decided, zero, ℕ, ℤ, ◌++◌, ◌-ℤ◌, ◌<◌, ◌∙◌, ◌∷◌, ◌≡◌, ◌≢◌, ◌⊎◌, []}
+pub use Rattle.zoneq_lib.specs.Answers.{AnswersFile, AnswersLine, AnswersLines, AnswersQuery, AnswersResolve, AnswersShow, AnswersText, shown_date_time}
 pub use Rattle.zoneq_lib.specs.{Answers.{shown_refusal, shown_zone}, Lines.{HasNoNewline, IsSplit, ended_lines, without_return}}
 pub use Rattle.zoneq_lib.specs.Questions.{Asks, At, Data, IsBadLine, Query, Resolve, Show, Text, Wall}
 pub use Rattle.zoneq_lib.specs.{Runs.{Answers, AnswersBefore, BeginsAnswers, StopsWith}, Steps.Blocks.{Answered, AnswersIn, StopsIn}}

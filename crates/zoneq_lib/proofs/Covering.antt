@@ -1,8 +1,8 @@
 -- Every line has an answer, so that answers to a front of an input can be carried on to its end.
 use Rattle.std.proofs.lemmas.Bool.{cases_eq}
 use Rattle.zoneq_lib.proofs.CitedWords.{All-head, All-nil, All-tail, Answered, AnswersBefore, AnswersLast, AnswersLine, AnswersLines, AnswersQuery, Asks, At}
-use Rattle.zoneq_lib.proofs.CitedWords.{BeginsAnswers, Data, HasNoNewline, IsKeptFor, IsRuleOrNone, IsSplit, IsValid, List, None, Option, Query, Resolve, Show}
-use Rattle.zoneq_lib.proofs.CitedWords.{Some, Text, Wall, Zone, append-nil, append_assoc, arith, ended_lines, file_rule_fits, inl, inr, length, length-append}
+use Rattle.zoneq_lib.proofs.CitedWords.{BeginsAnswers, Data, HasNoNewline, IsRuleOrNone, IsSplit, IsValid, List, None, Option, Query, Resolve, Show, Some, Text}
+use Rattle.zoneq_lib.proofs.CitedWords.{Wall, Zone, append-nil, append_assoc, arith, ended_lines, file_rule_fits, inl, inr, length, length-append}
 use Rattle.zoneq_lib.proofs.CitedWords.{posix_zone_valid, refl, subst, sym, text_fault_or_zone, type_decided, wall_decided, ℕ, [], ◌++◌, ◌<◌, ◌∷◌, ◌≢◌}
 use Rattle.zoneq_lib.proofs.{Joining.{answered_join, answers_all}, LineLaws.{asks_or_bad, resolved_in_range}, Showing.{resolve_covered, show_covered}}
 use Rattle.tz_base.proofs.Decided.{either}
@@ -10,7 +10,7 @@ use Rattle.tz_info.proofs.PosixLaws.{posix_law}
 use Rattle.tz_base.specs.declared.error.Error.TheVariants as errors
 
 -- the zone, if there is one, is valid, and the numbers of its rule are in their limits
-abbrev pub IsGiven : Option Zone → Type 0
+abbrev IsGiven : Option Zone → Type 0
 IsGiven None = Unit {0}
 IsGiven (Some zone) = IsValid zone × IsRuleOrNone zone.rule
 
@@ -79,10 +79,6 @@ is_cut [] = grind arith
 is_cut (c ∷ bytes) =
     let t = is_cut bytes in elim (cases_eq c 10) [ inl newline ↦ ([] ∷ t.0, t.1, grind arith) | inr other ↦ behind c bytes t.0 t.1 other t.2 ]
 
--- what could not be answered has bytes
-some_failed : (rest front left : List ℕ) → IsKeptFor rest front → 0 < length (rest ++ left) → 0 < length (front ++ left)
-some_failed rest front left h some = grind (arith, length-append)
-
 -- answers to a front of the input, of which a part is written, go on to answers to all of it
 pub begins_answers : (done left output more : List ℕ) (z : Option Zone) (rest : List ℕ) → Answered None [] done (output ++ more) z rest
     → BeginsAnswers (done ++ left) output
@@ -90,11 +86,11 @@ begins_answers done left output more z rest s =
     let given = lines_give _ _ _ z tt s.answered in
     let cut = is_cut (rest ++ left) in
     let next = lines_covered z (ended_lines cut.0) given in
-    let behind_it : Answered z rest left next.0 z cut.1 =
+    let after : Answered z rest left next.0 z cut.1 =
         record { pieces = cut.0; front = cut.1; cut = cut.2; kept = inl refl; lone = cut.2.last; answered = next.1 } in
-    (more ++ (next.0 ++ _), simp append_assoc at (answers_all _ (answered_join s behind_it) (last_covered z cut.1 given).1))
+    (more ++ (next.0 ++ _), simp append_assoc at (answers_all _ (answered_join s after) (last_covered z cut.1 given).1))
 
 -- answers to the lines before one that could not be answered
-pub answers_before : {done output : List ℕ} {z : Option Zone} {rest : List ℕ} (left : List ℕ) → 0 < length (rest ++ left)
-    → Answered None [] done output z rest → AnswersBefore (done ++ left) output
-answers_before left some s = grind (arith, some_failed _ s.front left s.kept some, append_assoc, append-nil, All-nil)
+pub answers_before : {done output : List ℕ} {z : Option Zone} {rest : List ℕ} (left : List ℕ) → 0 < length left → Answered None [] done output z rest
+    → AnswersBefore (done ++ left) output
+answers_before left some s = grind (arith, length-append s.front left, append_assoc, append-nil, All-nil)

@@ -90,7 +90,7 @@ unfolding exact_at
 exact_onward count bytes more =
     grind (arith, length-append, take-append-drop count bytes, append_assoc, exact_cut count (bytes ++ more) (take count bytes), length-take)
 
-pub onward : {X : Type 0} (g : Grammar X) (bytes more : List ℕ) → IsPlain g → Onward more (scan g bytes) (scan g (bytes ++ more))
+onward : {X : Type 0} (g : Grammar X) (bytes more : List ℕ) → IsPlain g → Onward more (scan g bytes) (scan g (bytes ++ more))
 unfolding after_byte
 onward g [] more p = grind (arith, stops g)
 onward (Then g f) (b ∷ bytes) more p =

@@ -4,9 +4,9 @@ use Rattle.zoned_time.specs.Stamps.{IsAtWhere}
 use Rattle.naive_base.specs.Stamp.{IsStamp}
 use Rattle.offset_core.specs.declared.local_result.LocalResult.{LocalResult, TheVariants.{Single}}
 use Rattle.zoneq_lib.proofs.CitedWords.{All, All-cons, All-head, All-tail, AnswersResolve, AnswersShow, AreOffsetsOf, Choice, IsInRange, IsNarrow, IsResolved}
-use Rattle.zoneq_lib.proofs.CitedWords.{IsRuleOrNone, IsTaken, IsValid, IsWide, IsWithinDay, Law, List, LocalType, Meaning, Reading, Some, Zone, Zoned, arith}
-use Rattle.zoneq_lib.proofs.CitedWords.{behind, in_range_or_not, in_seconds, inl, inr, ints, law_by, map_of, of_secs, refl, rule_types, shown_date_time, ℕ, ℤ}
-use Rattle.zoneq_lib.proofs.CitedWords.{[], ◌-ℤ◌, ◌∷◌, ◌≡◌, ◌⊎◌}
+use Rattle.zoneq_lib.proofs.CitedWords.{IsRuleOrNone, IsValid, IsWide, IsWithinDay, Law, List, LocalType, Meaning, Reading, Some, Zone, Zoned, arith, behind}
+use Rattle.zoneq_lib.proofs.CitedWords.{in_range_or_not, in_seconds, inl, inr, ints, map_of, of_secs, refl, rule_types, shown_date_time, ℕ, ℤ, [], ◌-ℤ◌, ◌∷◌}
+use Rattle.zoneq_lib.proofs.CitedWords.{◌≡◌, ◌⊎◌}
 
 within_or_not : (k : ℤ) → IsWithinDay k ⊎ (IsWithinDay k → ⊥)
 within_or_not k = grind arith
@@ -23,7 +23,7 @@ all_or_not (t ∷ types) =
       | inr not ↦ inr (λ h. not (All-head within t types h))
     ]
 
-pub narrow_or_not : (z : Zone) → IsNarrow z ⊎ (IsNarrow z → ⊥)
+narrow_or_not : (z : Zone) → IsNarrow z ⊎ (IsNarrow z → ⊥)
 narrow_or_not z = grind (arith, all_or_not z.types, all_or_not (rule_types z.rule))
 
 stamp_or_not : (r : Reading) → IsStamp r ⊎ (IsStamp r → ⊥)
@@ -33,9 +33,7 @@ pub show_covered : (z : Zone) (seconds : ℤ) (nanos : ℕ) → IsValid z → Is
 show_covered z seconds nanos valid rule = elim (narrow_or_not z) [
   | inl narrow ↦ elim (stamp_or_not (of_secs seconds nanos)) [
     | inl stamp ↦
-        let has = zone_has_offsets z valid rule seconds (grind arith) in
-        let t = has.1.type in
-        (_, inr (inr (narrow, stamp, (_, has.1.in_force, refl))))
+        let has = zone_has_offsets z valid rule seconds (grind arith) in (_, inr (inr (narrow, stamp, (_, has.1.in_force, refl))))
     | inr none ↦ (_, inr (inl (narrow, none, refl)))
   ]
   | inr wide ↦ (_, inl (wide, refl))
@@ -46,11 +44,6 @@ pub no_stamp : {O D : Type 0} {m : Meaning O} (law : Law m) (p : Type 0) (r : Re
     → ((d : D) → given ≡ Single d → ⊥) → IsAtWhere law p r (map_of f given) → p → ⊥
 no_stamp law p r f given other h k = grind arith
 
--- the instant by an offset that is taken
-taken_instant : (off : ℤ → ℤ) (l : Reading) (choice : Choice) (k : ℤ) → IsTaken off l.s choice k → IsInRange (l.s -ℤ k)
-    → (d : Zoned ℤ) × IsResolved (law_by off) l choice d
-taken_instant off l choice k taken inside = (record { utc = behind l k; offset = off (l.s -ℤ k) }, grind arith)
-
 pub resolve_covered : (z : Zone) (l : Reading) (choice : Choice) → IsValid z → IsRuleOrNone z.rule → IsInRange l.s
     → (answer : List ℕ) × AnswersResolve (Some z) l choice answer
 resolve_covered z l choice valid rule inside = elim (narrow_or_not z) [
@@ -59,8 +52,7 @@ resolve_covered z l choice valid rule inside = elim (narrow_or_not z) [
       let has = choice_covered z l.s choice valid rule narrow wide in
       elim has.2 [
         | inl taken ↦
-            let d = taken_instant has.0 l choice taken.0 taken.1 taken.2 in
-            (_, inr (narrow, has.0, has.1, inl (d.0, d.1, refl)))
+            (_, inr (narrow, has.0, has.1, inl (record { utc = behind l taken.0; offset = has.0 (l.s -ℤ taken.0) }, grind arith, refl)))
         | inr refused ↦ (_, inr (narrow, has.0, has.1, inr (refused.0, refused.1, refl)))
       ]
   | inr wide ↦ (_, inl (wide, refl))

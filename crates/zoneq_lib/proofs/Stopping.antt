@@ -13,6 +13,10 @@ pub appends_more : (a b c : Option (List ℕ)) (bytes : List ℕ) (i n : ℕ) �
     → Appends a c (take (i + n) bytes)
 appends_more a b c bytes i n h k = grind (arith, take-add i n bytes, append_assoc)
 
+-- what `is_empty` says of a vector's items
+pub no_items : (b : Bool) (n : ℕ) (xs : List ℕ) → b ≡ (n == 0) → b ≡ true → n ≡ length xs → xs ≡ []
+no_items b n xs e h k = grind (arith, nil_from_length)
+
 -- an answer of which a part was written
 pub reply_stops : (f : Bool) (a c : Option (List ℕ)) (z : Option Zone) (line bytes answer : List ℕ) (after : Option Zone) (r : Result (Unit {0}) RunError)
     → AnswersLine z line answer after → bytes ≡ answer ++ codes "\n"
@@ -20,9 +24,11 @@ pub reply_stops : (f : Bool) (a c : Option (List ℕ)) (z : Option Zone) (line b
 reply_stops f a c z line bytes answer after (Ok u) h k stop = tt
 reply_stops f a c z line bytes answer after (Err e) h k (is, failed, (n, part)) = grind (arith, take-append-drop n bytes)
 
--- what `is_empty` says of a vector's items
-pub no_items : (b : Bool) (n : ℕ) (xs : List ℕ) → b ≡ (n == 0) → b ≡ true → n ≡ length xs → xs ≡ []
-no_items b n xs e h k = grind (arith, nil_from_length)
+-- what became of the last line's answer
+pub last_is : (f : Bool) (a c : Option (List ℕ)) (z : Option Zone) (l : List ℕ) (r : Result (Unit {0}) RunError) (after : Option Zone) → 0 < length l
+    → OnOk r (Replies f a c z l after) → IfErr r (StopsAt f a c z l) → OnOk r (AnswersAtEnd f a c z l) × IfErr r (StopsAtEnd f a c z l)
+last_is f a c z [] r after some ok err = grind arith
+last_is f a c z (x ∷ l) r after some ok err = grind arith
 
 -- ---- a line of a block, after those that were answered
 module _ {z : Option Zone} {b block done output : List ℕ} {m : Option Zone} {k : List ℕ} (rest : List ℕ) (e : block ≡ done ++ rest)
@@ -46,12 +52,6 @@ module _ {z : Option Zone} {b block done output : List ℕ} {m : Option Zone} {k
   pub rest_kept : (m' : Option Zone) (k' : List ℕ) → HasNoNewline rest → m' ≡ m → IsKeptFor k' (k ++ rest) → HasNoNewline k' → Answered z b block output m' k'
   rest_kept m' k' h same kept lone =
       rw (e, same) (rw append-nil at (answered_join s (answered_more m k rest k' s.lone h kept lone)))
-
--- what became of the last line's answer
-pub last_is : (r : Result (Unit {0}) RunError) (f : Bool) (a c : Option (List ℕ)) (z : Option Zone) (l : List ℕ) (after : Option Zone) → 0 < length l
-    → OnOk r (Replies f a c z l after) → IfErr r (StopsAt f a c z l) → OnOk r (AnswersAtEnd f a c z l) × IfErr r (StopsAtEnd f a c z l)
-last_is r f a c z [] after some ok err = grind arith
-last_is r f a c z (x ∷ l) after some ok err = grind arith
 
 -- ---- what was written could not be sent
 module _ (f f' : Bool) (a b c : Option (List ℕ)) (z : Option Zone) where
@@ -83,7 +83,7 @@ module _ (f : Bool) (a b : Option (List ℕ)) (bytes text more : List ℕ) (same
       → IfErr r (λ e. (e ≡ errors.Write) × (f ≡ true) × ((n : ℕ) × Appends b c (take n more))) → WritesUnlessFailed f a c (text ++ more)
   told c (Ok u) h ok stop = rw (← same) (grind (arith, append-nil (bytes ++ more), append_assoc))
   told c (Err e) h ok (is, failed, (n, part)) =
-      rw (← same) (grind (arith, take-append-drop n more, append_assoc bytes (take n more) (drop n more), append_assoc))
+      rw (← same) (grind (arith, take-append-drop n more, append_assoc bytes (take n more), append_assoc))
 
 -- ---- the end of a run, after the input that was answered
 module _ (rf wf : Bool) (n : ℕ) (ra rb rc wa wb wc : Option (List ℕ)) (input output : List ℕ) (z : Option Zone) (rest : List ℕ) (works : rf ≡ false)
@@ -95,8 +95,7 @@ module _ (rf wf : Bool) (n : ℕ) (ra rb rc wa wb wc : Option (List ℕ)) (input
       let joined = answered_join s stop.8 in
       grind (arith, append_assoc, begins_answers (input ++ stop.3) stop.4 (output ++ stop.1) stop.2 stop.5 stop.6)
   block_stopped block errors.Memory took' stop =
-      let some : 0 < length (stop.5 ++ stop.3) = simp length-append (omega (arith, stop.7)) in
-      let before = answers_before stop.3 some (answered_join s stop.8) in
+      let before = answers_before stop.3 stop.7 (answered_join s stop.8) in
       let read = Consumes-trans _ _ _ _ _ took took' in let written = Appends-trans _ _ _ _ _ wrote stop.9 in
       grind (arith, append_assoc input stop.2 stop.3)
   block_stopped block e took' stop = absurd stop

@@ -1,6 +1,4 @@
-use Rattle.zoned_ref.specs.ZoneOffset.{ahead_of}
-use Rattle.offset_core.specs.ResolveNumbers.{resolve_error_number}
-use Rattle.zoneq_lib.proofs.{CitedWords.{arith, codes, inr, law_of, on_ok_weaker, refl, shown_date_time, shown_refusal, zoned}, Showing.{resolved_instant}}
+use Rattle.zoneq_lib.proofs.{CitedWords.{arith, codes, inr, law_of, on_ok_weaker, refl}, Showing.{resolved_instant}}
 use Rattle.zoneq_lib.proofs.answer.tell_resolved.Goals as goal
 
 pub returns-in_default : goal.returns-in_default
@@ -12,18 +10,13 @@ returns-in_default-new c =
 
 pub returns-in-Ok : goal.returns-in-Ok
 returns-in-Ok c =
-    let of_zone = c.in-Some-new.ensures in let d = zoned c.in-Ok.instant in
-    on_ok_weaker c.write_instant.result (λ bytes. (
-      shown_date_time d.utc (ahead_of d.offset),
-      bytes,
-      rw c.in-Some.is (resolved_instant c.in-Some.zone (law_of c.in-Some-new.narrow) _ c.args.choice d (of_zone.some.0 refl) of_zone.offsets c.in-Ok.ensures),
-    )) c.write_instant.ensures
+    let of_zone = c.in-Some-new.ensures in
+    rw c.in-Some.is (on_ok_weaker c.write_instant.result
+    (λ bytes. (_, bytes, resolved_instant c.in-Some.zone (law_of c.in-Some-new.narrow) _ _ _ (of_zone.some.0 refl) of_zone.offsets c.in-Ok.ensures))
+    c.write_instant.ensures)
 
 pub returns-in-Err : goal.returns-in-Err
 returns-in-Err c =
     let of_zone = c.in-Some-new.ensures in
-    rw c.in-Some.is (on_ok_weaker c.writeln-in-Err.result (λ bytes. (
-      shown_refusal (resolve_error_number c.in-Err.refusal),
-      grind arith,
-      inr (of_zone.some.0 refl, _, of_zone.offsets, inr (_, c.in-Err.ensures, refl)),
-    )) c.writeln-in-Err.ensures.bytes)
+    rw c.in-Some.is (on_ok_weaker c.writeln-in-Err.result
+    (λ bytes. (_, grind arith, inr (of_zone.some.0 refl, _, of_zone.offsets, inr (_, c.in-Err.ensures, refl)))) c.writeln-in-Err.ensures.bytes)

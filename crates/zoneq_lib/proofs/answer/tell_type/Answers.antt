@@ -1,4 +1,4 @@
-use Rattle.zoneq_lib.proofs.CitedWords.{arith, inr, on_ok_weaker, refl, shown_refusal, to_z-of_z, type_error_number}
+use Rattle.zoneq_lib.proofs.CitedWords.{arith, inr, on_ok_weaker, refl, to_z-of_z, type_error_number}
 use Rattle.zoneq_lib.proofs.answer.tell_type.Goals as goal
 
 pub returns-in_default : goal.returns-in_default
@@ -8,4 +8,4 @@ pub returns-in-Err : goal.returns-in-Err
 returns-in-Err c =
     let fits = c.ranges.seconds in let refused = simp to_z-of_z at c.in-Err.ensures in
     let two = type_error_number c.in-Some.zone c.args.seconds refused.0 in
-    on_ok_weaker c.writeln-in-Err.result (λ bytes. (shown_refusal 2, grind arith, rw c.in-Some.is (inr (refused.0, refl)))) c.writeln-in-Err.ensures.bytes
+    rw c.in-Some.is (on_ok_weaker c.writeln-in-Err.result (λ bytes. (_, grind arith, inr (refused.0, refl))) c.writeln-in-Err.ensures.bytes)

@@ -5,8 +5,7 @@ pub returns-in-Some : goal.returns-in-Some
 unfolding calendar_day
 returns-in-Some c =
     let fits : FitsSigned w32 c.in_ok-year.year = omega (arith, ints, c.in_ok-year.ensures.least, c.in_ok-year.ensures.most) in
-    let wide : FitsSigned w64 c.in_ok-year.year = omega (arith, ints, c.in_ok-year.ensures.least, c.in_ok-year.ensures.most) in
-    let is = simp to_z-of_z at c.in-Some.ensures.value in
+    let wide : FitsSigned w64 c.in_ok-year.year = omega (arith, ints) in let is = simp to_z-of_z at c.in-Some.ensures.value in
     grind (arith, dated c.in_ok-year.year c.in_ok-month.month c.in_ok-day.day c.in-Some.date is)
 
 pub returns-in-None : goal.returns-in-None

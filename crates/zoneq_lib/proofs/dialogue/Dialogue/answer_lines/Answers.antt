@@ -1,4 +1,4 @@
-use Rattle.zoneq_lib.proofs.{CitedWords.{append-nil, append_assoc, arith}, Joining.{answered_none}, Stopping.{line_stops, line_taken, rest_kept}}
+use Rattle.zoneq_lib.proofs.{CitedWords.{append-nil, append_assoc, arith}, Joining.{answered_none}, Stopping.{line_stops, line_taken}}
 use Rattle.zoneq_lib.proofs.dialogue.Dialogue.answer_lines.Goals as goal
 
 pub loop-piece-init : goal.loop-piece-init
@@ -14,6 +14,3 @@ pub returns-in-Err-clause-err : goal.returns-in-Err-clause-err
 returns-in-Err-clause-err g c =
     let f = c.loop-piece.invariant.answered in
     line_stops _ f.2 f.3 _ _ _ _ _ _ c.in-Err.e c.in-Some.ensures.0 c.in-Some.ensures.1 f.4 c.in-Err.ensures.err
-
-pub returns-in-Ok-begin_line-clause-ok : goal.returns-in-Ok-begin_line-clause-ok
-returns-in-Ok-begin_line-clause-ok g c = grind (arith, rest_kept)
