@@ -1,10 +1,11 @@
 -- Every line has an answer, so that answers to a front of an input can be carried on to its end.
+use Rattle.zoneq_lib.proofs.CitedWords.{All-head, All-nil, All-tail, Answered, AnswersLast, AnswersLine, AnswersLines, AnswersQuery, Asks, HasNoNewline}
+use Rattle.zoneq_lib.proofs.CitedWords.{IsRuleOrNone, IsSplit, IsValid, List, None, Option, Query, Resolve, Some, Zone, append-nil, append_assoc, arith}
+use Rattle.zoneq_lib.proofs.CitedWords.{ended_lines, file_rule_fits, inl, inr, length, length-append, posix_zone_valid, refl, subst, sym, text_fault_or_zone}
+use Rattle.zoneq_lib.proofs.{CitedWords.{type_decided, wall_decided, ℕ, [], ◌++◌, ◌<◌, ◌∷◌, ◌≢◌}, Joining.{answered_join, answers_all}}
+use Rattle.zoneq_lib.{proofs.{LineLaws.{asks_or_bad, resolved_in_range}, Showing.{resolve_covered, show_covered}}, specs.Questions.{At, Data, Show, Text, Wall}}
+use Rattle.zoneq_lib.specs.Runs.{AnswersBefore, BeginsAnswers}
 use Rattle.std.proofs.lemmas.Bool.{cases_eq}
-use Rattle.zoneq_lib.proofs.CitedWords.{All-head, All-nil, All-tail, Answered, AnswersBefore, AnswersLast, AnswersLine, AnswersLines, AnswersQuery, Asks, At}
-use Rattle.zoneq_lib.proofs.CitedWords.{BeginsAnswers, Data, HasNoNewline, IsRuleOrNone, IsSplit, IsValid, List, None, Option, Query, Resolve, Show, Some, Text}
-use Rattle.zoneq_lib.proofs.CitedWords.{Wall, Zone, append-nil, append_assoc, arith, ended_lines, file_rule_fits, inl, inr, length, length-append}
-use Rattle.zoneq_lib.proofs.CitedWords.{posix_zone_valid, refl, subst, sym, text_fault_or_zone, type_decided, wall_decided, ℕ, [], ◌++◌, ◌<◌, ◌∷◌, ◌≢◌}
-use Rattle.zoneq_lib.proofs.{Joining.{answered_join, answers_all}, LineLaws.{asks_or_bad, resolved_in_range}, Showing.{resolve_covered, show_covered}}
 use Rattle.tz_base.proofs.Decided.{either}
 use Rattle.tz_info.proofs.PosixLaws.{posix_law}
 use Rattle.tz_base.specs.declared.error.Error.TheVariants as errors
@@ -19,10 +20,7 @@ query_gives z (Text text) answer after given told = grind (arith, posix_zone_val
 query_gives z (Data bytes) answer after given (inl (inl found)) = subst IsGiven (sym found.3) (found.1.1, file_rule_fits bytes found.0 found.1.0)
 query_gives z (Data bytes) answer after given (inl (inr refused)) = grind arith
 query_gives z (Data bytes) answer after given (inr without) = grind arith
-query_gives z (At seconds) answer after given told = grind arith
-query_gives z (Wall local) answer after given told = grind arith
-query_gives z (Resolve l choice) answer after given told = grind arith
-query_gives z (Show seconds nanos) answer after given told = grind arith
+query_gives z query answer after given told = grind arith
 
 lines_give : (z : Option Zone) (lines : List (List ℕ)) (output : List ℕ) (after : Option Zone) → IsGiven z → AnswersLines z lines output after → IsGiven after
 lines_give z [] output after given h = grind arith
@@ -47,10 +45,7 @@ query_covered (Some zone) line (Resolve l choice) given asks =
     let told = resolve_covered zone l choice given.0 given.1 (resolved_in_range line l choice asks) in (told.0, (told.1, refl))
 query_covered (Some zone) line (Show seconds nanos) given asks =
     let told = show_covered zone seconds nanos given.0 given.1 in (told.0, (told.1, refl))
-query_covered None line (At seconds) given asks = grind arith
-query_covered None line (Wall local) given asks = grind arith
-query_covered None line (Resolve l choice) given asks = grind arith
-query_covered None line (Show seconds nanos) given asks = grind arith
+query_covered None line query given asks = grind arith
 
 line_covered : (z : Option Zone) (line : List ℕ) → IsGiven z → (answer : List ℕ) × AnswersLine z line answer z
 line_covered z line given = elim (asks_or_bad line _ refl) [

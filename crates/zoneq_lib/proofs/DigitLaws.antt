@@ -1,9 +1,9 @@
 -- The number that digits spell, and the bytes that hex digits do.
+use Rattle.hex.{proofs.HexLemmas.{decode_of-ok}, specs.Hex.{decode_of, decode_pairs, is_hex_digit, pair_value}}
 use Rattle.std.{proofs.lemmas.Str.{IsUtf8-from_is_utf8, is_utf8-from_IsUtf8}, specs.Char.{IsNotAsciiDigit, digit_value}}
-use Rattle.zoneq_lib.proofs.CitedWords.{All-head, All-tail, AllPass, Err, List, Number, Ok, after_run, arith, decode_pairs, drop, drop_all, drop_more, false}
-use Rattle.zoneq_lib.proofs.CitedWords.{get_or, int_at, is_digit, length, nat_tests, run_of, true, value_from, ℕ, [], ◌%◌, ◌*◌, ◌+◌, ◌-◌, ◌<◌, ◌∷◌, ◌≡◌, ◌≤◌}
+use Rattle.zoneq_lib.proofs.CitedWords.{All-head, All-tail, AllPass, Err, List, Number, Ok, after_run, arith, drop, drop_all, drop_more, false, get_or, int_at}
+use Rattle.zoneq_lib.proofs.CitedWords.{is_digit, length, nat_tests, run_of, true, value_from, ℕ, [], ◌%◌, ◌*◌, ◌+◌, ◌-◌, ◌<◌, ◌∷◌, ◌≡◌, ◌≤◌}
 use Rattle.zoneq_lib.specs.{Hex.{bytes_of}, Steps.LineReading.{scan}, declared.bad_line.BadLine.TheVariants.{Hopeless, Unfinished}}
-use Rattle.hex.{proofs.HexLemmas.{decode_of-ok}, specs.Hex.{decode_of, is_hex_digit, pair_value}}
 use Rattle.tz_base.proofs.RunLaws.{value_grows}
 
 -- the first i bytes are digits, and spell n

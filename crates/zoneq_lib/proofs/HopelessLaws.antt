@@ -26,13 +26,9 @@ local : IsPlain local_time
 unfolding calendar_day integer local_time next
 local = search depth 60
 
-policy : IsPlain choice
-unfolding choice fold gap
-policy = search (begins, one_of) depth 60
-
 plain_line : IsPlain query_line
-unfolding at_query data_query integer next query_line question resolve_query show_query text_query unix_seconds wall_query
-plain_line = search (begins, local, one_of, policy) depth 60
+unfolding at_query choice data_query fold gap integer next query_line question resolve_query show_query text_query unix_seconds wall_query
+plain_line = search (begins, local, one_of) depth 60
 
 -- ---- beginnings
 cut_or_whole : (bytes : List ℕ) → (without_return bytes ≡ take (length bytes - 1) bytes) ⊎ (without_return bytes ≡ bytes)

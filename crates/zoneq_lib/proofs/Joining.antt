@@ -1,8 +1,8 @@
 -- How the answers to the parts of an input make the answers to the whole.
-use Rattle.std.proofs.lemmas.List.{get_or-append-add, Concat.{flat_map-append}}
+use Rattle.std.proofs.lemmas.List.{get_or-append-add, map-append, Concat.{flat_map-append}}
 use Rattle.zoneq_lib.proofs.CitedWords.{All-append, All-head, All-tail, Answered, Answers, AnswersLast, AnswersLine, AnswersLines, HasNoNewline, IsBadLine}
 use Rattle.zoneq_lib.proofs.CitedWords.{IsHopeless, IsKeptFor, IsSplit, List, None, Option, Zone, append-nil, append_assoc, arith, codes, ended_lines, flat_map}
-use Rattle.zoneq_lib.proofs.{CitedWords.{inl, inr, length-append, map-append, refl, without_return, ℕ, [], ◌++◌, ◌∷◌, ◌≡◌, ◌≢◌}, HopelessLaws.{more_hopeless}}
+use Rattle.zoneq_lib.proofs.{CitedWords.{inl, inr, length-append, refl, without_return, ℕ, [], ◌++◌, ◌∷◌, ◌≡◌, ◌≢◌}, HopelessLaws.{more_hopeless}}
 
 -- the answers to some lines, and then to more
 lines_join : (z : Option Zone) (lines : List (List ℕ)) (o : List ℕ) (m : Option Zone) (more : List (List ℕ)) (p : List ℕ) (a : Option Zone)

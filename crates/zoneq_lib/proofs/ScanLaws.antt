@@ -1,10 +1,10 @@
 -- What is read at the front of a line is what it spells, and no line that goes on from a hopeless front spells anything.
-use Rattle.zoneq_lib.proofs.CitedWords.{AllOf, BadLine, Bool, Ended, Err, Error, Exact, Grammar, List, Marked, Number, Ok, Result, Run, Spells, Then}
-use Rattle.zoneq_lib.proofs.CitedWords.{after_byte, append-nil, append_assoc, arith, exact_at, exact_cut, int_at, is_digit, lawful, length-append, length-take}
-use Rattle.zoneq_lib.proofs.CitedWords.{number_within, optional_tag_at, read, refl, run_of, tag_at, take, take-append-drop, value_from, ℕ, [], ◌*◌, ◌++◌, ◌+◌}
-use Rattle.zoneq_lib.{proofs.CitedWords.{◌-◌, ◌∷◌, ◌≡◌}, specs.{Steps.LineReading.{scan, ◌>>=◌}, declared.bad_line.BadLine.TheVariants.{Hopeless, Unfinished}}}
-use Rattle.tz_base.{proofs.{ForCallers.{run_again, run_splits}, RunLaws.{value_grows}}, specs.{Grammar.{At, Here}, declared.error.Error.TheVariants.{ParseInt}}}
-use Rattle.tz_base.specs.declared.error.Expected.TheVariants.{NumberWithinItsLimit}
+use Rattle.tz_base.{proofs.{ForCallers.{run_again, run_splits}, RunLaws.{value_grows}}, specs.Grammar.{At, Ended, Grammar, Here, Marked, Run, Then}}
+use Rattle.tz_base.specs.declared.error.{Error.TheVariants.{ParseInt}, Expected.TheVariants.{NumberWithinItsLimit}}
+use Rattle.zoneq_lib.proofs.CitedWords.{AllOf, BadLine, Bool, Err, Error, Exact, List, Number, Ok, Result, Spells, after_byte, append-nil, append_assoc, arith}
+use Rattle.zoneq_lib.proofs.CitedWords.{exact_at, exact_cut, int_at, is_digit, lawful, length-append, length-take, number_within, optional_tag_at, read, refl}
+use Rattle.zoneq_lib.proofs.CitedWords.{run_of, tag_at, take, take-append-drop, value_from, ℕ, [], ◌*◌, ◌++◌, ◌+◌, ◌-◌, ◌∷◌, ◌≡◌}
+use Rattle.zoneq_lib.specs.{Steps.LineReading.{scan, ◌>>=◌}, declared.bad_line.BadLine.TheVariants.{Hopeless, Unfinished}}
 use Rattle.tz_base.specs.Fronts as fronts
 
 -- ---- the same value as `read` gives, or none
@@ -100,7 +100,6 @@ onward (Marked tag g h) (b ∷ bytes) more p = grind (arith, onward g bytes more
 onward (Ended g h) (b ∷ bytes) more p = onward h (b ∷ bytes) more p.1
 onward (Run test) (b ∷ bytes) more p = grind (arith, append_assoc, run_again, run_splits test (b ∷ bytes))
 onward (Exact count) (b ∷ bytes) more p = exact_onward count (b ∷ bytes) more
-onward (Here f) (b ∷ bytes) more p = absurd p
 onward (At place g) (b ∷ bytes) more p = onward g (b ∷ bytes) more p
 onward g (b ∷ bytes) more p = grind (arith, number_onward)
 

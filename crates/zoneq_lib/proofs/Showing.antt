@@ -1,12 +1,12 @@
 -- Every instant that is asked for has an answer.
+use Rattle.zoneq_lib.proofs.CitedWords.{All-cons, All-head, All-tail, Choice, IsInRange, IsResolved, IsRuleOrNone, IsValid, List, LocalType, Reading, Some}
+use Rattle.zoneq_lib.proofs.CitedWords.{Zone, Zoned, arith, behind, in_range_or_not, inl, inr, ints, of_secs, refl, ℕ, ℤ, [], ◌-ℤ◌, ◌∷◌, ◌≡◌, ◌⊎◌}
+use Rattle.zoneq_lib.specs.Answers.{AnswersResolve, AnswersShow, shown_date_time}
 use Rattle.zoned_ref.proofs.ForCallers.{choice_covered, zone_has_offsets}
+use Rattle.zoned_ref.proofs.Words.{All, AreOffsetsOf, IsNarrow, IsWide, IsWithinDay, Law, Meaning, in_seconds, map_of, rule_types}
 use Rattle.zoned_time.specs.Stamps.{IsAtWhere}
 use Rattle.naive_base.specs.Stamp.{IsStamp}
 use Rattle.offset_core.specs.declared.local_result.LocalResult.{LocalResult, TheVariants.{Single}}
-use Rattle.zoneq_lib.proofs.CitedWords.{All, All-cons, All-head, All-tail, AnswersResolve, AnswersShow, AreOffsetsOf, Choice, IsInRange, IsNarrow, IsResolved}
-use Rattle.zoneq_lib.proofs.CitedWords.{IsRuleOrNone, IsValid, IsWide, IsWithinDay, Law, List, LocalType, Meaning, Reading, Some, Zone, Zoned, arith, behind}
-use Rattle.zoneq_lib.proofs.CitedWords.{in_range_or_not, in_seconds, inl, inr, ints, map_of, of_secs, refl, rule_types, shown_date_time, ℕ, ℤ, [], ◌-ℤ◌, ◌∷◌}
-use Rattle.zoneq_lib.proofs.CitedWords.{◌≡◌, ◌⊎◌}
 
 within_or_not : (k : ℤ) → IsWithinDay k ⊎ (IsWithinDay k → ⊥)
 within_or_not k = grind arith
