@@ -1,15 +1,51 @@
 -- Every line has an answer, so that answers to a front of an input can be carried on to its end.
-use Rattle.zoneq_lib.proofs.CitedWords.{All-head, All-nil, All-tail, Answered, AnswersLast, AnswersLine, AnswersLines, AnswersQuery, Asks, HasNoNewline}
-use Rattle.zoneq_lib.proofs.CitedWords.{IsRuleOrNone, IsSplit, IsValid, List, None, Option, Query, Resolve, Some, Zone, append-nil, append_assoc, arith}
-use Rattle.zoneq_lib.proofs.CitedWords.{ended_lines, file_rule_fits, inl, inr, length, length-append, posix_zone_valid, refl, subst, sym, text_fault_or_zone}
-use Rattle.zoneq_lib.proofs.{CitedWords.{type_decided, wall_decided, ℕ, [], ◌++◌, ◌<◌, ◌∷◌, ◌≢◌}, Joining.{answered_join, answers_all}}
-use Rattle.zoneq_lib.{proofs.{LineLaws.{asks_or_bad, resolved_in_range}, Showing.{resolve_covered, show_covered}}, specs.Questions.{At, Data, Show, Text, Wall}}
-use Rattle.zoneq_lib.specs.Runs.{AnswersBefore, BeginsAnswers}
+use Rattle.zoneq_lib.proofs.CitedWords.{All-head, All-nil, All-tail, Answered, AnswersLast, AnswersLine, AnswersLines, AnswersQuery, Asks, BadLine, Choice, Err}
+use Rattle.zoneq_lib.proofs.CitedWords.{HasNoNewline, IsBadLine, IsDateOf, IsDayInRange, IsInRange, IsRuleOrNone, IsSplit, IsValid, IsYearInRange, List, None}
+use Rattle.zoneq_lib.proofs.CitedWords.{Ok, Option, Query, Reading, Result, Some, Spells, Zone, append-nil, append_assoc, arith, at_query, calendar_day}
+use Rattle.zoneq_lib.proofs.CitedWords.{data_query, days_in_month, ended_lines, false, file_rule_fits, inl, inr, integer, is_leap, length, length-append}
+use Rattle.zoneq_lib.proofs.CitedWords.{local_time, nat_le, next, posix_zone_valid, query_line, question, refl, resolve_query, show_query, subst, sym}
+use Rattle.zoneq_lib.proofs.CitedWords.{text_fault_or_zone, true, type_decided, wall_decided, wall_query, ℕ, ℤ, [], ◌&&◌, ◌++◌, ◌<◌, ◌∷◌, ◌≡◌, ◌≢◌, ◌≤◌, ◌⊎◌}
+use Rattle.zoneq_lib.proofs.{Joining.{answered_join, answers_all}, ScanLaws.{not_scanned, scanned}, Showing.{resolve_covered, show_covered}}
+use Rattle.zoneq_lib.specs.{Questions.{At, Data, Resolve, Show, Text, Wall, text_query}, Runs.{AnswersBefore, BeginsAnswers}, Steps.LineReading.{scan}}
 use Rattle.std.proofs.lemmas.Bool.{cases_eq}
 use Rattle.tz_base.proofs.Decided.{either}
 use Rattle.tz_info.proofs.PosixLaws.{posix_law}
+use Rattle.naive_base.{proofs.ForCallers.{date_in_years}, specs.declared.date.NaiveDate.{NaiveDate}}
 use Rattle.tz_base.specs.declared.error.Error.TheVariants as errors
 
+-- ---- each line
+ends : (bytes rest : List ℕ) (query : Query) → Spells query_line bytes query rest → rest ≡ []
+unfolding query_line
+ends bytes rest query h = grind arith
+
+pub asks_or_bad : (bytes : List ℕ) (r : Result (Query × List ℕ) BadLine) → scan query_line bytes ≡ r
+    → ((query : Query) × Asks bytes query) ⊎ IsBadLine bytes
+asks_or_bad bytes (Ok (query, rest)) e = let asked = scanned query_line bytes query rest e in grind (arith, ends bytes rest query asked)
+asks_or_bad bytes (Err fault) e = inr (λ query. not_scanned query_line bytes fault e query [])
+
+-- ---- dates and times
+date_in_range : (bytes rest : List ℕ) (day : ℤ) → Spells calendar_day bytes day rest → IsDayInRange day
+unfolding calendar_day integer next
+date_in_range bytes rest day (y, a, year, (m, b, month, (u, c, (first, one, stays), (d, e, number, (exists, value, same))))) =
+    rw value (date_in_years y m d (grind arith) (first, grind arith, exists.0, exists.1))
+
+time_in_range : (bytes rest : List ℕ) (l : Reading) → Spells local_time bytes l rest → IsInRange l.s
+unfolding local_time next
+time_in_range bytes rest l h = grind (arith, date_in_range)
+
+-- what the calendar says of the numbers
+pub dated : (y : ℤ) (m d : ℕ) (found : NaiveDate) → IsDateOf y m d (Some found) → (nat_le 1 d && nat_le d (days_in_month (is_leap y) m)) ≡ true
+dated y m d found h = grind arith
+
+pub undated : (y : ℤ) (m d : ℕ) → IsYearInRange y → 1 ≤ m → m ≤ 12 → IsDateOf y m d None → (nat_le 1 d && nat_le d (days_in_month (is_leap y) m)) ≡ false
+undated y m d year first last none = grind arith
+
+-- only `wall` asks for an instant, and of a local time that it read
+pub resolved_in_range : (bytes : List ℕ) (l : Reading) (choice : Choice) → Asks bytes (Resolve l choice) → IsInRange l.s
+unfolding query_line question text_query data_query at_query wall_query resolve_query show_query
+resolved_in_range bytes l choice h = grind (arith, time_in_range)
+
+-- ---- answers
 -- the zone, if there is one, is valid, and the numbers of its rule are in their limits
 abbrev IsGiven : Option Zone → Type 0
 IsGiven None = Unit {0}

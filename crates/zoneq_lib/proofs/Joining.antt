@@ -14,17 +14,18 @@ lines_join z (l ∷ lines) o m more p a h k = grind (arith, lines_join h.1 lines
 pub answered_none : (z : Option Zone) (b : List ℕ) → HasNoNewline b → Answered z b [] [] z b
 answered_none z b h = grind (arith, append-nil)
 
--- more of a line that has not ended
-pub answered_more : (z : Option Zone) (b bytes r : List ℕ) → HasNoNewline b → HasNoNewline bytes → IsKeptFor r (b ++ bytes)
-    → HasNoNewline r → Answered z b bytes [] z r
-answered_more z b bytes r h k kept lone = grind (arith, All-append (λ c. c ≢ 10) b bytes h k)
+module _ (z : Option Zone) (b bytes : List ℕ) (h : HasNoNewline b) (k : HasNoNewline bytes) where
+  -- more of a line that has not ended
+  pub answered_more : (r : List ℕ) → IsKeptFor r (b ++ bytes) → HasNoNewline r → Answered z b bytes [] z r
+  answered_more r kept lone = grind (arith, All-append (λ c. c ≢ 10) b bytes h k)
 
--- the end of a line
-pub answered_line : (z : Option Zone) (b piece answer : List ℕ) (next : Option Zone) → HasNoNewline b → HasNoNewline piece
-    → AnswersLine z (without_return (b ++ piece)) answer next → Answered z b (piece ++ codes "\n") (answer ++ codes "\n") next []
-answered_line z b piece answer next h k line =
-    let cut : IsSplit (b ++ (piece ++ codes "\n")) ((b ++ piece) ∷ []) [] = grind (arith, append-nil, append_assoc, All-append (λ c. c ≢ 10) b piece h k) in
-    grind (arith, append-nil)
+  -- the end of a line
+  pub answered_line : (answer : List ℕ) (next : Option Zone) → AnswersLine z (without_return (b ++ bytes)) answer next
+      → Answered z b (bytes ++ codes "\n") (answer ++ codes "\n") next []
+  answered_line answer next line =
+      let cut : IsSplit (b ++ (bytes ++ codes "\n")) ((b ++ bytes) ∷ []) [] =
+          grind (arith, append-nil, append_assoc, All-append (λ c. c ≢ 10) b bytes h k) in
+      grind (arith, append-nil)
 
 -- ---- what is kept for the beginning of a line
 -- a bad line is answered as each other

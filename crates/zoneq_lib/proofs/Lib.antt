@@ -1,6 +1,5 @@
 pub mod CitedWords
 pub mod ScanLaws
-pub mod LineLaws
 pub mod DigitLaws
 pub mod ZoneAnswers
 pub mod Joining

@@ -26,14 +26,18 @@ same (Here f) bytes = same (f bytes) bytes
 same (At place g) bytes = same g bytes
 same g bytes = grind arith
 
+-- what a scan returns
+abbrev Scanned : Type 0 → Type 0
+Scanned A = Result (A × List ℕ) BadLine
+
 -- ---- at the end of the bytes nothing is hopeless, and nothing is left
-abbrev Stops : {A : Type 0} → Result (A × List ℕ) BadLine → Type 0
+abbrev Stops : {A : Type 0} → Scanned A → Type 0
 Stops (Ok (x, [])) = Unit {0}
 Stops (Ok (x, b ∷ rest)) = ⊥
 Stops (Err Unfinished) = Unit {0}
 Stops (Err Hopeless) = ⊥
 
-stops_bind : {A B : Type 0} (r : Result (A × List ℕ) BadLine) (f : A × List ℕ → Result (B × List ℕ) BadLine) → Stops r → ((x : A) → Stops (f (x, [])))
+stops_bind : {A B : Type 0} (r : Scanned A) (f : A × List ℕ → Scanned B) → Stops r → ((x : A) → Stops (f (x, [])))
     → Stops (r >>= f)
 stops_bind (Ok (x, [])) f h each = each x
 stops_bind r f h each = grind arith
@@ -57,13 +61,13 @@ IsPlain (Here f) = ⊥
 IsPlain (At place g) = IsPlain g
 IsPlain g = Unit {0}
 
-abbrev Onward : {A : Type 0} → List ℕ → Result (A × List ℕ) BadLine → Result (A × List ℕ) BadLine → Type 0
+abbrev Onward : {A : Type 0} → List ℕ → Scanned A → Scanned A → Type 0
 Onward more (Ok (x, [])) r = Unit {0}
 Onward more (Ok (x, b ∷ rest)) r = r ≡ Ok (x, b ∷ (rest ++ more))
 Onward more (Err Unfinished) r = Unit {0}
 Onward more (Err Hopeless) r = r ≡ Err Hopeless
 
-bind_onward : {A B : Type 0} (more : List ℕ) (r s : Result (A × List ℕ) BadLine) (f : A × List ℕ → Result (B × List ℕ) BadLine) → Onward more r s
+bind_onward : {A B : Type 0} (more : List ℕ) (r s : Scanned A) (f : A × List ℕ → Scanned B) → Onward more r s
     → ((x : A) → Stops (f (x, []))) → ((x : A) (rest : List ℕ) → Onward more (f (x, rest)) (f (x, rest ++ more))) → Onward more (r >>= f) (s >>= f)
 bind_onward more (Ok (x, [])) s f h end each = grind arith
 bind_onward more r s f h end each = grind arith

@@ -51,7 +51,7 @@ module _ {z : Option Zone} {b block done output : List ℕ} {m : Option Zone} {k
   -- what is after the last newline is kept, or counted
   pub rest_kept : (m' : Option Zone) (k' : List ℕ) → HasNoNewline rest → m' ≡ m → IsKeptFor k' (k ++ rest) → HasNoNewline k' → Answered z b block output m' k'
   rest_kept m' k' h same kept lone =
-      rw (e, same) (rw append-nil at (answered_join s (answered_more m k rest k' s.lone h kept lone)))
+      rw (e, same) (rw append-nil at (answered_join s (answered_more m k rest s.lone h k' kept lone)))
 
 -- ---- what was written could not be sent
 module _ (f f' : Bool) (a b c : Option (List ℕ)) (z : Option Zone) where

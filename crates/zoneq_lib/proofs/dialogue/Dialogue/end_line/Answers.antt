@@ -1,8 +1,9 @@
-use Rattle.zoneq_lib.proofs.{CitedWords.{arith, ◌++◌, ◌≡◌}, Stopping.{no_items}}
+use Rattle.zoneq_lib.proofs.CitedWords.{arith, nil_from_length, [], ◌++◌, ◌≡◌}
 use Rattle.zoneq_lib.proofs.dialogue.Dialogue.end_line.Goals as goal
 
 pub returns-then-is_empty : goal.returns-then-is_empty
-returns-then-is_empty g c = let none = no_items _ _ _ c.is_empty.ensures c.if-is_empty.true c.args.self.now.begun.ok.0 in grind arith
+returns-then-is_empty g c = 
+    let none : c.args.self.now.begun.items ≡ [] = nil_from_length _ (grind arith) in grind arith
 
 pub returns-in-Err-clause-err : goal.returns-in-Err-clause-err
 returns-in-Err-clause-err g c =
