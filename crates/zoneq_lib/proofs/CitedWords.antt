@@ -7,7 +7,7 @@ pub use Rattle.naive_base.proofs.Words.{IsDateOf, IsDayInRange, IsYearInRange, �
 pub use Rattle.tz_base.specs.{Fronts.{AllOf, after_run, is_digit, number_within, run_of, value_from}, Grammar.{Number}, declared.error.Error.{Error}}
 pub use Rattle.tz_info.proofs.Words.{Exact, IfErr, IsPosixZone, IsTzFile, Spells, append-nil, append_assoc, days_in_month, drop, exact_cut, is_leap, lawful}
 pub use Rattle.tz_info.proofs.Words.{length-append, length-take, nat_le, nat_tests, nil_from_length, read, take, take-append-drop, ◌%◌, ◌&&◌, ◌*◌, ◌+◌, ◌-◌}
-pub use Rattle.tz_info.proofs.{ForCallers.{file_fault_or_zone, file_rule_fits, posix_zone_valid, text_fault_or_zone, type_error_number}, Words.{◌==◌, ◌≤◌}}
+pub use Rattle.tz_info.proofs.{ForCallers.{file_fault_or_zone, file_rule_fits, posix_zone_valid, text_fault_or_zone, type_error_number}, Words.{◌≤◌}}
 pub use Rattle.zoned_time.proofs.Words.{IsResolved, MatchResult, behind, by_lt_z, in_range_or_not, neg_ℤ}
 pub use Rattle.zoned_ref.proofs.Words.{All-append, Bool, FitsSigned, IsInRange, IsRuleOrNone, IsTaken, IsValid, IsZoneSecond, List, LocalType, Reading, Zone}
 pub use Rattle.zoned_ref.proofs.Words.{Zoned, ap, arith, false, get_or, inl, inr, ints, law_of, length, of_secs, pos, refl, subst, suc, sym, to_z-of_z, true}

@@ -2,7 +2,7 @@
 use Rattle.hex.{proofs.HexLemmas.{decode_of-ok}, specs.Hex.{decode_of, decode_pairs, is_hex_digit, pair_value}}
 use Rattle.std.{proofs.lemmas.Str.{IsUtf8-from_is_utf8, is_utf8-from_IsUtf8}, specs.Char.{IsNotAsciiDigit, digit_value}}
 use Rattle.zoneq_lib.proofs.CitedWords.{All-head, All-tail, AllPass, Err, List, Number, Ok, after_run, arith, drop, drop_all, drop_more, false, get_or, int_at}
-use Rattle.zoneq_lib.proofs.CitedWords.{is_digit, length, nat_tests, run_of, true, value_from, ℕ, [], ◌%◌, ◌*◌, ◌+◌, ◌-◌, ◌<◌, ◌∷◌, ◌≡◌, ◌≤◌}
+use Rattle.zoneq_lib.proofs.CitedWords.{is_digit, length, nat_tests, nil_from_length, run_of, true, value_from, ℕ, [], ◌%◌, ◌*◌, ◌+◌, ◌-◌, ◌<◌, ◌∷◌, ◌≡◌, ◌≤◌}
 use Rattle.zoneq_lib.specs.{Hex.{bytes_of}, Steps.LineReading.{scan}, declared.bad_line.BadLine.TheVariants.{Hopeless, Unfinished}}
 use Rattle.tz_base.proofs.RunLaws.{value_grows}
 
@@ -24,8 +24,7 @@ no_number (c ∷ bytes) max i first inside other = grind arith
 
 pub no_bytes : (text : List ℕ) (max : ℕ) → length text ≡ 0 → scan (Number max) text ≡ Err Unfinished
 unfolding int_at
-no_bytes [] max none = grind arith
-no_bytes (c ∷ bytes) max none = grind arith
+no_bytes text max none = grind (arith, nil_from_length text none)
 
 pub number_stops : (text : List ℕ) (max i n : ℕ) → i < length text → is_digit (get_or text i 0) ≡ true → (10 * n + (get_or text i 0 - 48) ≤ max → ⊥)
     → ReadTo text i n → scan (Number max) text ≡ Err Hopeless

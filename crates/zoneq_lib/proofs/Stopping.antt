@@ -1,10 +1,10 @@
 -- What has been written when a step of a run goes on or stops, and when the run ends.
 use Rattle.zoneq_lib.proofs.CitedWords.{Answered, Answers, AnswersAtEnd, AnswersIn, AnswersLine, Appends, Bool, Consumes, Err, HasNoNewline, IfErr, IsAtEnd}
 use Rattle.zoneq_lib.proofs.CitedWords.{IsKeptFor, Keeps, List, MatchResult, None, Ok, OnOk, Option, Result, StopsAtEnd, StopsIn, StopsWith, Zone, append-nil}
-use Rattle.zoneq_lib.proofs.CitedWords.{append_assoc, arith, codes, drop, false, inl, inr, length, length-append, nil_from_length, refl, sym, take, take-add}
-use Rattle.zoneq_lib.proofs.CitedWords.{take-append-drop, true, without_return, ℕ, [], ◌++◌, ◌+◌, ◌<◌, ◌==◌, ◌∷◌, ◌≡◌}
-use Rattle.zoneq_lib.proofs.{Covering.{answers_before, begins_answers}, Joining.{answered_join, answered_line, answered_more, answers_all}}
-use Rattle.zoneq_lib.specs.{Endings.{WritesUnlessFailed}, Steps.{Replies.{Replies, StopsAt}, Sending.{IsSentOf}}, declared.run_error.RunError.{RunError}}
+use Rattle.zoneq_lib.proofs.CitedWords.{append_assoc, arith, codes, drop, false, inl, inr, length, length-append, refl, sym, take, take-add, take-append-drop}
+use Rattle.zoneq_lib.proofs.{CitedWords.{true, without_return, ℕ, [], ◌++◌, ◌+◌, ◌<◌, ◌∷◌, ◌≡◌}, Covering.{answers_before, begins_answers}}
+use Rattle.zoneq_lib.{proofs.Joining.{answered_join, answered_line, answered_more, answers_all}, specs.Endings.{WritesUnlessFailed}}
+use Rattle.zoneq_lib.specs.{Steps.{Replies.{Replies, StopsAt}, Sending.{IsSentOf}}, declared.run_error.RunError.{RunError}}
 use Rattle.std.proofs.KnownBytes.{Appends-kept, Appends-trans, Consumes-trans}
 use Rattle.zoneq_lib.specs.declared.run_error.RunError.TheVariants as errors
 
@@ -12,10 +12,6 @@ use Rattle.zoneq_lib.specs.declared.run_error.RunError.TheVariants as errors
 pub appends_more : (a b c : Option (List ℕ)) (bytes : List ℕ) (i n : ℕ) → Appends a b (take i bytes) → Appends b c (take n (drop i bytes))
     → Appends a c (take (i + n) bytes)
 appends_more a b c bytes i n h k = grind (arith, take-add i n bytes, append_assoc)
-
--- what `is_empty` says of a vector's items
-pub no_items : (b : Bool) (n : ℕ) (xs : List ℕ) → b ≡ (n == 0) → b ≡ true → n ≡ length xs → xs ≡ []
-no_items b n xs e h k = grind (arith, nil_from_length)
 
 -- an answer of which a part was written
 pub reply_stops : (f : Bool) (a c : Option (List ℕ)) (z : Option Zone) (line bytes answer : List ℕ) (after : Option Zone) (r : Result (Unit {0}) RunError)
