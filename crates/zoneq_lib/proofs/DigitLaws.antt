@@ -31,6 +31,9 @@ pub number_stops : (text : List ℕ) (max i n : ℕ) → i < length text → is_
 unfolding int_at
 number_stops text max i n inside digit above r = grind (arith, drop_more, value_grows)
 
+-- what is read where the digits end
+pub ruleset number_read = (no_bytes, no_number, number_ends, number_stops, drop_all)
+
 -- ---- hex digits
 -- what the test of UTF-8 says
 pub ruleset utf8_tested = (IsUtf8-from_is_utf8, is_utf8-from_IsUtf8)

@@ -1,11 +1,10 @@
 -- Which beginnings of a line let no line ask anything.
 use Rattle.tz_base.specs.Grammar.{Grammar}
-use Rattle.std.specs.Prelude.{Bool, false, true}
 use Rattle.zoneq_lib.specs.Questions.{Word, at_query, calendar_day, choice, chosen, data_query, fold, gap, integer, local_time, next, resolve_query, show_query}
-use Rattle.zoneq_lib.proofs.CitedWords.{Begins, Err, IsBadLine, IsHopeless, List, after_byte, append-nil, append_assoc, arith, codes, drop, inl, inr, length}
-use Rattle.zoneq_lib.proofs.CitedWords.{length-append, query_line, question, refl, take, take-append-add, take-append-drop, without_return, ℕ, [], ◌++◌, ◌-◌}
-use Rattle.zoneq_lib.{proofs.{CitedWords.{◌<◌, ◌∷◌, ◌≡◌, ◌⊎◌}, ScanLaws.{IsPlain, never, stops}}, specs.Questions.{text_query, unix_seconds, wall_query}}
-use Rattle.zoneq_lib.specs.{Steps.LineReading.{scan}, declared.bad_line.BadLine.TheVariants.{Hopeless}}
+use Rattle.zoneq_lib.proofs.CitedWords.{Begins, Bool, Err, IsBadLine, IsHopeless, List, after_byte, append-nil, append_assoc, arith, codes, drop, false, inl}
+use Rattle.zoneq_lib.proofs.CitedWords.{inr, length, length-append, query_line, question, refl, take, take-append-add, take-append-drop, true, without_return}
+use Rattle.zoneq_lib.proofs.{CitedWords.{ℕ, [], ◌++◌, ◌-◌, ◌<◌, ◌∷◌, ◌≡◌, ◌⊎◌}, ScanLaws.{IsPlain, never, stops}}
+use Rattle.zoneq_lib.specs.{Questions.{text_query, unix_seconds, wall_query}, Steps.LineReading.{scan}, declared.bad_line.BadLine.TheVariants.{Hopeless}}
 
 -- ---- no part of the grammar of lines sees the bytes that follow it
 word : (letters : List ℕ) → IsPlain (Word letters)
@@ -40,7 +39,7 @@ GoesOn front bytes = (more : List ℕ) × (bytes ≡ front ++ more)
 
 from_front : (front more : List ℕ) → GoesOn (without_return front) (front ++ more)
 from_front front more = elim (cut_or_whole front) [
-  | inl cut ↦ grind (arith, take-append-drop (length front - 1) front, append_assoc (take (length front - 1) front) (drop (length front - 1) front) more)
+  | inl cut ↦ let n = length front - 1 in grind (arith, take-append-drop n front, append_assoc (take n front) (drop n front) more)
   | inr whole ↦ (more, cc)
 ]
 

@@ -16,7 +16,7 @@ same_bind : {A B : Type 0} (a : Result A BadLine) (r : Result A Error) (f : A �
     → ((x : A) → Same (f x) (k x)) → Same (a >>= f) (fronts.◌>>=◌ r k)
 same_bind a r f k h each = grind arith
 
-pub same : {X : Type 0} (g : Grammar X) (bytes : List ℕ) → Same (scan g bytes) (read g bytes)
+same : {X : Type 0} (g : Grammar X) (bytes : List ℕ) → Same (scan g bytes) (read g bytes)
 unfolding after_byte optional_tag_at tag_at
 same (Then g f) bytes = same_bind (scan g bytes) (read g bytes) (λ p. scan (f p.0) p.1) (λ p. read (f p.0) p.1) (same g bytes) (λ p. same (f p.0) p.1)
 same (Marked tag g h) [] = same h []

@@ -2,7 +2,7 @@
 use Rattle.zoneq_lib.proofs.CitedWords.{Err, Error, IfErr, IsPosixZone, IsTzFile, IsValid, List, MatchResult, Ok, Option, Result, Some, Zone, arith}
 use Rattle.zoneq_lib.proofs.CitedWords.{file_fault_or_zone, inl, inr, refl, text_fault_or_zone, ℕ, ◌≡◌, ◌⊎◌}
 use Rattle.zoneq_lib.specs.Answers.{AnswersFile, AnswersText, shown_refusal, shown_zone}
-use Rattle.tz_info.{proofs.Words.{IfOk, IsOutOfMemory, IsPosixFault, error_number}, specs.{TzFiles.{IsZoneFault, IsZoneFault.{In_file, No_memory}}}}
+use Rattle.tz_info.{proofs.Words.{IfOk, IsOutOfMemory, IsPosixFault, error_number}, specs.TzFiles.{IsZoneFault, IsZoneFault.{In_file, No_memory}}}
 use Rattle.tz_info.specs.declared.zone.time_zone.TimeZone.{TimeZone}
 
 -- what is written and kept of what was read
