@@ -49,9 +49,9 @@ module _ {z : Option Zone} {b block done output : List ℕ} {m : Option Zone} {k
   rest_kept m' k' h same kept lone =
       rw (e, same) (rw append-nil at (answered_join s (answered_more m k rest s.lone h k' kept lone)))
 
--- ---- what was written could not be sent
+-- ---- what became of the sending
 module _ (f f' : Bool) (a b c : Option (List ℕ)) (z : Option Zone) where
-  -- nor if a block stopped the run
+  -- a block stopped the run, or the answers to it could not be sent
   pub block_not_sent : (begun block : List ℕ) (after : Option Zone) (rest : List ℕ) (o r : Result (Unit {0}) RunError)
       → IsSentOf f f' o r → Keeps b c → OnOk o (AnswersIn f a b z begun block after rest) → IfErr o (StopsIn f a b z begun block)
       → IfErr r (StopsIn f' a c z begun block)
@@ -62,7 +62,7 @@ module _ (f f' : Bool) (a b c : Option (List ℕ)) (z : Option Zone) where
       rw lost.0 (lost.2, stop.1, [], stop.2, stop.3, stop.4, stop.5, stop.6, rw append-nil stop.8, Appends-kept _ _ _ _ stop.9 keeps)
   block_not_sent begun block after rest (Err e) r (inr lost) keeps ok stop = grind arith
 
-  -- nor if the last line did
+  -- the last line stopped the run, or what was written could not be sent
   pub last_not_sent : (l : List ℕ) (o r : Result (Unit {0}) RunError) → IsSentOf f f' o r → Keeps b c → OnOk o (AnswersAtEnd f a b z l)
       → IfErr o (StopsAtEnd f a b z l) → IfErr r (StopsAtEnd f' a c z l)
   last_not_sent l (Ok u) r sent keeps ok stop = grind (arith, append-nil)
