@@ -1,76 +1,102 @@
 -- Every line has an answer, so that answers to a front of an input can be carried on to its end.
-use Rattle.zoneq_lib.proofs.CitedWords.{All-head, All-nil, All-tail, Answered, AnswersBefore, AnswersLast, AnswersLine, AnswersLines, Asks, At, BeginsAnswers}
-use Rattle.zoneq_lib.proofs.CitedWords.{Data, HasNoNewline, IsKeptFor, IsRuleOrNone, IsSplit, IsValid, List, None, Option, Query, Resolve, Show, Some, Text}
-use Rattle.zoneq_lib.proofs.CitedWords.{Wall, Zone, append-nil, append_assoc, arith, cases_eq, codes, ended_lines, file_rule_fits, inl, inr, length}
-use Rattle.zoneq_lib.proofs.CitedWords.{length-append, posix_zone_valid, refl, shown_refusal, shown_type, shown_wall, subst, sym, type_decided, wall_decided, ℕ}
-use Rattle.zoneq_lib.proofs.{CitedWords.{◌++◌, ◌<◌, ◌∷◌, ◌≢◌, [], error_number, text_fault_or_zone}, Joining.{answered_join, answers_all}}
-use Rattle.zoneq_lib.proofs.{LineLaws.{asks_or_bad, resolved_in_range}, Showing.{resolve_covered, show_covered}}
+use Rattle.zoneq_lib.proofs.CitedWords.{All-head, All-nil, All-tail, Answered, AnswersLast, AnswersLine, AnswersLines, AnswersQuery, Asks, BadLine, Choice, Err}
+use Rattle.zoneq_lib.proofs.CitedWords.{HasNoNewline, IsBadLine, IsDateOf, IsDayInRange, IsInRange, IsRuleOrNone, IsSplit, IsValid, IsYearInRange, List, None}
+use Rattle.zoneq_lib.proofs.CitedWords.{Ok, Option, Query, Reading, Result, Some, Spells, Zone, append-nil, append_assoc, arith, at_query, calendar_day}
+use Rattle.zoneq_lib.proofs.CitedWords.{data_query, days_in_month, ended_lines, false, file_rule_fits, inl, inr, integer, is_leap, length, length-append}
+use Rattle.zoneq_lib.proofs.CitedWords.{local_time, nat_le, next, posix_zone_valid, query_line, question, refl, resolve_query, show_query, subst, sym}
+use Rattle.zoneq_lib.proofs.CitedWords.{text_fault_or_zone, true, type_decided, wall_decided, wall_query, ℕ, ℤ, [], ◌&&◌, ◌++◌, ◌<◌, ◌∷◌, ◌≡◌, ◌≢◌, ◌≤◌, ◌⊎◌}
+use Rattle.zoneq_lib.proofs.{Joining.{answered_join, answers_all}, ScanLaws.{not_scanned, scanned}, Showing.{resolve_covered, show_covered}}
+use Rattle.zoneq_lib.specs.{Questions.{At, Data, Resolve, Show, Text, Wall, text_query}, Runs.{AnswersBefore, BeginsAnswers}, Steps.LineReading.{scan}}
+use Rattle.std.proofs.lemmas.Bool.{cases_eq}
 use Rattle.tz_base.proofs.Decided.{either}
 use Rattle.tz_info.proofs.PosixLaws.{posix_law}
+use Rattle.naive_base.{proofs.ForCallers.{date_in_years}, specs.declared.date.NaiveDate.{NaiveDate}}
 use Rattle.tz_base.specs.declared.error.Error.TheVariants as errors
 
+-- ---- each line
+ends : (bytes rest : List ℕ) (query : Query) → Spells query_line bytes query rest → rest ≡ []
+unfolding query_line
+ends bytes rest query h = grind arith
+
+pub asks_or_bad : (bytes : List ℕ) (r : Result (Query × List ℕ) BadLine) → scan query_line bytes ≡ r
+    → ((query : Query) × Asks bytes query) ⊎ IsBadLine bytes
+asks_or_bad bytes (Ok (query, rest)) e = let asked = scanned query_line bytes query rest e in grind (arith, ends bytes rest query asked)
+asks_or_bad bytes (Err fault) e = inr (λ query. not_scanned query_line bytes fault e query [])
+
+-- ---- dates and times
+date_in_range : (bytes rest : List ℕ) (day : ℤ) → Spells calendar_day bytes day rest → IsDayInRange day
+unfolding calendar_day integer next
+date_in_range bytes rest day (y, a, year, (m, b, month, (u, c, (first, one, stays), (d, e, number, (exists, value, same))))) =
+    rw value (date_in_years y m d (grind arith) (first, grind arith, exists.0, exists.1))
+
+time_in_range : (bytes rest : List ℕ) (l : Reading) → Spells local_time bytes l rest → IsInRange l.s
+unfolding local_time next
+time_in_range bytes rest l h = grind (arith, date_in_range)
+
+-- what the calendar says of the numbers
+pub dated : (y : ℤ) (m d : ℕ) (found : NaiveDate) → IsDateOf y m d (Some found) → (nat_le 1 d && nat_le d (days_in_month (is_leap y) m)) ≡ true
+dated y m d found h = grind arith
+
+pub undated : (y : ℤ) (m d : ℕ) → IsYearInRange y → 1 ≤ m → m ≤ 12 → IsDateOf y m d None → (nat_le 1 d && nat_le d (days_in_month (is_leap y) m)) ≡ false
+undated y m d year first last none = grind arith
+
+-- only `wall` asks for an instant, and of a local time that it read
+pub resolved_in_range : (bytes : List ℕ) (l : Reading) (choice : Choice) → Asks bytes (Resolve l choice) → IsInRange l.s
+unfolding query_line question text_query data_query at_query wall_query resolve_query show_query
+resolved_in_range bytes l choice h = grind (arith, time_in_range)
+
+-- ---- answers
 -- the zone, if there is one, is valid, and the numbers of its rule are in their limits
-abbrev pub IsGiven : Option Zone → Type 0
+abbrev IsGiven : Option Zone → Type 0
 IsGiven None = Unit {0}
 IsGiven (Some zone) = IsValid zone × IsRuleOrNone zone.rule
 
-pub line_gives : (z : Option Zone) (line answer : List ℕ) (after : Option Zone) → IsGiven z → AnswersLine z line answer after → IsGiven after
-line_gives z line answer after given (inl (Text text, asks, inl found)) = subst IsGiven (sym found.3) (posix_zone_valid text found.0 found.1)
-line_gives z line answer after given (inl (Text text, asks, inr refused)) = subst IsGiven (sym refused.3) given
-line_gives z line answer after given (inl (Data bytes, asks, inl (inl found))) = subst IsGiven (sym found.3) (found.1.1, file_rule_fits bytes found.0 found.1.0)
-line_gives z line answer after given (inl (Data bytes, asks, inl (inr refused))) = subst IsGiven (sym refused.3) given
-line_gives z line answer after given (inl (Data bytes, asks, inr without)) = subst IsGiven (sym without.1) given
-line_gives z line answer after given (inl (At seconds, asks, told)) = subst IsGiven (sym told.1) given
-line_gives z line answer after given (inl (Wall local, asks, told)) = subst IsGiven (sym told.1) given
-line_gives z line answer after given (inl (Resolve l choice, asks, told)) = subst IsGiven (sym told.1) given
-line_gives z line answer after given (inl (Show seconds nanos, asks, told)) = subst IsGiven (sym told.1) given
-line_gives z line answer after given (inr bad) = subst IsGiven (sym bad.2) given
+query_gives : (z : Option Zone) (query : Query) (answer : List ℕ) (after : Option Zone) → IsGiven z → AnswersQuery z query answer after → IsGiven after
+query_gives z (Text text) answer after given told = grind (arith, posix_zone_valid text)
+query_gives z (Data bytes) answer after given (inl (inl found)) = subst IsGiven (sym found.3) (found.1.1, file_rule_fits bytes found.0 found.1.0)
+query_gives z (Data bytes) answer after given (inl (inr refused)) = grind arith
+query_gives z (Data bytes) answer after given (inr without) = grind arith
+query_gives z query answer after given told = grind arith
 
-pub lines_give : (z : Option Zone) (lines : List (List ℕ)) (output : List ℕ) (after : Option Zone) → IsGiven z
-    → AnswersLines z lines output after → IsGiven after
-lines_give z [] output after given h = subst IsGiven (sym h.1) given
-lines_give z (line ∷ lines) output after given h = lines_give h.1 lines h.2 after (line_gives z line h.0 h.1 given h.3) h.4
+lines_give : (z : Option Zone) (lines : List (List ℕ)) (output : List ℕ) (after : Option Zone) → IsGiven z → AnswersLines z lines output after → IsGiven after
+lines_give z [] output after given h = grind arith
+lines_give z (line ∷ lines) output after given h = lines_give h.1 lines h.2 after (elim h.3 [
+  | inl asked ↦ query_gives z asked.0 h.0 h.1 given asked.2
+  | inr bad ↦ subst IsGiven (sym bad.2) given
+]) h.4
 
 -- each line has an answer that leaves the zone
-query_covered : (z : Option Zone) (line : List ℕ) (query : Query) → IsGiven z → Asks line query → (answer : List ℕ) × AnswersLine z line answer z
+query_covered : (z : Option Zone) (line : List ℕ) (query : Query) → IsGiven z → Asks line query → (answer : List ℕ) × AnswersQuery z query answer z
 query_covered z line (Text text) given asks = elim (either (posix_law text)) [
-  | inl found ↦ (shown_refusal 17, inl (Text text, asks, inr (errors.OutOfMemory, inl (refl, found), refl, refl)))
-  | inr refused ↦ (
-    shown_refusal (error_number refused.0),
-    inl (Text text, asks, inr (refused.0, inr (refused.1, λ found. text_fault_or_zone text refused.0 found refused.1), refl, refl)),
-  )
+  | inl found ↦ (_, inr (errors.OutOfMemory, inl (refl, found), refl, refl))
+  | inr refused ↦ (_, inr (refused.0, inr (refused.1, λ found. text_fault_or_zone text refused.0 found refused.1), refl, refl))
 ]
-query_covered z line (Data bytes) given asks = (shown_refusal 17, inl (Data bytes, asks, inr (refl, refl)))
-query_covered None line (At seconds) given asks = (codes "no zone", inl (At seconds, asks, (refl, refl)))
-query_covered None line (Wall local) given asks = (codes "no zone", inl (Wall local, asks, (refl, refl)))
-query_covered None line (Resolve l choice) given asks = (codes "no zone", inl (Resolve l choice, asks, (refl, refl)))
-query_covered None line (Show seconds nanos) given asks = (codes "no zone", inl (Show seconds nanos, asks, (refl, refl)))
+query_covered z line (Data bytes) given asks = (_, inr (refl, refl))
 query_covered (Some zone) line (At seconds) given asks = elim (type_decided zone seconds given.0 given.1) [
-  | inl found ↦ (shown_type found.0, inl (At seconds, asks, (inl (found.0, found.1, refl), refl)))
-  | inr refused ↦ (shown_refusal 2, inl (At seconds, asks, (inr (refused, refl), refl)))
+  | inl found ↦ (_, (inl (found.0, found.1, refl), refl))
+  | inr refused ↦ (_, (inr (refused, refl), refl))
 ]
-query_covered (Some zone) line (Wall local) given asks =
-    let types = wall_decided zone local given.0 given.1 in
-    (shown_wall types.0, inl (Wall local, asks, ((types.0, types.1, refl), refl)))
+query_covered (Some zone) line (Wall local) given asks = let types = wall_decided zone local given.0 given.1 in (_, ((types.0, types.1, refl), refl))
 query_covered (Some zone) line (Resolve l choice) given asks =
-    grind (arith, resolve_covered zone l choice given.0 given.1 (resolved_in_range line l choice asks))
-query_covered (Some zone) line (Show seconds nanos) given asks = grind (arith, show_covered zone seconds nanos given.0 given.1)
+    let told = resolve_covered zone l choice given.0 given.1 (resolved_in_range line l choice asks) in (told.0, (told.1, refl))
+query_covered (Some zone) line (Show seconds nanos) given asks =
+    let told = show_covered zone seconds nanos given.0 given.1 in (told.0, (told.1, refl))
+query_covered None line query given asks = grind arith
 
-pub line_covered : (z : Option Zone) (line : List ℕ) → IsGiven z → (answer : List ℕ) × AnswersLine z line answer z
-line_covered z line given = elim (asks_or_bad line) [
-  | inl asked ↦ query_covered z line asked.0 given asked.1
-  | inr bad ↦ (codes "bad line", inr (bad, refl, refl))
+line_covered : (z : Option Zone) (line : List ℕ) → IsGiven z → (answer : List ℕ) × AnswersLine z line answer z
+line_covered z line given = elim (asks_or_bad line _ refl) [
+  | inl asked ↦ let told = query_covered z line asked.0 given asked.1 in (told.0, inl (asked.0, asked.1, told.1))
+  | inr bad ↦ (_, inr (bad, refl, refl))
 ]
 
 lines_covered : (z : Option Zone) (lines : List (List ℕ)) → IsGiven z → (output : List ℕ) × AnswersLines z lines output z
 lines_covered z [] given = grind arith
 lines_covered z (line ∷ lines) given =
-    let first = line_covered z line given in let rest = lines_covered z lines given in
-    (first.0 ++ codes "\n" ++ rest.0, (first.0, z, rest.0, first.1, rest.1, refl))
+    let first = line_covered z line given in let rest = lines_covered z lines given in (_, (first.0, z, rest.0, first.1, rest.1, refl))
 
 last_covered : (z : Option Zone) (rest : List ℕ) → IsGiven z → (output : List ℕ) × AnswersLast z rest output
-last_covered z [] given = ([], refl)
-last_covered z (c ∷ rest) given = let first = line_covered z (c ∷ rest) given in (first.0 ++ codes "\n", (first.0, z, first.1, refl))
+last_covered z [] given = grind arith
+last_covered z (c ∷ rest) given = let first = line_covered z (c ∷ rest) given in (_, (first.0, z, first.1, refl))
 
 -- every input is cut into lines
 behind : (c : ℕ) (bytes : List ℕ) (pieces : List (List ℕ)) (rest : List ℕ) → c ≢ 10 → IsSplit bytes pieces rest
@@ -84,27 +110,18 @@ is_cut [] = grind arith
 is_cut (c ∷ bytes) =
     let t = is_cut bytes in elim (cases_eq c 10) [ inl newline ↦ ([] ∷ t.0, t.1, grind arith) | inr other ↦ behind c bytes t.0 t.1 other t.2 ]
 
--- what could not be answered has bytes
-some_failed : (rest front left : List ℕ) → IsKeptFor rest front → 0 < length (rest ++ left) → 0 < length (front ++ left)
-some_failed rest front left h some = grind (arith, length-append)
-
 -- answers to a front of the input, of which a part is written, go on to answers to all of it
 pub begins_answers : (done left output more : List ℕ) (z : Option Zone) (rest : List ℕ) → Answered None [] done (output ++ more) z rest
     → BeginsAnswers (done ++ left) output
 begins_answers done left output more z rest s =
-    let given = lines_give None (ended_lines s.pieces) (output ++ more) z tt s.answered in
+    let given = lines_give _ _ _ z tt s.answered in
     let cut = is_cut (rest ++ left) in
     let next = lines_covered z (ended_lines cut.0) given in
-    let last = last_covered z cut.1 given in
-    let behind_it : Answered z rest left next.0 z cut.1 =
-    record { pieces = cut.0; front = cut.1; cut = cut.2; kept = inl refl; lone = cut.2.last; answered = next.1 } in (
-      more ++ (next.0 ++ last.0),
-      simp append_assoc
-          at (answers_all (done ++ left) ((output ++ more) ++ next.0) z cut.1 last.0
-          (answered_join None [] done (output ++ more) z rest left next.0 z cut.1 s behind_it) last.1),
-    )
+    let after : Answered z rest left next.0 z cut.1 =
+        record { pieces = cut.0; front = cut.1; cut = cut.2; kept = inl refl; lone = cut.2.last; answered = next.1 } in
+    (more ++ (next.0 ++ _), simp append_assoc at (answers_all _ (answered_join s after) (last_covered z cut.1 given).1))
 
 -- answers to the lines before one that could not be answered
-pub answers_before : (done left output : List ℕ) (z : Option Zone) (rest : List ℕ) → 0 < length (rest ++ left) → Answered None [] done output z rest
+pub answers_before : {done output : List ℕ} {z : Option Zone} {rest : List ℕ} (left : List ℕ) → 0 < length left → Answered None [] done output z rest
     → AnswersBefore (done ++ left) output
-answers_before done left output z rest some s = grind (arith, some_failed rest s.front left s.kept some, append_assoc, append-nil, All-nil)
+answers_before left some s = grind (arith, length-append s.front left, append_assoc, append-nil, All-nil)

@@ -1,9 +1,35 @@
 -- Which beginnings of a line let no line ask anything.
-use Rattle.zoneq_lib.specs.{Steps.LineReading.{scan}, declared.bad_line.BadLine.TheVariants.{Hopeless}}
-use Rattle.zoneq_lib.proofs.CitedWords.{Begins, Err, IsBadLine, IsHopeless, List, Spells, after_byte, ap, append-nil, append_assoc, arith, codes, drop, inl}
-use Rattle.zoneq_lib.proofs.CitedWords.{inr, length, length-append, query_line, question, refl, subst, sym, take, take-append-add, take-append-drop}
-use Rattle.zoneq_lib.proofs.{CitedWords.{without_return, ℕ, ◌++◌, ◌-◌, ◌<◌, ◌∙◌, ◌∷◌, ◌≡◌, ◌⊎◌, []}, PlainLines.{plain_line}, ScanLaws.{never, stops}}
+use Rattle.tz_base.specs.Grammar.{Grammar}
+use Rattle.zoneq_lib.specs.Questions.{Word, at_query, calendar_day, choice, chosen, data_query, fold, gap, integer, local_time, next, resolve_query, show_query}
+use Rattle.zoneq_lib.proofs.CitedWords.{Begins, Bool, Err, IsBadLine, IsHopeless, List, after_byte, append-nil, append_assoc, arith, codes, drop, false, inl}
+use Rattle.zoneq_lib.proofs.CitedWords.{inr, length, length-append, query_line, question, refl, take, take-append-add, take-append-drop, true, without_return}
+use Rattle.zoneq_lib.proofs.{CitedWords.{ℕ, [], ◌++◌, ◌-◌, ◌<◌, ◌∷◌, ◌≡◌, ◌⊎◌}, ScanLaws.{IsPlain, never, stops}}
+use Rattle.zoneq_lib.specs.{Questions.{text_query, unix_seconds, wall_query}, Steps.LineReading.{scan}, declared.bad_line.BadLine.TheVariants.{Hopeless}}
 
+-- ---- no part of the grammar of lines sees the bytes that follow it
+word : (letters : List ℕ) → IsPlain (Word letters)
+unfolding Word
+word [] = tt
+word (c ∷ letters) = (tt, λ _. word letters)
+
+begins : (letters : List ℕ) → IsPlain (Begins letters)
+unfolding Begins
+begins [] = tt
+begins (c ∷ letters) = ((word letters, λ _. tt), tt)
+
+one_of : {X : Type 0} (g h : Grammar X) → IsPlain g → IsPlain h → (first : Bool) → IsPlain (chosen g h first)
+one_of g h p q true = p
+one_of g h p q false = q
+
+local : IsPlain local_time
+unfolding calendar_day integer local_time next
+local = search depth 60
+
+plain_line : IsPlain query_line
+unfolding at_query choice data_query fold gap integer next query_line question resolve_query show_query text_query unix_seconds wall_query
+plain_line = search (begins, local, one_of) depth 60
+
+-- ---- beginnings
 cut_or_whole : (bytes : List ℕ) → (without_return bytes ≡ take (length bytes - 1) bytes) ⊎ (without_return bytes ≡ bytes)
 cut_or_whole bytes = grind arith
 
@@ -13,16 +39,16 @@ GoesOn front bytes = (more : List ℕ) × (bytes ≡ front ++ more)
 
 from_front : (front more : List ℕ) → GoesOn (without_return front) (front ++ more)
 from_front front more = elim (cut_or_whole front) [
-  | inl cut ↦ grind (arith, take-append-drop (length front - 1) front, append_assoc (take (length front - 1) front) (drop (length front - 1) front) more)
-  | inr whole ↦ (more, ap (λ w. w ++ more) (sym whole))
+  | inl cut ↦ let n = length front - 1 in grind (arith, take-append-drop n front, append_assoc (take n front) (drop n front) more)
+  | inr whole ↦ (more, cc)
 ]
 
 from_front_ended : (front more : List ℕ) → GoesOn (without_return front) (without_return (front ++ more))
-from_front_ended front [] = ([], ap without_return (append-nil front) ∙ sym (append-nil (without_return front)))
+from_front_ended front [] = ([], simp append-nil)
 from_front_ended front (c ∷ more) = elim (cut_or_whole (front ++ (c ∷ more))) [
   | inl cut ↦
       grind (arith, length-append front (c ∷ more), take-append-add front (c ∷ more) (length more), from_front front (take (length more) (c ∷ more)))
-  | inr whole ↦ subst (GoesOn (without_return front)) (sym whole) (from_front front (c ∷ more))
+  | inr whole ↦ rw whole (from_front front (c ∷ more))
 ]
 
 some_bytes : (front : List ℕ) → scan query_line (without_return front) ≡ Err Hopeless → 0 < length front
@@ -30,7 +56,7 @@ some_bytes [] h = absurd (rw h at (stops query_line))
 some_bytes (c ∷ front) h = omega arith
 
 still_bad : (front bytes : List ℕ) → scan query_line front ≡ Err Hopeless → GoesOn front bytes → IsBadLine bytes
-still_bad front bytes h on = λ query asks. never query_line front on.0 plain_line h query [] (subst (λ (l : List ℕ). Spells query_line l query []) on.1 asks)
+still_bad front bytes h on = λ query asks. never query_line front on.0 plain_line h query [] (rw on.1 at asks)
 
 pub hopeless : (front : List ℕ) → scan query_line (without_return front) ≡ Err Hopeless → IsHopeless front
 hopeless front h = grind (arith, some_bytes, still_bad, from_front, from_front_ended)

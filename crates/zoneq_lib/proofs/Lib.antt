@@ -1,15 +1,9 @@
 pub mod CitedWords
 pub mod ScanLaws
-pub mod PlainLines
-pub mod NumberLaws
-pub mod LineLaws
-pub mod HexLaws
+pub mod DigitLaws
 pub mod ZoneAnswers
 pub mod Joining
-pub mod Bytes
 pub mod Stopping
 pub mod Showing
 pub mod Covering
-pub mod Ending
-pub mod Sending
 pub mod HopelessLaws

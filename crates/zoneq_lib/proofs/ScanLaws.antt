@@ -1,11 +1,10 @@
 -- What is read at the front of a line is what it spells, and no line that goes on from a hopeless front spells anything.
-use Rattle.tz_base.proofs.RunLaws.{value_grows}
-use Rattle.tz_base.specs.{declared.error.{Error.TheVariants.{ParseInt}, Expected.TheVariants.{NumberWithinItsLimit}}, Grammar.{At, Here}}
-use Rattle.zoneq_lib.specs.{Steps.LineReading.{scan}, declared.bad_line.BadLine.TheVariants.{Hopeless, Unfinished}}
-use Rattle.zoneq_lib.proofs.CitedWords.{AllOf, BadLine, Bool, Ended, Err, Error, Exact, Grammar, List, Marked, Number, Ok, Result, Run, Spells, Then}
-use Rattle.zoneq_lib.proofs.CitedWords.{after_byte, append-nil, append_assoc, arith, exact_at, exact_cut, int_at, is_digit, lawful, length-append, length-take}
-use Rattle.zoneq_lib.proofs.CitedWords.{number_within, optional_tag_at, read, refl, run_again, run_of, run_splits, tag_at, take, take-append-drop, value_from}
-use Rattle.zoneq_lib.proofs.CitedWords.{ℕ, ◌*◌, ◌++◌, ◌+◌, ◌-◌, ◌>>=◌, ◌∷◌, ◌≡◌, []}
+use Rattle.tz_base.{proofs.{ForCallers.{run_again, run_splits}, RunLaws.{value_grows}}, specs.Grammar.{At, Ended, Grammar, Here, Marked, Run, Then}}
+use Rattle.tz_base.specs.declared.error.{Error.TheVariants.{ParseInt}, Expected.TheVariants.{NumberWithinItsLimit}}
+use Rattle.zoneq_lib.proofs.CitedWords.{AllOf, BadLine, Bool, Err, Error, Exact, List, Number, Ok, Result, Spells, after_byte, append-nil, append_assoc, arith}
+use Rattle.zoneq_lib.proofs.CitedWords.{exact_at, exact_cut, int_at, is_digit, lawful, length-append, length-take, number_within, optional_tag_at, read, refl}
+use Rattle.zoneq_lib.proofs.CitedWords.{run_of, tag_at, take, take-append-drop, value_from, ℕ, [], ◌*◌, ◌++◌, ◌+◌, ◌-◌, ◌∷◌, ◌≡◌}
+use Rattle.zoneq_lib.specs.{Steps.LineReading.{scan, ◌>>=◌}, declared.bad_line.BadLine.TheVariants.{Hopeless, Unfinished}}
 use Rattle.tz_base.specs.Fronts as fronts
 
 -- ---- the same value as `read` gives, or none
@@ -17,7 +16,7 @@ same_bind : {A B : Type 0} (a : Result A BadLine) (r : Result A Error) (f : A �
     → ((x : A) → Same (f x) (k x)) → Same (a >>= f) (fronts.◌>>=◌ r k)
 same_bind a r f k h each = grind arith
 
-pub same : {X : Type 0} (g : Grammar X) (bytes : List ℕ) → Same (scan g bytes) (read g bytes)
+same : {X : Type 0} (g : Grammar X) (bytes : List ℕ) → Same (scan g bytes) (read g bytes)
 unfolding after_byte optional_tag_at tag_at
 same (Then g f) bytes = same_bind (scan g bytes) (read g bytes) (λ p. scan (f p.0) p.1) (λ p. read (f p.0) p.1) (same g bytes) (λ p. same (f p.0) p.1)
 same (Marked tag g h) [] = same h []
@@ -27,14 +26,18 @@ same (Here f) bytes = same (f bytes) bytes
 same (At place g) bytes = same g bytes
 same g bytes = grind arith
 
+-- what a scan returns
+abbrev Scanned : Type 0 → Type 0
+Scanned A = Result (A × List ℕ) BadLine
+
 -- ---- at the end of the bytes nothing is hopeless, and nothing is left
-abbrev Stops : {A : Type 0} → Result (A × List ℕ) BadLine → Type 0
+abbrev Stops : {A : Type 0} → Scanned A → Type 0
 Stops (Ok (x, [])) = Unit {0}
 Stops (Ok (x, b ∷ rest)) = ⊥
 Stops (Err Unfinished) = Unit {0}
 Stops (Err Hopeless) = ⊥
 
-stops_bind : {A B : Type 0} (r : Result (A × List ℕ) BadLine) (f : A × List ℕ → Result (B × List ℕ) BadLine) → Stops r → ((x : A) → Stops (f (x, [])))
+stops_bind : {A B : Type 0} (r : Scanned A) (f : A × List ℕ → Scanned B) → Stops r → ((x : A) → Stops (f (x, [])))
     → Stops (r >>= f)
 stops_bind (Ok (x, [])) f h each = each x
 stops_bind r f h each = grind arith
@@ -58,13 +61,13 @@ IsPlain (Here f) = ⊥
 IsPlain (At place g) = IsPlain g
 IsPlain g = Unit {0}
 
-abbrev Onward : {A : Type 0} → List ℕ → Result (A × List ℕ) BadLine → Result (A × List ℕ) BadLine → Type 0
+abbrev Onward : {A : Type 0} → List ℕ → Scanned A → Scanned A → Type 0
 Onward more (Ok (x, [])) r = Unit {0}
 Onward more (Ok (x, b ∷ rest)) r = r ≡ Ok (x, b ∷ (rest ++ more))
 Onward more (Err Unfinished) r = Unit {0}
 Onward more (Err Hopeless) r = r ≡ Err Hopeless
 
-bind_onward : {A B : Type 0} (more : List ℕ) (r s : Result (A × List ℕ) BadLine) (f : A × List ℕ → Result (B × List ℕ) BadLine) → Onward more r s
+bind_onward : {A B : Type 0} (more : List ℕ) (r s : Scanned A) (f : A × List ℕ → Scanned B) → Onward more r s
     → ((x : A) → Stops (f (x, []))) → ((x : A) (rest : List ℕ) → Onward more (f (x, rest)) (f (x, rest ++ more))) → Onward more (r >>= f) (s >>= f)
 bind_onward more (Ok (x, [])) s f h end each = grind arith
 bind_onward more r s f h end each = grind arith
@@ -91,7 +94,7 @@ unfolding exact_at
 exact_onward count bytes more =
     grind (arith, length-append, take-append-drop count bytes, append_assoc, exact_cut count (bytes ++ more) (take count bytes), length-take)
 
-pub onward : {X : Type 0} (g : Grammar X) (bytes more : List ℕ) → IsPlain g → Onward more (scan g bytes) (scan g (bytes ++ more))
+onward : {X : Type 0} (g : Grammar X) (bytes more : List ℕ) → IsPlain g → Onward more (scan g bytes) (scan g (bytes ++ more))
 unfolding after_byte
 onward g [] more p = grind (arith, stops g)
 onward (Then g f) (b ∷ bytes) more p =
@@ -101,16 +104,16 @@ onward (Marked tag g h) (b ∷ bytes) more p = grind (arith, onward g bytes more
 onward (Ended g h) (b ∷ bytes) more p = onward h (b ∷ bytes) more p.1
 onward (Run test) (b ∷ bytes) more p = grind (arith, append_assoc, run_again, run_splits test (b ∷ bytes))
 onward (Exact count) (b ∷ bytes) more p = exact_onward count (b ∷ bytes) more
-onward (Here f) (b ∷ bytes) more p = absurd p
 onward (At place g) (b ∷ bytes) more p = onward g (b ∷ bytes) more p
 onward g (b ∷ bytes) more p = grind (arith, number_onward)
 
 -- ---- what callers use
-pub scanned : {X : Type 0} (g : Grammar X) (bytes : List ℕ) (x : X) (rest : List ℕ) → scan g bytes ≡ Ok (x, rest) → Spells g bytes x rest
-scanned g bytes x rest h = grind (arith, same g bytes, (lawful g bytes).takes (x, rest))
+module _ {X : Type 0} (g : Grammar X) (bytes : List ℕ) where
+  pub scanned : (x : X) (rest : List ℕ) → scan g bytes ≡ Ok (x, rest) → Spells g bytes x rest
+  scanned x rest h = grind (arith, same g bytes, (lawful g bytes).takes (x, rest))
 
-pub not_scanned : {X : Type 0} (g : Grammar X) (bytes : List ℕ) (e : BadLine) → scan g bytes ≡ Err e → (x : X) (rest : List ℕ) → Spells g bytes x rest → ⊥
-not_scanned g bytes e h x rest spelled = grind (arith, same g bytes, (lawful g bytes).again (x, rest) spelled)
+  pub not_scanned : (e : BadLine) → scan g bytes ≡ Err e → (x : X) (rest : List ℕ) → Spells g bytes x rest → ⊥
+  not_scanned e h x rest spelled = grind (arith, same g bytes, (lawful g bytes).again (x, rest) spelled)
 
 pub never : {X : Type 0} (g : Grammar X) (bytes more : List ℕ) → IsPlain g → scan g bytes ≡ Err Hopeless → (x : X) (rest : List ℕ)
     → Spells g (bytes ++ more) x rest → ⊥

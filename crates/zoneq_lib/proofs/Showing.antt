@@ -1,26 +1,29 @@
 -- Every instant that is asked for has an answer.
-use Rattle.offset_core.specs.{ResolveNumbers.{resolve_error_number}, declared.local_result.LocalResult.TheVariants.{Single}}
-use Rattle.zoneq_lib.proofs.CitedWords.{All, All-cons, All-head, All-tail, AnswersResolve, AnswersShow, AreOffsetsOf, Choice, IsAtWhere, IsInRange, IsNarrow}
-use Rattle.zoneq_lib.proofs.CitedWords.{IsResolved, IsRuleOrNone, IsStamp, IsTaken, IsValid, IsWide, IsWithinDay, Law, List, LocalResult, LocalType, Meaning}
-use Rattle.zoneq_lib.proofs.CitedWords.{Reading, Some, Zone, Zoned, arith, behind, choice_covered, codes, in_range_or_not, in_seconds, inl, inr, ints, law_by}
-use Rattle.zoneq_lib.proofs.CitedWords.{map_of, of_secs, refl, rule_types, shown_date_time, shown_refusal, zone_has_offsets, ℕ, ℤ, ◌-ℤ◌, ◌∷◌, ◌≡◌, ◌⊎◌, []}
+use Rattle.zoneq_lib.proofs.CitedWords.{All-cons, All-head, All-tail, Choice, IsInRange, IsResolved, IsRuleOrNone, IsValid, List, LocalType, Reading, Some}
+use Rattle.zoneq_lib.proofs.CitedWords.{Zone, Zoned, arith, behind, in_range_or_not, inl, inr, ints, of_secs, refl, ℕ, ℤ, [], ◌-ℤ◌, ◌∷◌, ◌≡◌, ◌⊎◌}
+use Rattle.zoneq_lib.specs.Answers.{AnswersResolve, AnswersShow, shown_date_time}
+use Rattle.zoned_ref.proofs.ForCallers.{choice_covered, zone_has_offsets}
+use Rattle.zoned_ref.proofs.Words.{All, AreOffsetsOf, IsNarrow, IsWide, IsWithinDay, Law, Meaning, in_seconds, map_of, rule_types}
+use Rattle.zoned_time.specs.Stamps.{IsAtWhere}
+use Rattle.naive_base.specs.Stamp.{IsStamp}
+use Rattle.offset_core.specs.declared.local_result.LocalResult.{LocalResult, TheVariants.{Single}}
 
 within_or_not : (k : ℤ) → IsWithinDay k ⊎ (IsWithinDay k → ⊥)
 within_or_not k = grind arith
-
-both_or_not : {P Q : Type 0} → P ⊎ (P → ⊥) → Q ⊎ (Q → ⊥) → (P × Q) ⊎ (P × Q → ⊥)
-both_or_not h q = grind arith
 
 all_or_not : (types : List LocalType) → All (λ t. IsWithinDay t.offset) types ⊎ (All (λ t. IsWithinDay t.offset) types → ⊥)
 all_or_not [] = grind arith
 all_or_not (t ∷ types) =
     let within = λ (s : LocalType). IsWithinDay s.offset in
-    elim (both_or_not (within_or_not t.offset) (all_or_not types)) [
-      | inl all ↦ inl (All-cons within t types all.0 all.1)
-      | inr not ↦ inr (λ h. not (All-head within t types h, All-tail within t types h))
+    elim (within_or_not t.offset) [
+      | inl one ↦ elim (all_or_not types) [
+        | inl all ↦ inl (All-cons within t types one all)
+        | inr not ↦ inr (λ h. not (All-tail within t types h))
+      ]
+      | inr not ↦ inr (λ h. not (All-head within t types h))
     ]
 
-pub narrow_or_not : (z : Zone) → IsNarrow z ⊎ (IsNarrow z → ⊥)
+narrow_or_not : (z : Zone) → IsNarrow z ⊎ (IsNarrow z → ⊥)
 narrow_or_not z = grind (arith, all_or_not z.types, all_or_not (rule_types z.rule))
 
 stamp_or_not : (r : Reading) → IsStamp r ⊎ (IsStamp r → ⊥)
@@ -30,23 +33,16 @@ pub show_covered : (z : Zone) (seconds : ℤ) (nanos : ℕ) → IsValid z → Is
 show_covered z seconds nanos valid rule = elim (narrow_or_not z) [
   | inl narrow ↦ elim (stamp_or_not (of_secs seconds nanos)) [
     | inl stamp ↦
-        let has = zone_has_offsets z valid rule seconds (grind arith) in
-        let t = has.1.type in
-        (shown_date_time (of_secs seconds nanos) t.offset, inr (inr (narrow, stamp, (t, has.1.in_force, refl))))
-    | inr none ↦ (codes "out of range", inr (inl (narrow, none, refl)))
+        let has = zone_has_offsets z valid rule seconds (grind arith) in (_, inr (inr (narrow, stamp, (_, has.1.in_force, refl))))
+    | inr none ↦ (_, inr (inl (narrow, none, refl)))
   ]
-  | inr wide ↦ (codes "wide zone", inl (wide, refl))
+  | inr wide ↦ (_, inl (wide, refl))
 ]
 
 -- no instant is given but of a timestamp
 pub no_stamp : {O D : Type 0} {m : Meaning O} (law : Law m) (p : Type 0) (r : Reading) (f : D → Zoned O) (given : LocalResult D)
     → ((d : D) → given ≡ Single d → ⊥) → IsAtWhere law p r (map_of f given) → p → ⊥
 no_stamp law p r f given other h k = grind arith
-
--- the instant by an offset that is taken
-taken_instant : (off : ℤ → ℤ) (l : Reading) (choice : Choice) (k : ℤ) → IsTaken off l.s choice k → IsInRange (l.s -ℤ k)
-    → (d : Zoned ℤ) × IsResolved (law_by off) l choice d
-taken_instant off l choice k taken inside = (record { utc = behind l k; offset = off (l.s -ℤ k) }, grind arith)
 
 pub resolve_covered : (z : Zone) (l : Reading) (choice : Choice) → IsValid z → IsRuleOrNone z.rule → IsInRange l.s
     → (answer : List ℕ) × AnswersResolve (Some z) l choice answer
@@ -56,11 +52,10 @@ resolve_covered z l choice valid rule inside = elim (narrow_or_not z) [
       let has = choice_covered z l.s choice valid rule narrow wide in
       elim has.2 [
         | inl taken ↦
-            let d = taken_instant has.0 l choice taken.0 taken.1 taken.2 in
-            (shown_date_time d.0.utc d.0.offset, inr (narrow, has.0, has.1, inl (d.0, d.1, refl)))
-        | inr refused ↦ (shown_refusal (resolve_error_number refused.0), inr (narrow, has.0, has.1, inr (refused.0, refused.1, refl)))
+            (_, inr (narrow, has.0, has.1, inl (record { utc = behind l taken.0; offset = has.0 (l.s -ℤ taken.0) }, grind arith, refl)))
+        | inr refused ↦ (_, inr (narrow, has.0, has.1, inr (refused.0, refused.1, refl)))
       ]
-  | inr wide ↦ (codes "wide zone", inl (wide, refl))
+  | inr wide ↦ (_, inl (wide, refl))
 ]
 
 -- what is written of the instant that a choice selects

@@ -62,6 +62,7 @@ impl Dialogue {
     }
 
     // Answers the lines that end in a block, and keeps what is after them.
+    #[tactic(auto, using(crate::proofs::Stopping::rest_kept))]
     fn answer_lines<W: Write>(
         &mut self,
         writer: &mut Watched<W>,

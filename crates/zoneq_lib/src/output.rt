@@ -8,7 +8,7 @@ use crate::watched::Watched;
 use std::io::Write;
 
 /// Writes all of the bytes, or a beginning of them before the writer fails.
-#[tactic(auto, using(crate::proofs::Bytes::appends_more))]
+#[tactic(auto, using(crate::proofs::Stopping::appends_more))]
 pub fn write_all<W: Write>(writer: &mut Watched<W>, bytes: &[u8]) -> Result<(), RunError>
     requires { writer.old.failed ≡ false }
     ensures ok { OnOk result ((writer.new.failed ≡ false)

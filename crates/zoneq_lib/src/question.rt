@@ -42,6 +42,7 @@ impl<'a> Question<'a> {
     /// A text that isn't UTF-8 makes a bad line, and so do digits that are no hex digits or odd in
     /// number, a number that doesn't fit its type, a date or a time that doesn't exist, and a word
     /// after it that is no choice.
+    #[tactic(auto, using(crate::proofs::ScanLaws::scanned, crate::proofs::ScanLaws::not_scanned))]
     pub fn parse(line: &'a [u8]) -> Option<Question<'a>>
         ensures { MatchOption result
             (IsBadLine line.now) (λ question. Asks line.now (query_of question)) }
@@ -94,7 +95,7 @@ impl<'a> Question<'a> {
 }
 
 // The question about a TZ string, which is all that is left.
-#[tactic(auto, unfolding(crate::specs::Questions::text_query))]
+#[tactic(auto, using(crate::proofs::DigitLaws::utf8_tested), unfolding(crate::specs::Questions::text_query))]
 fn read_text(bytes: &[u8]) -> Result<(Question<'_>, &[u8]), BadLine>
     ensures { ReadsAs (λ p. (query_of p.0, p.1.now)) result (scan text_query bytes.now) }
 {

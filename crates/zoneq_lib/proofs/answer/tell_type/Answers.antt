@@ -1,12 +1,11 @@
-use Rattle.zoneq_lib.proofs.CitedWords.{ap, codes, error_number, inr, on_ok_weaker, refl, shown_refusal, to_z-of_z, type_error_number, ◌∙◌}
+use Rattle.zoneq_lib.proofs.CitedWords.{arith, inr, on_ok_weaker, refl, to_z-of_z, type_error_number}
 use Rattle.zoneq_lib.proofs.answer.tell_type.Goals as goal
 
 pub returns-in_default : goal.returns-in_default
-returns-in_default c = on_ok_weaker c.writeln.result (λ bytes. (codes "no zone", bytes, rw c.in_default.is refl)) c.writeln.ensures.bytes
+returns-in_default c = rw c.in_default.is (grind arith)
 
 pub returns-in-Err : goal.returns-in-Err
 returns-in-Err c =
     let fits = c.ranges.seconds in let refused = simp to_z-of_z at c.in-Err.ensures in
-    let number = ap error_number refused.1 ∙ type_error_number c.in-Some.zone c.args.seconds refused.0 in
-    let written = rw (c.number.ensures, number) at c.writeln-in-Err.ensures.bytes in
-    on_ok_weaker c.writeln-in-Err.result (λ bytes. (shown_refusal 2, bytes, rw c.in-Some.is (inr (refused.0, refl)))) written
+    let two = type_error_number c.in-Some.zone c.args.seconds refused.0 in
+    rw c.in-Some.is (on_ok_weaker c.writeln-in-Err.result (λ bytes. (_, grind arith, inr (refused.0, refl))) c.writeln-in-Err.ensures.bytes)

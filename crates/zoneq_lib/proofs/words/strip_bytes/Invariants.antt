@@ -1,5 +1,4 @@
-use Rattle.zoneq_lib.proofs.CitedWords.{Word, drop, ◌≡◌}
-use Rattle.zoneq_lib.specs.Steps.LineReading.{scan}
+use Rattle.zoneq_lib.{proofs.CitedWords.{Word, drop, ◌≡◌}, specs.Steps.LineReading.{scan}}
 use Rattle.zoneq_lib.proofs.words.strip_bytes.Given as goal
 
 abbrev pub invariant-loop-byte : goal.invariant-loop-byte
