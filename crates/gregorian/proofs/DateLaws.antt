@@ -1,9 +1,9 @@
 -- Each day has one date, and each date is one day.
 use Rattle.std.proofs.Common.{◌≡◌, ℕ, zero, suc, ◌+◌, ◌-◌, ◌*◌, ◌/◌, ◌%◌, ◌<◌, ◌≤◌, inl, inr, Bool, arith, ℤ, pos, ◌+ℤ◌, ◌-ℤ◌, ◌≤ℤ◌, ◌<ℤ◌}
 use Rattle.std.proofs.lemmas.Bool.{cases_order}
-use Rattle.gregorian.specs.{Year.{is_leap, days_in_year, year_start, LiesIn, IsYear, IsDay}, Month.{days_in_month, days_of_months}, Date.{IsDate, day_number}}
+use Rattle.gregorian.specs.{Year.{is_leap, days_in_year, year_start, LiesIn}, Month.{days_in_month, days_of_months}, Date.{IsDate, day_number}}
 use Rattle.gregorian.specs.{DateOf.{date_with, year_of, day_of_year, month_of, day_of_month}, Steps.Cycle.{days_of_years}}
-use Rattle.gregorian.proofs.{Floor.{floors}, YearLaws.{year_step, lies_in, one_year, starts_rise, day_of_years}, Cycle.{january_start, year_found}}
+use Rattle.gregorian.proofs.{Floor.{floors}, YearLaws.{year_step, lies_in, one_year, starts_rise}, Cycle.{january_start, year_found}}
 use Rattle.gregorian.proofs.MonthDays.{leap_day, months_early, months_late}
 pub use Rattle.gregorian.specs.Steps.Dates.{months_step, months_all, place_is}
 
@@ -71,10 +71,6 @@ date_only day y m d h e = let own = date_is day in grind (arith, one_date)
 pub date_between : (a b y : ℤ) (m d : ℕ) → a ≤ℤ y → y ≤ℤ b → IsDate y m d
     → (year_start a ≤ℤ day_number y m d) × (day_number y m d <ℤ year_start (b +ℤ pos 1))
 date_between a b y m d low high h = grind (arith, floors, date_lies y m d h, starts_rise a y low, starts_rise (y +ℤ pos 1) (b +ℤ pos 1) (omega (arith, floors)))
-
--- the dates of the years of 32 bits
-pub date_in_range : (y : ℤ) (m d : ℕ) → IsYear y → IsDate y m d → IsDay (day_number y m d)
-date_in_range y m d fits h = day_of_years (day_number y m d) y (date_lies y m d h) fits
 
 -- a day is its year's start and its place in the year
 pub day_of_year_is : (day : ℤ)

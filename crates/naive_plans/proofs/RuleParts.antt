@@ -1,7 +1,7 @@
 -- The parts of a rule.
 use Rattle.std.proofs.Common.{IsTrue, Bool, ◌↔◌}
 use Rattle.gregorian.specs.Weekdays.{weekday_of}
-use Rattle.naive_base.proofs.Words.{to_z-of_z, inl, inr, arith, pos, ℕ, ℤ, ◌≡◌, ◌/◌, ◌%◌, ◌+◌, ◌-◌, ◌<◌, ◌≤◌, ◌+ℤ◌, ◌-ℤ◌, subst, ints, day_of_year_is, floors}
+use Rattle.naive_base.proofs.Words.{to_z-of_z, arith, pos, ℕ, ℤ, ◌≡◌, ◌/◌, ◌%◌, ◌+◌, ◌-◌, ◌<◌, ◌≤◌, ◌+ℤ◌, ◌-ℤ◌, ints, day_of_year_is, floors}
 use Rattle.naive_base.proofs.Words.{day_of_month, day_of_year, month_of, year_of, days_in_month, days_in_year, floor_mod, is_leap, weekday_number}
 use Rattle.naive_plans.specs.RecurrenceRules.{CountsInYear, HasMonth, HasMonthDay, HasWeekday, IsAbsent, IsInWeek, IsOnDate, IsOnYearDay, ListsPlace}
 use Rattle.naive_plans.specs.{RecurrenceRules.{ListsWeekday, fourth_of_week}, declared.rule.RecurrenceRule.{RecurrenceRule}}

@@ -5,7 +5,7 @@ use Rattle.tz_info.specs.Spans.{IsInSpan}
 use Rattle.tests_pins.proofs.Words.{AreChanges, Change, Contains, IsChange, IsFromUntil, IsSpanAt, LocalType, TypeAt, [], ap, arith, autumn, by_lt_z, change_at}
 use Rattle.tests_pins.proofs.Words.{edt, est, false, fits_signed_from_abs, get_or, inl, inr, ints, new_york_zone, pos, refl, spring, subst, sym, w64, winter, ℕ}
 use Rattle.tests_pins.proofs.Words.{ℤ, ◌+ℤ◌, ◌-ℤ◌, ◌<ℤ◌, ◌<◌, ◌∙◌, ◌∷◌, ◌≡◌, ◌≤ℤ◌, ◌⊎◌}
-use Rattle.tests_pins.proofs.NewYork.{by_dst, edt_until_2020, is_summer, never, once, one_type, second_of, type_at, type_of_rule, wall}
+use Rattle.tests_pins.proofs.NewYork.{by_dst, edt_until_2020, is_summer, never, one_type, type_at, type_of_rule, wall}
 use Rattle.tz_base.specs.declared.span.Span.{Span}
 use Rattle.tests_pins.specs.{NewYork.{new_york}, Spans.{place_before}}
 use Rattle.std.specs.Prelude.{None, Option, Some}

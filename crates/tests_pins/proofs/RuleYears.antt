@@ -1,8 +1,8 @@
 -- The one span of a rule whose two types are one.
 use Rattle.std.proofs.lemmas.Int.{fits_signed_from_abs}
 use Rattle.tz_info.proofs.{RuleChanges.{rule_second}, SpanLaws.{out_of_years, span_once}, ZoneLaws.{type_decided, zone_of_rule_valid}}
-use Rattle.tz_info.proofs.Words.{IsTypeRefused, IsValid, TypeAt, arith, by_leap_time, by_rule, inl, inr, ints, neg_ℤ, pos, refl, subst, w64, ℤ, ◌-ℤ◌, ◌<ℤ◌}
-use Rattle.tz_info.proofs.Words.{◌≤ℤ◌, ◌≡◌}
+use Rattle.tz_info.proofs.Words.{IsTypeRefused, IsValid, TypeAt, arith, by_leap_time, by_rule, inl, inr, ints, neg_ℤ, pos, refl, subst, w64, ℤ}
+use Rattle.tz_info.proofs.Words.{◌≡◌}
 use Rattle.tz_info.specs.{Moments.{IsRuleTime}, Spans.{IsInSpan, IsSpanAt}}
 use Rattle.tz_base.specs.{LocalTypes.{LocalType}, declared.span.Span.{Span}}
 use Rattle.std.specs.Prelude.{Some, [], ◌∷◌}

@@ -1,10 +1,10 @@
 -- Steps of the local clock in zones whose clocks are set once.
-use Rattle.naive_plans.specs.{ClockSteps.{BeginsStep}, Plans.{IsLastUntil, IsNextAfter}}
+use Rattle.naive_plans.specs.{Plans.{IsLastUntil, IsNextAfter}}
 use Rattle.naive_base.specs.Range.{IsInRange, IsWide}
 use Rattle.offset_core.specs.Offset.{IsWithinDay}
 use Rattle.zoned_time.proofs.{DayStarts.{StayWithinDay}, FireTimes.{last_fire, next_fire}}
 use Rattle.zoned_time.specs.StepBounds.{AreStepBounds}
-use Rattle.tests_pins.proofs.Words.{AreSetAt, IsFirstToReach, IsReachedAt, IsZoneSecond, arith, by_lt_z, ints, pos, ℤ, ◌+ℤ◌, ◌-ℤ◌, ◌≡◌, ◌≤ℤ◌}
+use Rattle.tests_pins.proofs.Words.{AreSetAt, IsFirstToReach, IsReachedAt, IsZoneSecond, arith, by_lt_z, ints, ℤ, ◌+ℤ◌, ◌≤ℤ◌}
 
 pub within_day : (off : ℤ → ℤ) (at k m : ℤ) → AreSetAt off at k m → IsWithinDay k → IsWithinDay m → StayWithinDay off
 within_day off at k m set before from u inside =

@@ -1,7 +1,7 @@
 -- The seconds at which two zones of one type each differ.
-use Rattle.std.specs.Prelude.{AllPairs, Contains, List, [], ◌∷◌, ◌↔◌, ◌≢◌}
+use Rattle.std.specs.Prelude.{[], ◌∷◌, ◌≢◌}
 use Rattle.tz_info.specs.{Differences.{AreDifferences, IsDifference}, declared.zone.ask.differences.Difference.{Difference}}
-use Rattle.tests_pins.proofs.Words.{LocalType, ap, arith, by_lt_z, ints, pos, refl, subst, sym, ℤ, ◌∙◌, ◌≡◌, ◌≤ℤ◌, ◌<ℤ◌}
+use Rattle.tests_pins.proofs.Words.{LocalType, arith, by_lt_z, ints, pos, refl, subst, sym, ℤ, ◌∙◌, ◌≡◌}
 use Rattle.tests_pins.specs.Differences.{always, hour_of}
 
 module _ (old new : LocalType) (differ : old ≢ new) where

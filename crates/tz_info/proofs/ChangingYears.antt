@@ -216,10 +216,6 @@ by_key a year = grind (arith, key_below, key_at, changing_alike, keys_are)
 none_of_all : (keys : List Bool) (k : ℕ) → list_any (λ b. b) keys ≡ false → get_or keys k false ≡ false
 none_of_all keys k none = grind (arith, list_any_at, get_or-eq_default)
 
-std_either : (a : Alternate) (dst : Bool) → a.std ≡ a.dst → type_when a dst ≡ a.std
-std_either a true same = sym same
-std_either a false same = refl
-
 pub steady_alike : (a : Alternate) → a.std ≡ a.dst → NeverChanges a
 steady_alike a same u v s t h k = grind linear
 

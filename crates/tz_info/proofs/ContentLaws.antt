@@ -51,7 +51,8 @@ module _ {X : Type 0} (size : ℕ) (Spells : List ℕ → X → Type 0) where
   none_of_none part (x ∷ xs) some l h = grind (arith, length-append)
 
   first_of : (n : ℕ) (part : List ℕ) (xs : List X) → 0 < size → length part ≡ suc n * size
-      → AreRecords size Spells part xs → (x : X) × Spells (take size part) x × ((more : List X) × AreRecords size Spells (drop size part) more × (x ∷ more ≡ xs))
+      → AreRecords size Spells part xs
+      → (x : X) × Spells (take size part) x × ((more : List X) × AreRecords size Spells (drop size part) more × (x ∷ more ≡ xs))
   first_of n _ [] some l h = absurd (omega (arith, ap length h))
   first_of n part (x ∷ xs) some l h = let cut = exact_cut size part h.0 h.1 h.2 h.3 in (x, rw cut.0 h.4, (xs, rw cut.1 h.5, refl))
 

@@ -19,21 +19,6 @@ filter_first p (x ∷ xs) zero h passes fails =
 filter_first p (x ∷ xs) (suc n) h passes fails = rw (passes 0 x (omega arith)) (ap (λ ys. x ∷ ys) (filter_first p xs n (omega arith)
     (λ k d. grind (arith, passes (suc k) d)) (λ k d. grind (arith, fails (suc k) d))))
 
-pub count_first : {X : Type 0} (p : X → Bool) (xs : List X) (n : ℕ) → n ≤ length xs → PassFirst p xs n → FailFrom p xs n → count_by p xs ≡ n
-count_first p [] n h passes fails = omega arith
-count_first p (x ∷ xs) zero h passes fails =
-    grind (arith, count_first p xs zero (omega arith) (grind arith) (λ k d l u. fails (suc k) d (omega arith) (omega arith)),
-    sum_by-cons (λ x. cond (p x) 1 0) x xs, fails 0 x)
-count_first p (x ∷ xs) (suc n) h passes fails =
-    grind (arith, count_first p xs n (omega arith) (λ k d l. passes (suc k) d (omega arith)) (λ k d l u. fails (suc k) d (omega arith) (omega arith)),
-    sum_by-cons (λ x. cond (p x) 1 0) x xs, passes 0 x)
-
-pub count_least : {X : Type 0} (p : X → Bool) (xs : List X) (n : ℕ) → n ≤ length xs → PassFirst p xs n → n ≤ count_by p xs
-count_least p xs zero h passes = omega arith
-count_least p [] (suc n) h passes = omega arith
-count_least p (x ∷ xs) (suc n) h passes =
-    let rest = count_least p xs n (omega arith) (λ k d l. passes (suc k) d (omega arith)) in grind (arith, sum_by-cons (λ x. cond (p x) 1 0) x xs, passes 0 x)
-
 rises_by : (f : ℕ → ℤ) (n : ℕ) → ((i : ℕ) → suc i < n → f i ≤ℤ f (suc i)) → (i k : ℕ) → i + k < n → f i ≤ℤ f (i + k)
 rises_by f n step i zero h = grind linear
 rises_by f n step i (suc k) h = grind (linear, rises_by f n step i k (omega arith))
@@ -50,9 +35,6 @@ le_false a b h = grind arith
 
 pub le_is : (a b : ℤ) → int_le a b ≡ true → a ≤ℤ b
 le_is a b h = grind arith
-
-pub le_is_not : (a b : ℤ) → int_le a b ≡ false → ¬ (a ≤ℤ b)
-le_is_not a b h l = grind (arith, le_true)
 
 pub lt_true : (a b : ℤ) → a <ℤ b → int_lt a b ≡ true
 lt_true a b h = grind arith

@@ -89,7 +89,13 @@ footer_law extended bytes = like
     (choice (between _) (choice (no_text _) (refused (InvalidTzFile TzTextInFooter) (omega arith)) (rule_law _ _))
     (refused (InvalidTzFile FooterBetweenNewlines) (omega arith))) (refused (Utf8 FooterInUtf8) (omega arith)))
     (λ rule h.
-    record { text = trimmed bytes; has_text = text_has _ (grind arith) (grind arith); no_colon = grind arith; no_zero = no_zero _ (grind arith); says = grind arith })
+    record {
+      text = trimmed bytes;
+      has_text = text_has _ (grind arith) (grind arith);
+      no_colon = grind arith;
+      no_zero = no_zero _ (grind arith);
+      says = grind arith;
+    })
     (λ rule h. grind (arith, trim_whole))
     (fault_is _ _)
     (fault_again _ _)

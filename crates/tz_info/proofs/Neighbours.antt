@@ -98,15 +98,6 @@ own_year _ _ _ year u other first last beside from before =
     (λ more. let after = year_after _ _ more in let low = first.low other in omega (arith, floors))
     (λ not_more. omega (arith, floors)))
 
--- a test that finds what some year has, with the start first or the end first
-pub by_start : (starts ends : ℤ → ℤ) (year u : ℤ) (dst : Bool) → starts year ≤ℤ ends year → (dst ≡ true → IsInSomeYear starts ends u)
-    → (IsInSomeYear starts ends u → dst ≡ true) → IsDstAt starts ends year u dst
-by_start _ _ _ u dst order found all = grind arith
-
-pub by_end : (starts ends : ℤ → ℤ) (year u : ℤ) (dst std : Bool) → ends year <ℤ starts year → dst ≡ not std → (std ≡ true → IsInSomeYear ends starts u)
-    → (IsInSomeYear ends starts u → std ≡ true) → IsDstAt starts ends year u dst
-by_end _ _ _ u dst std order is found all = grind arith
-
 by_own : (firsts lasts : ℤ → ℤ) (margin year u : ℤ) → KeepsMargin firsts margin → KeepsMargin lasts margin → IsBeside margin year u
     → Decides (is_between (firsts year) (lasts year) u) (IsInSomeYear firsts lasts u)
 by_own _ _ _ year u first last beside = Decides-like _ (λ h. (year, h.0, h.1))

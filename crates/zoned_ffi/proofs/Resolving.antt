@@ -5,7 +5,7 @@ use Rattle.tz_base.specs.declared.change.Change.{Change}
 use Rattle.tz_info.{specs.Around.{AreTypesAround, map_both}, proofs.Words.{IsFirstAtOrAfter, ◌≢◌}}
 use Rattle.zoned_ffi.{specs.{Resolved.{IsNoneTaken, IsTakenGapEnd, TakesOf}, declared.resolved.Taken.TheVariants.{InForce}}, proofs.Words.{Choice, IsInRange}}
 use Rattle.zoned_ffi.proofs.Words.{IsWrittenOffsetAt, IsReachedAt, IsResolvedAt, IsShownOnce, arith, IsResolvedStamp, IsTakenType, IsTakenAs, IsUtOffset}
-use Rattle.zoned_ffi.proofs.Words.{LocalType, Resolved, Shows, TypeAt, Zone, inl, inr, ℤ, +ℤ-neg_ℤ_cancel, ap, sym, ◌∙◌, ◌-ℤ◌, Err, Ok, Result, policy_of, refl}
+use Rattle.zoned_ffi.proofs.Words.{LocalType, Resolved, Shows, TypeAt, Zone, inl, inr, ℤ, +ℤ-neg_ℤ_cancel, ◌-ℤ◌, Err, Ok, Result, policy_of, refl}
 use Rattle.zoned_ffi.proofs.Words.{taken_in_range, taken_of, ℕ, ◌≡◌, ◌⊎◌}
 use Rattle.zoned_ffi.specs.declared.choice.ChoiceInGap.TheVariants as in_gap
 use Rattle.offset_core.specs.declared.choice.Choice as any_choice

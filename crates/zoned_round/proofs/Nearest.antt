@@ -1,7 +1,7 @@
 -- The multiples about a number are the greatest, the least and the nearest of all multiples.
 use Rattle.std.proofs.Math.Nat.{mul-le-mul_right}
 use Rattle.zoned_round.proofs.Words.{IsGreatestWith, IsLeastWith, IsMultiple, apart, arith, by_lt_z, floor_div, floors, inl, inr, multiple_above}
-use Rattle.zoned_round.proofs.Words.{multiple_below, nearest_multiple, numbers, pos, ℕ, ℤ, ◌*ℤ◌, ◌+ℤ◌, ◌<ℤ◌, ◌<◌, ◌∙◌, ◌≡◌, ◌≤ℤ◌, ◌≤◌}
+use Rattle.zoned_round.proofs.Words.{multiple_below, nearest_multiple, numbers, pos, ℕ, ℤ, ◌*ℤ◌, ◌+ℤ◌, ◌<ℤ◌, ◌<◌, ◌≡◌, ◌≤ℤ◌, ◌≤◌}
 use Rattle.zoned_round.proofs.Multiples.{above-is, above-near, below-near, nearest-is}
 
 -- products by a span, in the order of their factors

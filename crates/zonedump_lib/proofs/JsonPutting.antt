@@ -4,7 +4,7 @@ use Rattle.zonedump_lib.proofs.CitedWords.{Bound, Change, Difference, Json, Leap
 use Rattle.zonedump_lib.proofs.CitedWords.{Writes, Written, Zone, append-nil, append_assoc, arith, bound_value, change_value, depth, difference_value}
 use Rattle.zonedump_lib.proofs.CitedWords.{differences_value, document, [], end_array, flat_map, flat_map_more, get_or, items_depth, items_of, items_tokens}
 use Rattle.zonedump_lib.proofs.CitedWords.{json_tokens, leap_value, length, map, max_depth, name_value, on_ok_weaker, print, refl, rule_value, take, take_more}
-use Rattle.zonedump_lib.proofs.CitedWords.{tokens, type_value, zone_value, ℕ, ℤ, ◌++◌, ◌+◌, ◌<◌, ◌∷◌, ◌≡◌, ◌≤◌}
+use Rattle.zonedump_lib.proofs.CitedWords.{tokens, type_value, zone_value, ℕ, ◌++◌, ◌+◌, ◌<◌, ◌∷◌, ◌≡◌, ◌≤◌}
 
 pub wrote : {E : Type 0} {r : Result (Unit {0}) E} {old new : Written} {t : Token} → Writes r old new t → Puts r old new (t ∷ [])
 wrote {r = r} w = record { tokens = w.ok; before = on_ok_weaker r (λ _. w.room.0) w.ok }

@@ -52,11 +52,6 @@ abbrev pub IsAhead : Bool → ℤ → ℤ → Type 0
 IsAhead true s u = s <ℤ u
 IsAhead false s u = u ≤ℤ s
 
--- u is ahead of s, and not beyond the second `end`
-abbrev pub IsAheadUpTo : Bool → ℤ → ℤ → ℤ → Type 0
-IsAheadUpTo true s end u = (s <ℤ u) × (u ≤ℤ end)
-IsAheadUpTo false s end u = (end <ℤ u) × (u ≤ℤ s)
-
 -- the stretch of all seconds after `begin` that are ahead of s
 abbrev pub IsStretchAhead : Bool → ℤ → ℤ → ℤ → ℤ → Type 0
 IsStretchAhead true begin s after last = IsLaterOf begin s after × (last ≡ pos 9_223_372_036_854_775_807)

@@ -1,4 +1,4 @@
-use Rattle.tests_pins.proofs.{Words.{arith, ints, pos}, Computed.{calendar}}
+use Rattle.tests_pins.proofs.{Words.{arith, ints}, Computed.{calendar}}
 use Rattle.tests_pins.proofs.allowed_rules.starts_and_counts.Goals as goal
 
 pub returns : goal.returns

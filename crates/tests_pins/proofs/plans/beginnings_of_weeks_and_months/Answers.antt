@@ -1,4 +1,4 @@
-use Rattle.tests_pins.proofs.{Words.{arith, date_only, day_of_year_is, floors, ints, neg_ℤ, one_year, pos, refl, lies_in}, Computed.{calendar}}
+use Rattle.tests_pins.proofs.{Words.{arith, date_only, day_of_year_is, ints, pos, refl}, Computed.{calendar}}
 use Rattle.tests_pins.proofs.plans.beginnings_of_weeks_and_months.Goals as goal
 
 pub returns-clause-first : goal.returns-clause-first

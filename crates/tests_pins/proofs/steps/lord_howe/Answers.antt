@@ -1,7 +1,7 @@
 use Rattle.naive_plans.specs.{ClockSteps.{BeginsStep}, declared.{clock_step.ClockStep.TheVariants.{Part}, part_of_day.PartOfDay.{PartOfDay}}}
 use Rattle.zoned_time.specs.StepBounds.{AreStepBounds}
-use Rattle.tests_pins.proofs.{Words.{AreSetAt, arith, floors, inl, inr, ints, neg_ℤ, pos, refl, ℤ, ◌≡◌}, SetFires.{before_set, from_set, in_fold}}
-use Rattle.tests_pins.proofs.SetSteps.{after_gap, bounds, within_day}
+use Rattle.tests_pins.proofs.{Words.{AreSetAt, arith, floors, inl, ints, pos, refl, ℤ, ◌≡◌}, SetFires.{before_set, from_set, in_fold}}
+use Rattle.tests_pins.proofs.SetSteps.{bounds, within_day}
 use Rattle.tests_pins.proofs.steps.lord_howe.Goals as goal
 
 hour_of_one : (off : ℤ → ℤ) (hour : PartOfDay) → hour.seconds ≡ 3_600 → AreSetAt off (pos 1_617_462_000) (pos 39_600) (pos 37_800)

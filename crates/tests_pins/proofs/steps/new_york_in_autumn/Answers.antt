@@ -1,7 +1,7 @@
 use Rattle.naive_plans.specs.{ClockSteps.{BeginsStep}, declared.{clock_step.ClockStep.TheVariants.{Part}, part_of_day.PartOfDay.{PartOfDay}}}
 use Rattle.zoned_time.specs.StepBounds.{AreStepBounds}
-use Rattle.tests_pins.proofs.{Words.{AreSetAt, arith, floors, inl, inr, ints, neg_ℤ, pos, refl, ℤ, ◌≡◌}, SetFires.{before_set, from_set, in_fold}}
-use Rattle.tests_pins.proofs.SetSteps.{after_gap, bounds, within_day}
+use Rattle.tests_pins.proofs.{Words.{AreSetAt, arith, floors, inl, ints, neg_ℤ, pos, refl, ℤ, ◌≡◌}, SetFires.{before_set, from_set, in_fold}}
+use Rattle.tests_pins.proofs.SetSteps.{bounds, within_day}
 use Rattle.tests_pins.proofs.steps.new_york_in_autumn.Goals as goal
 
 hour_of_one : (off : ℤ → ℤ) (hour : PartOfDay) → hour.seconds ≡ 3_600 → AreSetAt off (pos 1_636_264_800) (neg_ℤ (pos 14_400)) (neg_ℤ (pos 18_000))
