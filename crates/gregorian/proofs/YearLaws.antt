@@ -58,8 +58,7 @@ day_of_years day y lies fits =
     grind (arith, starts_rise (y +ℤ pos 1) (pos 2_147_483_648) (omega (arith, floors)), first_start, last_start)
 
 pub year_of_days : (day y : ℤ) → LiesIn day y → IsDay day → IsYear y
-year_of_days day y lies within =
-    (
+year_of_days day y lies within = (
   omega (arith, floors, starts_less (neg_ℤ (pos 2_147_483_648)) (y +ℤ pos 1) (omega (arith, floors, first_start))),
   omega (arith, floors, starts_less y (pos 2_147_483_648) (omega (arith, floors, last_start))),
 )

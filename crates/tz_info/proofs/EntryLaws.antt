@@ -139,9 +139,9 @@ module _ (z : Zone) (old kept entries : List Transition) (k : ℕ) (s : ℤ) (t 
       let rising : AreRising kept = λ i j d a l. rw (keep.item i d (omega arith), keep.item j d l) (h.made.rising i j d a (omega arith)) in
       let indexes : NameTypes (length z.types) kept = kept_all (λ a. a.type_index < length z.types) old kept s h.before h.made.indexes in
       let own : All (IsOwn z (k + 1)) kept = kept_all (IsOwn z (k + 1)) old kept s h.before (λ j d l.
-          let (a, i, below, own, start) = h.made.own j d l in (a, i, omega arith, own, start)) in
+      let (a, i, below, own, start) = h.made.own j d l in (a, i, omega arith, own, start)) in
       let differ : (j : ℕ) → j < length kept → slice_get z.types (index_of kept (j + 1)) ≢ slice_get z.types (index_of kept j) = λ j l.
-          rw (keep.index j (omega arith), keep.index (j + 1) (omega arith)) (h.made.differ j (omega arith) (inr h.more)) in
+      rw (keep.index j (omega arith), keep.index (j + 1) (omega arith)) (h.made.differ j (omega arith) (inr h.more)) in
       elim h.change [
         | idle e not same ↦ rw e (record {
           rising = rising;
@@ -191,44 +191,44 @@ module _ (z : Zone) (old kept entries : List Transition) (k : ℕ) (s : ℤ) (t 
 module _ (z : Zone) (entries : List Transition) (k all : ℕ) (valid : IsValid z) (made : AreMadeOf z entries k) where
   pub all_come : k ≡ length z.transitions → all ≡ length entries → AreEntries z (record { items = entries; all = all; transitions = z.transitions })
   all_come e a =
-    let few = made.few in
-    let some = made.some in
-    record {
-      listed = refl;
-      rising = made.rising;
-      indexes = made.indexes;
-      few = omega arith;
-      more = omega arith;
-      most = omega arith;
-      some = grind arith;
-      named = λ u x f l. rw (take_all k z.transitions (omega arith)) at (made.named u x l);
-      come = λ u x f. rw a (made.come e u x);
-      leap_time = λ j d h. (made.own j d h).4.leap_time;
-      differ = λ j h m. made.differ j h (inl (omega arith));
-    }
+      let few = made.few in
+      let some = made.some in
+      record {
+        listed = refl;
+        rising = made.rising;
+        indexes = made.indexes;
+        few = omega arith;
+        more = omega arith;
+        most = omega arith;
+        some = grind arith;
+        named = λ u x f l. rw (take_all k z.transitions (omega arith)) at (made.named u x l);
+        come = λ u x f. rw a (made.come e u x);
+        leap_time = λ j d h. (made.own j d h).4.leap_time;
+        differ = λ j h m. made.differ j h (inl (omega arith));
+      }
 
   pub never_come : (t : Transition) → k < length z.transitions → t ≡ get_or z.transitions k t → NeverComes z.leaps t.unix_leap_time
       → all ≡ length entries + 1 → AreEntries z (record { items = entries; all = all; transitions = z.transitions })
   never_come t more item never a =
-    let few = made.few in
-    record {
-      listed = refl;
-      rising = made.rising;
-      indexes = made.indexes;
-      few = omega arith;
-      more = omega arith;
-      most = omega arith;
-      some = (λ h. omega arith, λ h. omega arith);
-      named = λ u x f l. rw (passed_first z.transitions k x (λ i d low h.
-          let late = never u x f l in
-          let n = not_later z.transitions k i d valid.transitions.rising low h in grind (linear, get_or_default))) (made.named u x l);
-      come = λ u x f l.
-          let late = never u x f l in
-          let c = come_by_time z.transitions x k t valid.transitions.rising more in
-          let m = place_most entries u made.rising in grind linear;
-      leap_time = λ j d h. (made.own j d h).4.leap_time;
-      differ = λ j h m. made.differ j h (inr more);
-    }
+      let few = made.few in
+      record {
+        listed = refl;
+        rising = made.rising;
+        indexes = made.indexes;
+        few = omega arith;
+        more = omega arith;
+        most = omega arith;
+        some = (λ h. omega arith, λ h. omega arith);
+        named = λ u x f l. rw (passed_first z.transitions k x (λ i d low h.
+            let late = never u x f l in
+            let n = not_later z.transitions k i d valid.transitions.rising low h in grind (linear, get_or_default))) (made.named u x l);
+        come = λ u x f l.
+            let late = never u x f l in
+            let c = come_by_time z.transitions x k t valid.transitions.rising more in
+            let m = place_most entries u made.rising in grind linear;
+        leap_time = λ j d h. (made.own j d h).4.leap_time;
+        differ = λ j h m. made.differ j h (inr more);
+      }
 
 -- the transitions are the entries, if there is no leap second and each but the last changes the type
 abbrev pub AreChanges : Zone → ℕ → Type 0

@@ -3,7 +3,8 @@ use Rattle.offset_core.specs.WallAnswer.{IsShownBetween}
 use Rattle.tz_info.proofs.{
   SpanLaws.until_less,
   Words.{HasFold, IsInSpan, IsNear, IsSince, IsSpanAt, LocalType, None, Shows, Some, Span, TypeAt, Zone, ap, by_lt_z, linear, pos, ℤ, ◌+ℤ◌, ◌-ℤ◌, ◌<ℤ◌, ◌≡◌},
-  Words.◌≤ℤ◌, ZoneLaws.type_once,
+  Words.◌≤ℤ◌,
+  ZoneLaws.type_once,
 }
 use Rattle.tz_info.specs.Steps.Folds.{AreEndsOfFold, IsBackTo}
 
@@ -28,10 +29,16 @@ module _ (z : Zone) (local first last end : ℤ) (s : Span) (ends : AreEndsOfFol
   first_outside : IsSince s.from first → ⊥
   first_outside since =
       let is_first = ends.is_first in
-      let inside : IsInSpan s first = record { fits = rw is_first at ends.several.at_first.fits; since = since;
-          until = until_less _ _ end at.inside.until (omega linear) } in
-      grind (linear, not_more z _ _ _ end _ ends back at.in_force_then,
-      same_offset z _ _ _ (rw is_first at ends.several.at_first.type) (at.span.each first inside))
+      let inside : IsInSpan s first = record {
+        fits = rw is_first at ends.several.at_first.fits;
+        since = since;
+        until = until_less _ _ end at.inside.until (omega linear);
+      } in
+      grind (
+        linear,
+        not_more z _ _ _ end _ ends back at.in_force_then,
+        same_offset z _ _ _ (rw is_first at ends.several.at_first.type) (at.span.each first inside),
+      )
 
   -- so the span of `end` begins after it
   pub begins : s.from ≡ None → ⊥

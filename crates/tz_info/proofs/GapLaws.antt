@@ -1,9 +1,13 @@
 -- Gaps: the first second at which clocks show more than a local time that they never show.
 use Rattle.tz_info.proofs.{
-  ExtremeLaws.{at_least_least, at_most_greatest}, LeapOrder.leap_times_answer, RuleLaws.rule_year, SegmentLaws.{type_before, type_from},
+  ExtremeLaws.{at_least_least, at_most_greatest},
+  LeapOrder.leap_times_answer,
+  RuleLaws.rule_year,
+  SegmentLaws.{type_before, type_from},
   Words.{AreLess, HasGap, IsFirstAtOrAfter, IsNear, IsNeverShown, IsRefusedBy, IsRuleOrNone, IsTypeRefused, IsValid, IsWindowOf, LocalType, None, Option},
   Words.{RuleOrElse, Shows, Some, TransitionRule, TypeAt, Zone, by_leap_time, by_lt_z, by_rule, floor_div, inl, inr, length, lies_in, linear, pos, segment_of},
-  Words.{ℕ, ℤ, ◌+ℤ◌, ◌-ℤ◌, ◌<ℤ◌, ◌<◌, ◌∙◌, ◌≡◌, ◌≤ℤ◌, ◌⊎◌}, ZoneLaws.{some_once, type_decided},
+  Words.{ℕ, ℤ, ◌+ℤ◌, ◌-ℤ◌, ◌<ℤ◌, ◌<◌, ◌∙◌, ◌≡◌, ◌≤ℤ◌, ◌⊎◌},
+  ZoneLaws.{some_once, type_decided},
 }
 use Rattle.tz_info.specs.declared.rule.transition_rule.TransitionRule.TheVariants.{Alternate, Fixed}
 

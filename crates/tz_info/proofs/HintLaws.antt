@@ -93,9 +93,12 @@ marks_rise times first shift marked ordered from m b j h le some = elim (m.of_it
   | inl z ↦ absurd (omega arith)
   | inr here ↦ elim (m.of_item j (omega arith)) [
     | inl z ↦ omega arith
-    | inr earlier ↦ grind (linear, not_before times (slice_index marked b) (slice_index marked j),
-        first_least times first ordered from (slice_index marked b),
-        stretch_rise first (item_time times (slice_index marked b)) (item_time times (slice_index marked j)) shift)
+    | inr earlier ↦ grind (
+      linear,
+      not_before times (slice_index marked b) (slice_index marked j),
+      first_least times first ordered from (slice_index marked b),
+      stretch_rise first (item_time times (slice_index marked b)) (item_time times (slice_index marked j)) shift,
+    )
   ]
 ]
 

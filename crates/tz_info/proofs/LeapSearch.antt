@@ -73,16 +73,16 @@ pub record AreRefusedFrom (es : List LeapSecond) (k : ℕ) (refused : ℤ) : Typ
 pub refused_more : (es : List LeapSecond) (k : ℕ) (old by new : ℤ) → AreRefusedFrom es k old → pos 4_611_686_018_427_387_904 ≤ℤ by
     → ((u : ℤ) → (by ≤ℤ u) ↔ Refuses es k u) → new ≡ int_min old by → AreRefusedFrom es (k + 1) new
 refused_more es k old by new r late refuses e = record {
-      late = omega (linear, clamps);
-      most = omega (linear, clamps);
-      some = λ u h l. by_lt_z u old
-          (λ before. (k, omega arith, (refuses u).0 (omega (linear, clamps))))
-          (λ from. let (j, less, is) = r.some u from l in (j, omega arith, is));
-      only = λ u j less is. elim (cases_lt j k) [
-        | inl b ↦ let o = r.only u j b is in omega (linear, clamps)
-        | inr m ↦ let o = refuses u in grind (linear, clamps)
-      ];
-    }
+  late = omega (linear, clamps);
+  most = omega (linear, clamps);
+  some = λ u h l. by_lt_z u old
+      (λ before. (k, omega arith, (refuses u).0 (omega (linear, clamps))))
+      (λ from. let (j, less, is) = r.some u from l in (j, omega arith, is));
+  only = λ u j less is. elim (cases_lt j k) [
+    | inl b ↦ let o = r.only u j b is in omega (linear, clamps)
+    | inr m ↦ let o = refuses u in grind (linear, clamps)
+  ];
+}
 
 -- and then the second before it is the last one with a leap time
 pub last_with_leap_time : (es : List LeapSecond) (refused last : ℤ) → AreLeapSeconds es → AreRefusedFrom es (length es) refused

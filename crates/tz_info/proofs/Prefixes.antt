@@ -39,4 +39,4 @@ any_leap = record { unix_leap_time = pos 0; correction = pos 0 }
 -- each index is one of a type
 pub index_within : (n : ℕ) (ts : List Transition) (k : ℕ) → 0 < n → NameTypes n ts → k ≤ length ts → index_of ts k < n
 index_within n ts zero some named h = some
-index_within n ts (suc k) some named h =     rw (last_taken (λ a. a.type_index) 0 ts k any (omega arith)) (named k any (omega arith))
+index_within n ts (suc k) some named h = rw (last_taken (λ a. a.type_index) 0 ts k any (omega arith)) (named k any (omega arith))

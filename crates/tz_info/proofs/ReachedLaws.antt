@@ -76,7 +76,7 @@ module _ (z : Zone) (e : Entries) (k : ℕ) (t : ℤ) (valid : IsValid z) (made 
         let low = since.least in
         let most = listed_at_most z _ g s greatest below has in
         let order = (come_from e.items (suc j) (begin_of e.items k) made.rising some (omega arith)).0
-            (let all = place_begin _ k made.rising (omega arith) within in omega arith) in
+        (let all = place_begin _ k made.rising (omega arith) within in omega arith) in
         let next : ℤ = begin_of e.items (suc j) in
         let limit : IsNear (t +ℤ pos 2_147_483_648) = (omega linear, omega linear) in
         let ahead = (saturated (next +ℤ s.offset) _ limit).1 (omega linear) in

@@ -98,9 +98,16 @@ pub change_again : (a : Alternate) (d : Change) (year k : ℤ) → IsAlternateRu
 change_again a d year k rule is of_year here next =
     let e : (d.at +ℤ cycle *ℤ k) -ℤ pos 1 ≡ (d.at -ℤ pos 1) +ℤ cycle *ℤ k = omega linear in
     let own = year_again _ _ k e year of_year in
-    let time = rule_until _ _ own here next in
-    (record { fits = omega linear; fits_before = omega linear; before = type_again _ _ k e a _ rule is.before (rule_time _ _ own here);
-      after = type_again _ _ k refl a _ rule is.after time; differ = is.differ }, own)
+    let time = rule_until _ _ own here next in (
+      record {
+        fits = omega linear;
+        fits_before = omega linear;
+        before = type_again _ _ k e a _ rule is.before (rule_time _ _ own here);
+        after = type_again _ _ k refl a _ rule is.after time;
+        differ = is.differ;
+      },
+      own,
+    )
 
 -- ---- no change but at a moment, or at the turn of a year
 -- no moment of the year or of its neighbours comes at the second
@@ -124,26 +131,26 @@ pub change_near : (a : Alternate) (year : ℤ) (d : Change) → IsAlternateRule 
 unfolding moments_near
 change_near a year d rule is before = elim (decided _ (is_member int_eq (moments_near a year) d.at)
     (is_member-Decides Decides-int_eq (moments_near a year) d.at)) [
-  | inl found ↦ found
-  | inr none ↦
-      let low = second_low _ _ before in let high = second_high _ _ before in
-      let below : d.at <ℤ new_year (year +ℤ pos 1) = by_lt_z d.at (new_year (year +ℤ pos 1)) (λ l. l) (λ m. absurd (none (6, omega arith, omega linear))) in
-      let here : IsYearOf d.at year = omega (arith, floors) in
-      let first = avoids _ year d.at (λ e. none (0, omega arith, e)) (λ e. none (2, omega arith, e)) (λ e. none (4, omega arith, e)) in
-      let last = avoids _ year d.at (λ e. none (1, omega arith, e)) (λ e. none (3, omega arith, e)) (λ e. none (5, omega arith, e)) in
-      let b = is.before in
-      let same = one_year (floor_div (d.at -ℤ pos 1) 86_400) b.year year b.of_second before in
-      let on = some_same _ _ _ _ (starts_near a rule) (ends_near a rule) first last before here in
-      let off = some_same _ _ _ _ (ends_near a rule) (starts_near a rule) last first before here in
-      absurd (is.differ (alternate_once a d.at d.before d.after (record {
-        year = year;
-        of_second = here;
-        inside = subst IsRuleYear same b.inside;
-        dst = b.dst;
-        when = dst_alike _ _ year year _ d.at _ refl on off (subst (λ (y : ℤ). IsDstAt (start_in a) (end_in a) y (d.at -ℤ pos 1) b.dst) same b.when);
-        shown = b.shown;
-      }) is.after))
-]
+      | inl found ↦ found
+      | inr none ↦
+          let low = second_low _ _ before in let high = second_high _ _ before in
+          let below : d.at <ℤ new_year (year +ℤ pos 1) = by_lt_z d.at (new_year (year +ℤ pos 1)) (λ l. l) (λ m. absurd (none (6, omega arith, omega linear))) in
+          let here : IsYearOf d.at year = omega (arith, floors) in
+          let first = avoids _ year d.at (λ e. none (0, omega arith, e)) (λ e. none (2, omega arith, e)) (λ e. none (4, omega arith, e)) in
+          let last = avoids _ year d.at (λ e. none (1, omega arith, e)) (λ e. none (3, omega arith, e)) (λ e. none (5, omega arith, e)) in
+          let b = is.before in
+          let same = one_year (floor_div (d.at -ℤ pos 1) 86_400) b.year year b.of_second before in
+          let on = some_same _ _ _ _ (starts_near a rule) (ends_near a rule) first last before here in
+          let off = some_same _ _ _ _ (ends_near a rule) (starts_near a rule) last first before here in
+          absurd (is.differ (alternate_once a d.at d.before d.after (record {
+            year = year;
+            of_second = here;
+            inside = subst IsRuleYear same b.inside;
+            dst = b.dst;
+            when = dst_alike _ _ year year _ d.at _ refl on off (subst (λ (y : ℤ). IsDstAt (start_in a) (end_in a) y (d.at -ℤ pos 1) b.dst) same b.when);
+            shown = b.shown;
+          }) is.after))
+    ]
 
 -- ---- years and seconds
 pub same_or_not : (x u : ℤ) → (x ≡ u) ⊎ (x ≡ u → ⊥)

@@ -1,7 +1,9 @@
 -- The segment whose types the rule gives: from the last transition on.
 use Rattle.tz_info.proofs.{
-  SegmentEndLaws.{begun_by, come_by, shows_less}, SegmentLaws.{segment_at, segment_most, type_from, type_in_from},
-  TableLaws.{same_table, table_of, time_then, top_least}, WallSegments.{leap_time_of, near_wide},
+  SegmentEndLaws.{begun_by, come_by, shows_less},
+  SegmentLaws.{segment_at, segment_most, type_from, type_in_from},
+  TableLaws.{same_table, table_of, time_then, top_least},
+  WallSegments.{leap_time_of, near_wide},
   Words.{IsFirstAtOrAfter, IsLeapTime, IsNear, IsValid, IsWide, LocalType, RuleAt, SFits, Some, TransitionRule, TypeAt, Zone, arith, begin_of, cases_lt, inl},
   Words.{inr, length, linear, place_at, segment_of, table_count, top_of, w64, ℕ, ℤ, ◌<◌, ◌≡◌, ◌≤ℤ◌, ◌≤◌},
 }

@@ -27,12 +27,20 @@ moment_is t _ year day u fits of_year shown =
 sides : (f g : ℤ → ℤ) (year u : ℤ) → Rise f → Rise g → u ≡ f year → IsBetween g f year
     → ((f year <ℤ g year) × IsInSomeYear f g u × (IsInSomeYear f g (u -ℤ pos 1) → ⊥))
     ⊎ ((g year <ℤ f year) × IsInSomeYear g f (u -ℤ pos 1) × (IsInSomeYear g f u → ⊥))
-sides f g year u rf rg e (inl (before, after)) = inl (omega linear, (year, omega linear, omega linear), λ i. let (y, a, b) = i in by_lt_z y year
-    (λ l. let r = rg y (year -ℤ pos 1) (omega linear) in omega linear)
-    (λ l. let r = rf year y (omega linear) in omega linear))
-sides f g year u rf rg e (inr (before, after)) = inr (omega linear, (year, omega linear, omega linear), λ i. let (y, a, b) = i in by_lt_z year y
-    (λ l. let r = rg (year +ℤ pos 1) y (omega linear) in omega linear)
-    (λ l. let r = rf y year (omega linear) in omega linear))
+sides f g year u rf rg e (inl (before, after)) = inl (
+  omega linear,
+  (year, omega linear, omega linear),
+  λ i. let (y, a, b) = i in by_lt_z y year
+      (λ l. let r = rg y (year -ℤ pos 1) (omega linear) in omega linear)
+      (λ l. let r = rf year y (omega linear) in omega linear),
+)
+sides f g year u rf rg e (inr (before, after)) = inr (
+  omega linear,
+  (year, omega linear, omega linear),
+  λ i. let (y, a, b) = i in by_lt_z year y
+      (λ l. let r = rg (year +ℤ pos 1) y (omega linear) in omega linear)
+      (λ l. let r = rf y year (omega linear) in omega linear),
+)
 
 -- at a start that comes between ends daylight saving time begins
 begins : (f g : ℤ → ℤ) (year u : ℤ) → Rise f → Rise g → u ≡ f year → IsBetween g f year → IsDstAt f g year u true × IsDstAt f g year (u -ℤ pos 1) false

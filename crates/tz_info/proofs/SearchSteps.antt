@@ -1,7 +1,8 @@
 -- What each step of a search among items in order of time keeps.
 use Rattle.std.proofs.lemmas.List.{get_or-map as mapped_at}
 use Rattle.tz_info.proofs.{
-  DigitLaws.{digits-half, digits-less, digits-more}, FirstItems.{filter_first, le_false, le_true},
+  DigitLaws.{digits-half, digits-less, digits-more},
+  FirstItems.{filter_first, le_false, le_true},
   SearchWords.{AreEnds, AreOrdered, ArePassed, Ends, IsLeft, IsNarrowedTo, List, Near, arith, digits, filter, get_or, int_le, item_time, length, length-map},
   SearchWords.{linear, map, pos, refl, suc, take, zero, ℕ, ℤ, ◌*◌, ◌+◌, ◌-◌, ◌/◌, ◌<ℤ◌, ◌<◌, ◌≡◌, ◌≤ℤ◌, ◌≤◌},
 }

@@ -1,6 +1,9 @@
 -- The first second at which clocks show a local time or a later one: that of the first segment that ends later.
 use Rattle.tz_info.proofs.{
-  ExtremeLaws.at_least_least, GapLaws.near_type, LeapStarts.saturated, SegmentLaws.{begin_first, begins_rise, come_from, place_most, places_rise},
+  ExtremeLaws.at_least_least,
+  GapLaws.near_type,
+  LeapStarts.saturated,
+  SegmentLaws.{begin_first, begins_rise, come_from, place_most, places_rise},
   WallSegments.{near_of, near_wide, offset_there},
   Words.{AreRising, IsFirstAtOrAfter, IsNear, IsRuleOrNone, IsTable, IsUtOffset, IsValid, IsWide, IsWindowOf, List, LocalType, SFits, Some, Transition, TypeAt},
   Words.{Zone, [], arith, begin_of, by_lt_z, cases_lt, get_or, get_or_append_left, get_or_push, index_of, inl, inr, length, length_push, linear, place_at, pos},
@@ -93,8 +96,11 @@ module _ (z : Zone) (ts : List Transition) (top k : ℕ) (l : ℤ) (table : IsTa
         | inr not ↦ omega arith
       ] in
       record {
-        shown = record { fits = omega linear; type = table.in_force at t (omega linear, omega linear) (omega arith) (rw here is.listed);
-            reached = omega linear };
+        shown = record {
+          fits = omega linear;
+          type = table.in_force at t (omega linear, omega linear) (omega arith) (rw here is.listed);
+          reached = omega linear;
+        };
         first = λ v s h. by_lt_z v at
             (λ earlier.
             let rise = places_rise ts v at table.rising (omega linear) in

@@ -1,6 +1,9 @@
 -- Segments: which one a second lies in, and the type in force there.
 use Rattle.tz_info.proofs.{
-  LeapOrder.leap_sums_rise, PassedTransitions.no_items, Prefixes.last_taken, TableSearch.{Between, search_found},
+  LeapOrder.leap_sums_rise,
+  PassedTransitions.no_items,
+  Prefixes.last_taken,
+  TableSearch.{Between, search_found},
   Words.{AreLeapSeconds, AreRising, HasType, IsLeapTime, IsValid, List, LocalType, RuleOrType, Transition, TypeIn, Zone, [], ap, arith, begin_of, by_lt_z},
   Words.{correction_at, get_or, index_of, least_time, length, length-take, linear, passed, pos, refl, segment_of, suc, sym, take, zero, ℕ, ℤ, ◌+ℤ◌, ◌+◌, ◌-ℤ◌},
   Words.{◌<ℤ◌, ◌<◌, ◌↔◌, ◌∙◌, ◌∷◌, ◌≡◌, ◌≤ℤ◌, ◌≤◌},

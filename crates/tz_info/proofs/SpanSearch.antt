@@ -1,6 +1,9 @@
 -- Spans by a rule of two types.
 use Rattle.tz_info.proofs.{
-  ChangeSearch.nearest_moved, RuleChanges.rule_second, SegmentLaws.segments_rise, SpanLaws.span_between,
+  ChangeSearch.nearest_moved,
+  RuleChanges.rule_second,
+  SegmentLaws.segments_rise,
+  SpanLaws.span_between,
   Words.{Alternate, AlternateAt, HasNoChange, IsAhead, IsBegin, IsInTable, IsRuleOrNone, IsSecondOfNearest, IsSpanAt, IsValid, LocalType, Option, SFits, Some},
   Words.{TypeAt, Zone, false, length, linear, segment_of, sym, true, w64, ℤ, ◌<ℤ◌, ◌∙◌, ◌≡◌, ◌≤ℤ◌},
   ZoneChanges.{begins, from_rule, rule_first, rule_found, rule_is_last},

@@ -1,17 +1,25 @@
 -- What a zone's entries say of its table: the seconds before the last transition, or without a rule all, by the segments between entries.
 use Rattle.tz_base.specs.LocalTypes.{IsUtOffset}
 use Rattle.tz_info.proofs.{
-  EntryChanges.{index_there, looks_most}, ExtremeLaws.window_made, GapLaws.{IsNever, gap_found, not_less}, PassedTransitions.no_items,
-  SegmentLaws.{come_at_time, come_from, place_before, place_begin, place_most, segment_here, segment_most}, TableSearch.search_found,
+  EntryChanges.{index_there, looks_most},
+  ExtremeLaws.window_made,
+  GapLaws.{IsNever, gap_found, not_less},
+  PassedTransitions.no_items,
+  SegmentLaws.{come_at_time, come_from, place_before, place_begin, place_most, segment_here, segment_most},
+  TableSearch.search_found,
   WallSegments.{indexes_below, leap_time_of, near_fits, shown_inside, type_in_table, type_of_table, typed_answer},
   Words.{AreBelow, AreExtremes, AreLess, AreListed, Change, Counts, Extremes, HasGap, HasReach, HasType, IsBegin, IsBegun, IsBegunNear, IsIndex, IsJump},
   Words.{IsLeapTime, IsRuleOrNone, IsShownAmong, IsStart, IsTable, IsTableAnswer, IsTableLess, IsValid, IsWallAnswer, IsWide, IsWindowOf, LocalResult},
   Words.{LocalType, MatchOption, None, Option, RoseWithin, SFits, Shown, ShownAmong, Some, TransitionRule, TypeAt, WallIndex, Zone, [], arith, begin_of},
   Words.{cases_lt, index_of, inl, inr, least_time, length, linear, offsets, place_at, pos, refl, segment_of, shown_indexes, slice_get, suc, sym, table_count},
-  Words.{top_of, w32, w64, zero, ℕ, ℤ, ◌*◌, ◌+◌, ◌-ℤ◌, ◌<ℤ◌, ◌<◌, ◌↔◌, ◌∙◌, ◌≡◌, ◌≤ℤ◌, ◌≤◌}, ZoneChanges.time_of,
+  Words.{top_of, w32, w64, zero, ℕ, ℤ, ◌*◌, ◌+◌, ◌-ℤ◌, ◌<ℤ◌, ◌<◌, ◌↔◌, ◌∙◌, ◌≡◌, ◌≤ℤ◌, ◌≤◌},
+  ZoneChanges.time_of,
 }
 use Rattle.tz_info.specs.{
-  Counts.RoseByPieces, Looks.RoseByWallClock, Steps.Entries.{AreEntries, Entries, most_looks}, declared.zone.made.shown.Shown.TheVariants.{Less, Once, Skipped},
+  Counts.RoseByPieces,
+  Looks.RoseByWallClock,
+  Steps.Entries.{AreEntries, Entries, most_looks},
+  declared.zone.made.shown.Shown.TheVariants.{Less, Once, Skipped},
 }
 
 -- ---- the table's seconds
@@ -67,8 +75,11 @@ table_below z l s h = grind (arith, indexes_below)
 pub table_typed : (z : Zone) (l : ℤ) (s : Shown) (answer : LocalResult LocalType) → IsValid z → AreListed z.types (shown_indexes s) answer → IsTableAnswer z l s
     → IsWallAnswer (ShownAmong z 0 (table_count z) l) answer
 table_typed z l s answer valid listed (e, made, wall) =
-    grind (arith, typed_answer z e.items (top_of z.rule e) l (table_of z e valid made)
-    (λ u t fits k. same_table z e valid made u fits (time_then z u t k)))
+    grind (
+      arith,
+      typed_answer z e.items (top_of z.rule e) l (table_of z e valid made)
+          (λ u t fits k. same_table z e valid made u fits (time_then z u t k)),
+    )
 
 -- the rule is asked from the last transition on
 pub start_begun : (z : Zone) (e : Entries) (s : ℤ) → IsValid z → AreEntries z e → IsBegunNear e s → IsStart z.transitions z.leaps (length z.transitions) s

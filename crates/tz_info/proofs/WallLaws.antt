@@ -1,6 +1,7 @@
 -- What follows from a wall clock's answer.
 use Rattle.tz_info.proofs.{
-  Words.{AreShown, IsAmongShown, IsWallAnswer, LocalResult, LocalType, Shows, TypeAt, Zone, linear, one_wall_answer, ℤ, ◌-ℤ◌, ◌≡◌}, ZoneLaws.type_once,
+  Words.{AreShown, IsAmongShown, IsWallAnswer, LocalResult, LocalType, Shows, TypeAt, Zone, linear, one_wall_answer, ℤ, ◌-ℤ◌, ◌≡◌},
+  ZoneLaws.type_once,
 }
 
 -- a second shows the local time by one type

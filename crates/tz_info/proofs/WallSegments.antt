@@ -2,14 +2,18 @@
 use Rattle.offset_core.specs.declared.local_result.LocalResult.TheVariants.{Ambiguous, None, Single}
 use Rattle.std.proofs.lemmas.Option.{slice_get_within}
 use Rattle.tz_info.proofs.{
-  AnswerLaws.{joined_answer, same_answer}, LeapOrder.leap_times_answer, LeapStarts.{saturated, saturated_rise},
+  AnswerLaws.{joined_answer, same_answer},
+  LeapOrder.leap_times_answer,
+  LeapStarts.{saturated, saturated_rise},
   SegmentLaws.{begins_rise, come_at_time, come_from, place_most, places_rise, segment_most, type_before, type_from, type_in_before, type_in_from},
-  ShownLaws.{side_together, wall_together}, TableSearch.Between,
+  ShownLaws.{side_together, wall_together},
+  TableSearch.Between,
   Words.{AreBelow, AreListed, ArePieces, AreRising, HasType, IsLeapTime, IsMerged, IsNear, IsShownAmong, IsShownIn, IsStart, IsTable, IsUtOffset, IsValid},
   Words.{IsWallAnswer, IsWide, List, ListedAmong, LocalResult, LocalType, None as none, Option, Piece, SFits, Shown, ShownAmong, Shows, Some as some},
   Words.{Transition, TransitionRule, TypeAt, TypeIn, Zone, [], ap, arith, begin_of, by_lt_z, cases_lt, cut_of, index_of, inl, inr, le_false, le_true, length},
   Words.{linear, place_at, refl, segment_of, suc, table_count, table_count_by, together, w64, zero, ℕ, ℤ, ⊎_elim, ◌+ℤ◌, ◌+◌, ◌-ℤ◌, ◌<ℤ◌, ◌<◌, ◌↔◌, ◌∷◌, ◌≡◌},
-  Words.{◌≤ℤ◌, ◌≤◌, ◌⊎◌}, ZoneLaws.leap_time_decided,
+  Words.{◌≤ℤ◌, ◌≤◌, ◌⊎◌},
+  ZoneLaws.leap_time_decided,
 }
 use Rattle.tz_info.specs.{Steps.Pieces.opening, declared.zone.made.shown.Shown.TheVariants.{Less, Once, Skipped}}
 

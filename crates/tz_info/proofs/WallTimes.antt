@@ -1,8 +1,10 @@
 -- Every wall clock has an answer.
 use Rattle.tz_info.proofs.{
-  AnswerLaws.{behind_answer, same_answer}, ListFaults.{both_known, equal_known},
+  AnswerLaws.{behind_answer, same_answer},
+  ListFaults.{both_known, equal_known},
   Words.{IsRuleOrNone, IsValid, IsWallAnswer, LocalResult, LocalType, Shows, TypeAt, Zone, by_lt_z, inl, inr, joined, linear, neg_ℤ, pos, suc, zero, ℕ, ℤ},
-  Words.{◌+ℤ◌, ◌<ℤ◌, ◌≡◌, ◌≤ℤ◌, ◌⊎◌}, ZoneLaws.{fits_or_not, type_decided, type_not_refused, type_once},
+  Words.{◌+ℤ◌, ◌<ℤ◌, ◌≡◌, ◌≤ℤ◌, ◌⊎◌},
+  ZoneLaws.{fits_or_not, type_decided, type_not_refused, type_once},
 }
 
 -- each second shows a type, or shows none

@@ -102,13 +102,13 @@ module _ (z : Zone) (valid : IsValid z) (limits : IsRuleOrNone z.rule) where
     turn_back : (v offset : ℤ) → IsStandard (TypeAt z) offset v → v <ℤ u → ((d : Change) → Turn false d → v <ℤ d.at → ⊥) → ⊥
     turn_back v offset s l none =
         let same = keeps (unsigned_abs (u -ℤ v)) v u s.type t (omega (arith, ints)) s.fits fits s.in_force_then k
-            (λ d is low high e. absurd (none d (record { is = is; to = cc; beyond = high }) low)) in cc
+        (λ d is low high e. absurd (none d (record { is = is; to = cc; beyond = high }) low)) in cc
 
     turn_on : (v offset : ℤ) → IsStandard (TypeAt z) offset v → u <ℤ v → ((d : Change) → Turn true d → d.at ≤ℤ v → ⊥) → ⊥
     turn_on v offset s l none =
         let same = keeps (unsigned_abs (v -ℤ u)) u v t s.type (omega (arith, ints)) fits s.fits k s.in_force_then
-            (λ d is low high e. flags_equal d.after.dst t.dst
-            (λ differ. absurd (none d (record { is = is; to = grind arith; beyond = low }) high))) in cc
+        (λ d is low high e. flags_equal d.after.dst t.dst
+        (λ differ. absurd (none d (record { is = is; to = grind arith; beyond = low }) high))) in cc
 
     pub standard_back : (found : Option Change) → MatchOption found (HasNoTurn false (TypeAt z) (IsWanted true t) u)
         (IsNearestTurn false (TypeAt z) (IsWanted true t) u) → IsFound (IsBefore (TypeAt z) u) (option_map (λ c. c.before.offset) found)

@@ -2,17 +2,26 @@
 pub use Rattle.offset_core.specs.Offset.{IsWithinDay}
 pub use Rattle.std.specs.Prelude.{Bool, FitsSigned, MatchOption, option_map, suc, zero, ℕ, ◌+ℤ◌, ◌-◌, ◌<◌, ◌↔◌}
 pub use Rattle.tz_info.{
-  proofs.ChangeLaws.{one_change}, proofs.SpanLaws.{typed_between},
+  proofs.ChangeLaws.{one_change},
+  proofs.SpanLaws.{typed_between},
   proofs.Words.{Change, IsNearest, IsNearestChange, IsRuleOrNone, IsValid, LocalType, None, Option, Precedes, SFits, Some, TypeAt, Zone, ap, arith, by_lt_z},
   proofs.Words.{false, false≢true, inl, inr, ints, neg_ℤ, pos, refl, rules, subst, sym, to_z-of_z, true, unsigned_abs, w32, w64, ℤ, ◌-ℤ◌, ◌<ℤ◌, ◌∙◌, ◌≡◌, ◌≢◌},
-  proofs.Words.{◌≤ℤ◌}, proofs.ZoneLaws.{type_once}, specs.Changes.{IsChange}, specs.HeldChanges.{change_held},
+  proofs.Words.{◌≤ℤ◌},
+  proofs.ZoneLaws.{type_once},
+  specs.Changes.{IsChange},
+  specs.HeldChanges.{change_held},
   specs.declared.rule.transition_rule.TransitionRule.{TransitionRule},
 }
 pub use Rattle.tz_saving.specs.{
-  Amounts.{IsAmount, IsByCandidates, IsFlaggedAmount, IsNextCandidate, IsNextUse, IsOfTwo}, Amounts.IsOfTwo.{Both, Of_next, Usual},
-  Candidates.{AreCandidates, IsCandidate, IsOnly}, Reach.{reach}, Savings.{IsSavingAt},
-  Sides.{HasNoStandard, IsAfter, IsBefore, IsFirstAfter, IsFound, IsRuleStandard, IsSoonAfter, IsStandard}, Sides.IsAfter.{At_a_second, Of_rule},
-  Steps.Walks.{HasBetween, HasNoTurn, IsBeyond, IsNearestTurn, IsTurn, IsWalkedTo, IsWanted, far_second, far_type}, declared.saving.Saving.{Saving},
+  Amounts.{IsAmount, IsByCandidates, IsFlaggedAmount, IsNextCandidate, IsNextUse, IsOfTwo},
+  Amounts.IsOfTwo.{Both, Of_next, Usual},
+  Candidates.{AreCandidates, IsCandidate, IsOnly},
+  Reach.{reach},
+  Savings.{IsSavingAt},
+  Sides.{HasNoStandard, IsAfter, IsBefore, IsFirstAfter, IsFound, IsRuleStandard, IsSoonAfter, IsStandard},
+  Sides.IsAfter.{At_a_second, Of_rule},
+  Steps.Walks.{HasBetween, HasNoTurn, IsBeyond, IsNearestTurn, IsTurn, IsWalkedTo, IsWanted, far_second, far_type},
+  declared.saving.Saving.{Saving},
 }
 unfoldable pub use Rattle.tz_saving.specs.Reach.{HasChanges}
 

@@ -123,5 +123,9 @@ fn far_side<'a>(change: HeldChange<'a>, forward: bool) -> (i64, &'a LocalTimeTyp
 fn is_wanted(found: &LocalTimeType, standard: bool, local: &LocalTimeType) -> bool
     ensures { IsTrue result ↔ IsWanted standard local.now found.now }
 {
-    if standard { !found.is_dst() } else { *found == *local }
+    if standard {
+        !found.is_dst()
+    } else {
+        *found == *local
+    }
 }

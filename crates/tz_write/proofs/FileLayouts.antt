@@ -35,7 +35,6 @@ has_text text designations none h = let at = place_of text designations in recor
 pub no_zero : (name : Option (List ℕ)) → IsNameOrNone name → HasNoZero (name_or_none name)
 no_zero name h = grind (arith, no_zeros, names_are, all_of)
 
-
 -- a text and its 0 byte are in the bytes
 pub record Stands (bytes text : List ℕ) : Type 0 where
   pub before : List ℕ
@@ -429,8 +428,8 @@ none_laid [] others named names unplaced none = unplaced (All-nil _)
 none_laid (t ∷ ts) others named names unplaced none =
     let types = t ∷ ts in
     let s : All (Served others) types = λ i d l.
-        let h = names i d l in let name = named i d l in let at = place_of_stands _ _ (stands_of h.stands) in let size = at_size h.stands in
-        grind (arith, nat_tests, has_text) in
+    let h = names i d l in let name = named i d l in let at = place_of_stands _ _ (stands_of h.stands) in let size = at_size h.stands in
+    grind (arith, nat_tests, has_text) in
     let (place, inside, above) = greatest others t t ts in
     let m = get_or types place t in let sm = s place t inside in
     let found = in_order_in _ m sm types s above place t inside in
@@ -466,7 +465,7 @@ module _ (types : List LocalType) (some : 0 < length types) (names : AreNames ty
   shortest : (bytes : List ℕ) → HavePlaces bytes types → length bytes ≤ length (laid [] types) → AreShortest bytes types
   shortest bytes h short =
       let named : AreNamesIn bytes types = λ i d l. let p = h i d l in
-          record { place = _; stands = has_text _ bytes (no_zero _ (names i d l)) p.stands; named = p.named } in
+      record { place = _; stands = has_text _ bytes (no_zero _ (names i d l)) p.stands; named = p.named } in
       grind (arith, in_order_short)
 
   pub laid_in_order : (bytes : List ℕ) → bytes ≡ laid [] types → HavePlaces bytes types → AreLaid types bytes

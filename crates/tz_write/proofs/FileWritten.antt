@@ -4,7 +4,8 @@ use Rattle.tz_base.specs.Grammar.{At, Byte, Check, Ended, Exact, Grammar, Here, 
 use Rattle.tz_info.specs.declared.file.header.{Place.TheVariants.{First, Second}, Version.TheVariants.{One, Three, Two}}
 use Rattle.tz_info.proofs.Words.{AreRecords, FitsSigned, SpellLeapSeconds, take_more, w32, w64}
 use Rattle.tz_write.proofs.{
-  FileLayouts.{AreLaid, has_text, laid_of, laid_size, no_zero}, RuleTexts.{extensions, rule_named, rule_text, text_are, text_begins, text_some},
+  FileLayouts.{AreLaid, has_text, laid_of, laid_size, no_zero},
+  RuleTexts.{extensions, rule_named, rule_text, text_are, text_begins, text_some},
   TextBytes.{AreTextBytes, begins_bare, ends_bare, limits, no_zeros},
   Words.{All, All-cons, All-more, All-nil, All-tail, AreBytes, AreNamesIn, Bool, Counts, CountsAgree, FilePieces, Fits-of_z, HasCounts, HasPieces, HasPlace},
   Words.{HasTimeOf64Bits, HavePlaces, Header, IsAscii-from_all, IsEntry, IsFooter, IsNamedIn, IsRoomOf, IsRuleOrNone, IsSound, IsType, IsTzFile},
@@ -85,7 +86,9 @@ CountsFit c = (c.ut_local < 2 ^ 32) × (c.standard_wall < 2 ^ 32) × (c.leap_sec
 counts_are : (c : Counts) (rest : List ℕ) → CountsFit c → Spells six_counts (counts_bytes c ++ rest) c rest
 unfolding counts_bytes number_bytes six_counts
 counts_are c rest (a, b, d, e, f, g) = (
-  _, _, number_is _ _ a,
+  _,
+  _,
+  number_is _ _ a,
   (_, _, number_is _ _ b, (_, _, number_is _ _ d, (_, _, number_is _ _ e, (_, _, number_is _ _ f, (_, _, number_is _ _ g, (refl, refl)))))),
 )
 
@@ -161,9 +164,12 @@ module _ (extended : Bool) (text d : List ℕ) (z : Zone) (size : length d ≤ 2
 
   second_is : Spells later_version (second_half extended text d z) (pieces_of extended text d z) []
   unfolding second_half pieces_of later_version
-  second_is =
-      (_, _, header_is Second extended _ _ (grind arith) (grind (arith, some_designations)),
-      (_, _, second_block (footer_bytes text), (_, [], (refl, refl), (refl, refl))))
+  second_is = (
+    _,
+    _,
+    header_is Second extended _ _ (grind arith) (grind (arith, some_designations)),
+    (_, _, second_block (footer_bytes text), (_, [], (refl, refl), (refl, refl))),
+  )
 
   -- ---- the whole
   file_pieces : HasPieces (file_bytes extended text d z) (pieces_of extended text d z)
@@ -298,15 +304,17 @@ module _ (z : Zone) (some : 0 < length z.types) (fits : IsRuleOrNone z.rule) (so
   pub written_is : (d text : List ℕ) (extended : Bool) (bytes : List ℕ) → HasCounts z → AreLaid z.types d → IsFooterText z.rule text extended
       → bytes ≡ file_bytes extended text d z → IsWrittenFile z bytes
   written_is d text extended bytes counts laid footer e =
-    let p : IsPlain text × SaysRule extended text z.rule = grind (arith, rule_named, rule_text, text_begins, text_are) in record {
-    spells = rw e (file_is extended text d z (laid_size _ _ laid.1) counts some laid.0 sound p.0 p.1);
-    text = _;
-    extended = _;
-    footer = footer;
-    version = rw e (has_version extended text d z);
-    designations = d;
-    names = laid.2; order = laid.1; layout = e;
-  }
+      let p : IsPlain text × SaysRule extended text z.rule = grind (arith, rule_named, rule_text, text_begins, text_are) in record {
+        spells = rw e (file_is extended text d z (laid_size _ _ laid.1) counts some laid.0 sound p.0 p.1);
+        text = _;
+        extended = _;
+        footer = footer;
+        version = rw e (has_version extended text d z);
+        designations = d;
+        names = laid.2;
+        order = laid.1;
+        layout = e;
+      }
 
   pub file_some : IsWritable z → (bytes : List ℕ) × IsWrittenFile z bytes
   file_some h =

@@ -361,8 +361,8 @@ module _ (rule : TransitionRule) (fits : IsRule rule) where
 
     text_is : (needed : Bool) × IsWrittenText rule (spelled_rule rule) needed
     text_is =
-      let p : (AreTimesOf false rule) ⊎ (¬ (AreTimesOf false rule)) = grind (arith, ints) in
-      elim p [ inl p ↦ (false, grind (arith, written true)) | inr n ↦ (true, grind (arith, written false)) ]
+        let p : (AreTimesOf false rule) ⊎ (¬ (AreTimesOf false rule)) = grind (arith, ints) in
+        elim p [ inl p ↦ (false, grind (arith, written true)) | inr n ↦ (true, grind (arith, written false)) ]
 
     pub text_some : (text : List ℕ) × (needed : Bool) × IsWrittenText rule text needed
     text_some = let s = text_is in (spelled_rule rule, s.0, s.1)

@@ -1,7 +1,7 @@
 -- The multiples about a number are the greatest, the least and the nearest of all multiples.
 use Rattle.std.proofs.Math.Nat.{mul-le-mul_right}
 use Rattle.zoned_round.proofs.Words.{IsGreatestWith, IsLeastWith, IsMultiple, apart, arith, by_lt_z, floor_div, floors, inl, inr, multiple_above}
-use Rattle.zoned_round.proofs.Words.{multiple_below, nearest_multiple, numbers, pos, ℕ, ℤ, ◌*ℤ◌, ◌+ℤ◌, ◌<ℤ◌, ◌<◌, ◌≡◌, ◌≤ℤ◌, ◌≤◌}
+use Rattle.zoned_round.proofs.Words.{multiple_below, nearest_multiple, numbers, pos, ℕ, ℤ, ◌*ℤ◌, ◌+ℤ◌, ◌<ℤ◌, ◌<◌, ◌∙◌, ◌≡◌, ◌≤ℤ◌, ◌≤◌}
 use Rattle.zoned_round.proofs.Multiples.{above-is, above-near, below-near, nearest-is}
 
 -- products by a span, in the order of their factors
@@ -18,8 +18,11 @@ scaled-next = grind (numbers, next-is, scaled)
 module _ (n : ℤ) (span : ℕ) (some : 0 < span) where
   -- one that isn't above n isn't above the one below n
   not_above : (k : ℤ) → (k *ℤ pos span) ≤ℤ n → (k *ℤ pos span) ≤ℤ multiple_below n span
-  not_above k h = let near = below-near n span some in
-      grind (arith, floors, by_lt_z, multiple_below, floor_div, scaled)
+  not_above k h =
+      let near = below-near n span some in
+      by_lt_z {P = (k *ℤ pos span) ≤ℤ multiple_below n span} (floor_div n span) k
+      (λ past. let next = scaled-next (floor_div n span) k span past in absurd (omega (arith, floors)))
+      (λ within. scaled k (floor_div n span) span within)
 
   -- one that isn't below n isn't below the one above n
   not_below : (k : ℤ) → n ≤ℤ (k *ℤ pos span) → multiple_above n span ≤ℤ (k *ℤ pos span)
@@ -27,7 +30,7 @@ module _ (n : ℤ) (span : ℕ) (some : 0 < span) where
     | inl same ↦ omega (arith, floors)
     | inr next ↦ by_lt_z {P = multiple_above n span ≤ℤ (k *ℤ pos span)} (floor_div n span) k
         (λ past. let more = scaled-next (floor_div n span) k span past in omega (arith, floors))
-        (λ within. grind (arith, floors))
+        (λ within. let less = scaled k (floor_div n span) span within in absurd (omega (arith, floors)))
   ]
 
   pub below-greatest : IsGreatestWith (λ m. IsMultiple span m × (m ≤ℤ n)) (multiple_below n span)
@@ -35,8 +38,8 @@ module _ (n : ℤ) (span : ℕ) (some : 0 < span) where
 
   above-multiple : IsMultiple span (multiple_above n span)
   above-multiple = elim (above-is n span some) [
-    | inl same ↦ grind arith
-    | inr next ↦ grind (arith, floor_div, next-is)
+    | inl same ↦ (floor_div n span, same.0)
+    | inr next ↦ (floor_div n span +ℤ pos 1, next.0 ∙ next-is (floor_div n span) span)
   ]
 
   pub above-least : IsLeastWith (λ m. IsMultiple span m × (n ≤ℤ m)) (multiple_above n span)

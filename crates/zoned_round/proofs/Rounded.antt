@@ -11,8 +11,9 @@ of_total-next = grind numbers
 
 moved-next : (r : Reading) (d : ℤ) → neg_ℤ (pos 8_334_601_228_800) ≤ℤ r.s → (r.s +ℤ pos 1) ≤ℤ pos 8_210_266_876_799
     → r.f < 2_000_000_000 → pos 0 ≤ℤ (pos r.f +ℤ d) → d <ℤ pos 1_000_000_000 → IsInRange (moved r d).s
-moved-next r d low high f first last = by_lt_z {P = IsInRange (moved r d).s} (pos r.f) (pos 1_000_000_000)
-    (grind (arith, floors, moved-plain, of_total-next))
+moved-next r d low high f first last =
+    by_lt_z {P = IsInRange (moved r d).s} (pos r.f) (pos 1_000_000_000)
+    (λ plain. rw (moved-plain r d (omega (arith, floors))) (of_total-next r.s _ low high (omega (arith, floors)) (omega (arith, floors))))
     (λ leap. rw (moved-leap r d (omega (arith, floors)))
     (grind (numbers, floors, by_lt_z, moved_leap-within, moved_leap-behind, of_total-next)))
 
@@ -26,5 +27,6 @@ per_digit digits = (one-le-pow (9 - digits) 10 (omega arith), pow-le-pow_right {
 pub rounded-in_range : (r : Reading) (digits : ℕ) → r.f < 2_000_000_000
     → neg_ℤ (pos 8_334_601_228_800) ≤ℤ r.s → (r.s +ℤ pos 1) ≤ℤ pos 8_210_266_876_799
     → IsInRange (rounded r digits).s
-rounded-in_range r digits f low high = let unit = per_digit digits in let way = nearest-some r.f (grind arith) unit.0 in
+rounded-in_range r digits f low high =
+    let unit = per_digit digits in let way = nearest-some r.f (nanos_per_digit digits) unit.0 in
     moved-next r (nearest_multiple (pos r.f) (nanos_per_digit digits) -ℤ pos r.f) low high f (omega (arith, floors)) (omega (arith, floors))

@@ -118,7 +118,7 @@ begins_answers done left output more z rest s =
     let cut = is_cut (rest ++ left) in
     let next = lines_covered z (ended_lines cut.0) given in
     let after : Answered z rest left next.0 z cut.1 =
-        record { pieces = cut.0; front = cut.1; cut = cut.2; kept = inl refl; lone = cut.2.last; answered = next.1 } in
+    record { pieces = cut.0; front = cut.1; cut = cut.2; kept = inl refl; lone = cut.2.last; answered = next.1 } in
     (more ++ (next.0 ++ _), simp append_assoc at (answers_all _ (answered_join s after) (last_covered z cut.1 given).1))
 
 -- answers to the lines before one that could not be answered

@@ -24,7 +24,7 @@ module _ (z : Option Zone) (b bytes : List ℕ) (h : HasNoNewline b) (k : HasNoN
       → Answered z b (bytes ++ codes "\n") (answer ++ codes "\n") next []
   answered_line answer next line =
       let cut : IsSplit (b ++ (bytes ++ codes "\n")) ((b ++ bytes) ∷ []) [] =
-          grind (arith, append-nil, append_assoc, All-append (λ c. c ≢ 10) b bytes h k) in
+      grind (arith, append-nil, append_assoc, All-append (λ c. c ≢ 10) b bytes h k) in
       grind (arith, append-nil)
 
 -- ---- what is kept for the beginning of a line

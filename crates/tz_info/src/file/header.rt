@@ -58,11 +58,7 @@ pub fn read_header(cursor: &mut Cursor<'_>, place: Place) -> Result<Header, Erro
     Ok(Header { version, counts })
 }
 
-#[tactic(
-    auto,
-    using(crate::specs::FileHeaders::magic_test),
-    unfolding(crate::specs::FileHeaders::tzif, tz_base::specs::Fronts::exact_at),
-)]
+#[tactic(auto, using(crate::specs::FileHeaders::magic_test), unfolding(crate::specs::FileHeaders::tzif, tz_base::specs::Fronts::exact_at),)]
 pub fn read_magic(cursor: &mut Cursor<'_>) -> Result<(), Error>
     ensures rest { Gives (λ unit. (unit, cursor.new)) result (read tzif cursor.old) }
     ensures magic { HasOtherMagic cursor.old

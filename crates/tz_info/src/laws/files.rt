@@ -20,12 +20,7 @@ pub fn rule_is_in_limits()
 
 /// A file has a fault if and only if it spells no valid zone. It has one first fault, and that is
 /// not running out of memory.
-#[tactic(auto, using(
-    crate::proofs::TzFileLaws::fault_low,
-    crate::proofs::TzFileLaws::fault_once,
-    crate::proofs::TzFileLaws::fault_or_zone,
-    crate::proofs::TzFileLaws::has_fault,
-))]
+#[tactic(auto, using(crate::proofs::TzFileLaws::fault_low, crate::proofs::TzFileLaws::fault_once, crate::proofs::TzFileLaws::fault_or_zone, crate::proofs::TzFileLaws::has_fault,))]
 pub fn fault_or_zone()
     ensures apart { (bytes : List ℕ) (e : Error) (zone : Zone) → IsFileFault bytes e
         → IsTzFile bytes zone → ¬ (IsValid zone) }
@@ -37,10 +32,7 @@ pub fn fault_or_zone()
 {}
 
 /// The fault of a file has one position, in the file or at its end.
-#[tactic(auto, using(
-    crate::proofs::FilePlaceOnce::file_place_once,
-    crate::proofs::FilePlaceOnce::file_place_within,
-))]
+#[tactic(auto, using(crate::proofs::FilePlaceOnce::file_place_once, crate::proofs::FilePlaceOnce::file_place_within,))]
 pub fn fault_place()
     ensures once { (bytes : List ℕ) (a b : ℕ) → IsFilePlace bytes a → IsFilePlace bytes b
         → a ≡ b }

@@ -30,11 +30,7 @@ pub fn zone_is_valid()
 
 /// A text with a fault spells no rule. It has one first fault, and that is not running out of
 /// memory.
-#[tactic(auto, using(
-    crate::proofs::TextLaws::one_fault,
-    crate::proofs::TextLaws::refused_or_spelled,
-    crate::proofs::TextLaws::text_low,
-))]
+#[tactic(auto, using(crate::proofs::TextLaws::one_fault, crate::proofs::TextLaws::refused_or_spelled, crate::proofs::TextLaws::text_low,))]
 pub fn fault_or_rule()
     ensures apart { (extended : Bool) (bytes : List ℕ) (e : Error) (rule : TransitionRule)
         → IsTextFault extended bytes e → ¬ (IsTzText extended bytes rule) }

@@ -14,9 +14,7 @@ use tz_info::{Error, TimeZone};
 
 /// The header of Honolulu's file (RFC 8536 appendix B.2), of version 2, and the first one of
 /// Jerusalem's (appendix B.4), of version 3.
-#[tactic(auto, unfolding(
-    crate::specs::FileBytes::header_bytes, crate::specs::FileBytes::counts_bytes, crate::specs::FileBytes::number_bytes,
-))]
+#[tactic(auto, unfolding(crate::specs::FileBytes::header_bytes, crate::specs::FileBytes::counts_bytes, crate::specs::FileBytes::number_bytes,))]
 pub fn headers()
     ensures honolulu { header_bytes false (record {
       ut_local = 6;
@@ -49,10 +47,7 @@ pub fn headers()
 
 /// The names of Honolulu's file (RFC 8536 appendix B.2) are in the order of its types, of which two
 /// have the name `HST`.
-#[tactic(auto, unfolding(
-    crate::specs::FileLayouts::laid, crate::specs::FileLayouts::before_last, crate::specs::FileLayouts::with_texts,
-    crate::specs::FileLayouts::with_text, crate::specs::FileDesignations::begins,
-))]
+#[tactic(auto, unfolding(crate::specs::FileLayouts::laid, crate::specs::FileLayouts::before_last, crate::specs::FileLayouts::with_texts, crate::specs::FileLayouts::with_text, crate::specs::FileDesignations::begins,))]
 pub fn names()
     ensures { laid [] (
         record { offset = neg_ℤ (pos 37_886); dst = false; name = Some (codes "LMT") } ∷

@@ -15,12 +15,7 @@ use crate::file::types::read_type;
 use tz_base::{Error, Expected};
 
 /// Returns the position of the first fault: in a type, an indicator, the footer or the lists.
-#[tactic(auto, using(
-    crate::proofs::FilePlaceOnce::footer_within,
-    crate::specs::FilePlaces::In_footer,
-    crate::specs::FilePlaces::In_indicators,
-    crate::specs::FilePlaces::In_type,
-))]
+#[tactic(auto, using(crate::proofs::FilePlaceOnce::footer_within, crate::specs::FilePlaces::In_footer, crate::specs::FilePlaces::In_indicators, crate::specs::FilePlaces::In_type,))]
 pub fn place_in_contents(pieces: &Pieces<'_>, places: PartPlaces) -> usize
     requires lengths { HasLengths (pieces_of pieces.now) }
     requires places { ArePartPlaces (pieces_of pieces.now) places }

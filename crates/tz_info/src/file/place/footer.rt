@@ -30,14 +30,7 @@ fn fault_in_bytes(extended: bool, bytes: &[u8]) -> Option<usize>
     }
 }
 
-#[tactic(auto, using(
-    crate::proofs::FilePlaceOnce::text_place,
-    crate::proofs::FilePlaceOnce::text_fits,
-    crate::proofs::FilePlaceOnce::text_says,
-    crate::proofs::FooterLaws::between,
-    crate::specs::FilePlaces::No_first,
-    crate::specs::FilePlaces::No_last,
-))]
+#[tactic(auto, using(crate::proofs::FilePlaceOnce::text_place, crate::proofs::FilePlaceOnce::text_fits, crate::proofs::FilePlaceOnce::text_says, crate::proofs::FooterLaws::between, crate::specs::FilePlaces::No_first, crate::specs::FilePlaces::No_last,))]
 fn fault_in_utf8(extended: bool, bytes: &[u8]) -> Option<usize>
     requires { IsUtf8 bytes.now }
     ensures { FaultInFooter extended (Some bytes.now) result }
@@ -55,15 +48,7 @@ fn fault_in_utf8(extended: bool, bytes: &[u8]) -> Option<usize>
     }
 }
 
-#[tactic(auto, using(
-    crate::proofs::FilePlaceOnce::no_zero,
-    crate::proofs::PosixLaws::not_empty,
-    crate::proofs::TextLaws::fault_by,
-    crate::proofs::TextLaws::found_by,
-    crate::specs::FilePlaces::Colon,
-    crate::specs::FilePlaces::In_string,
-    crate::specs::FilePlaces::Zero,
-))]
+#[tactic(auto, using(crate::proofs::FilePlaceOnce::no_zero, crate::proofs::PosixLaws::not_empty, crate::proofs::TextLaws::fault_by, crate::proofs::TextLaws::found_by, crate::specs::FilePlaces::Colon, crate::specs::FilePlaces::In_string, crate::specs::FilePlaces::Zero,))]
 fn fault_in_text(extended: bool, text: &[u8]) -> Option<usize>
     ensures { FaultInText extended text.now result }
 {

@@ -35,11 +35,7 @@ fn left_of_block(bytes: &[u8], header: &Header) -> usize
 }
 
 // After the first block: nothing in version 1, or else a second header with its block.
-#[tactic(
-    auto,
-    using(crate::proofs::FilePlaceOnce::first_left),
-    unfolding(crate::specs::FilePieces::after_first_block),
-)]
+#[tactic(auto, using(crate::proofs::FilePlaceOnce::first_left), unfolding(crate::specs::FilePieces::after_first_block),)]
 fn left_after_block(bytes: &[u8], version: Version) -> usize
     ensures { (c : Counts) (p : Parts)
         → result ≡ length (from_fault (after_first_block version c p) bytes.now) }
@@ -50,11 +46,7 @@ fn left_after_block(bytes: &[u8], version: Version) -> usize
     }
 }
 
-#[tactic(
-    auto,
-    using(crate::proofs::FilePlaceOnce::block_left),
-    unfolding(crate::specs::FilePieces::later_version),
-)]
+#[tactic(auto, using(crate::proofs::FilePlaceOnce::block_left), unfolding(crate::specs::FilePieces::later_version),)]
 fn left_of_later(bytes: &[u8]) -> usize
     ensures { result ≡ length (from_fault later_version bytes.now) }
 {

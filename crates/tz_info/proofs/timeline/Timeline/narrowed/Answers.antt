@@ -1,5 +1,6 @@
 use Rattle.tz_info.proofs.{
-  SearchSteps.{near_earlier, near_later, time_read}, SearchWords.{arith, length-map, linear, refl, ◌+◌, ◌/◌},
+  SearchSteps.{near_earlier, near_later, time_read},
+  SearchWords.{arith, length-map, linear, refl, ◌+◌, ◌/◌},
   timeline.Timeline.narrowed.Goals.{else-second, then-second},
 }
 use Rattle.tz_info.proofs.timeline.Timeline.narrowed.Goals as goal

@@ -1,5 +1,7 @@
 use Rattle.tz_info.proofs.{
-  Fits.fits, HintLaws.near_hinted, SearchSteps.{all_passed, digits-halved, none_passed},
+  Fits.fits,
+  HintLaws.near_hinted,
+  SearchSteps.{all_passed, digits-halved, none_passed},
   SearchWords.{AreEnds, AreHints, SFits, arith, length, length-map, linear, map, pow_pos, rules, w64, ◌≡◌},
   timeline.Timeline.passed.{Given.Over, Goals.After-self},
 }

@@ -1,5 +1,6 @@
 use Rattle.tz_info.proofs.{
-  SearchSteps.{digits-halved, digits-three, near_one, one_step, two_steps}, SearchWords.arith,
+  SearchSteps.{digits-halved, digits-three, near_one, one_step, two_steps},
+  SearchWords.arith,
   timeline.Timeline.passed_near.Goals.{else-left-gt1, then-left-gt1+else-left-gt1-2, then-left-gt1+then-left-gt1-2},
 }
 use Rattle.tz_info.proofs.timeline.Timeline.passed_near.Goals as goal

@@ -1,5 +1,7 @@
 use Rattle.tz_info.proofs.{
-  HintLaws.marked_more, SearchSteps.time_read, SearchWords.{SFits, arith, item_time, length-set, linear, map, rules, stretch_of, to_z-of_z, w64, ◌/◌, ◌^◌, ◌≡◌},
+  HintLaws.marked_more,
+  SearchSteps.time_read,
+  SearchWords.{SFits, arith, item_time, length-set, linear, map, rules, stretch_of, to_z-of_z, w64, ◌/◌, ◌^◌, ◌≡◌},
   timeline.hints.mark.Given.Over,
 }
 use Rattle.tz_info.proofs.timeline.hints.mark.Goals as goal

@@ -2,7 +2,7 @@ use Rattle.zoneq_lib.proofs.CitedWords.{arith, nil_from_length, [], ◌++◌, �
 use Rattle.zoneq_lib.proofs.dialogue.Dialogue.end_line.Goals as goal
 
 pub returns-then-is_empty : goal.returns-then-is_empty
-returns-then-is_empty g c = 
+returns-then-is_empty g c =
     let none : c.args.self.now.begun.items ≡ [] = nil_from_length _ (grind arith) in grind arith
 
 pub returns-in-Err-clause-err : goal.returns-in-Err-clause-err

@@ -24,8 +24,10 @@ seconds c =
       c.ranges.from,
       search rules,
       search rules,
-      rw (c.offset.ensures.value ∙ ap (λ (t : LocalType). t.offset) c.std.ensures.value,
-      c.offset-2.ensures.value ∙ ap (λ (t : LocalType). t.offset) c.dst.ensures.value) refl,
+      rw (
+        c.offset.ensures.value ∙ ap (λ (t : LocalType). t.offset) c.std.ensures.value,
+        c.offset-2.ensures.value ∙ ap (λ (t : LocalType). t.offset) c.dst.ensures.value,
+      ) refl,
       first,
       last,
       rw (c.offset-3.ensures.value, first) at (simp to_z-of_z at c.second_showing-by_first.ensures.value),

@@ -1,7 +1,9 @@
 use Rattle.tz_info.proofs.{
-  HintLaws.{first_least, hints_made, marks_rise, raised_rising, slots}, SearchSteps.time_read,
+  HintLaws.{first_least, hints_made, marks_rise, raised_rising, slots},
+  SearchSteps.time_read,
   SearchWords.{AreRaised, List, SFits, arith, drop, item_time, length, length-map, length-replicate, map, pos, rules, take, take-append-le, take_all},
-  SearchWords.{to_z-of_z, w64, ℕ, ◌++◌, ◌+◌, ◌-ℤ◌, ◌-◌, ◌/◌, ◌^◌, ◌∙◌, ◌≡◌}, timeline.hints.Hints.new.{Given.Over, Goals.{After-deref, After-deref_mut}},
+  SearchWords.{to_z-of_z, w64, ℕ, ◌++◌, ◌+◌, ◌-ℤ◌, ◌-◌, ◌/◌, ◌^◌, ◌∙◌, ◌≡◌},
+  timeline.hints.Hints.new.{Given.Over, Goals.{After-deref, After-deref_mut}},
 }
 use Rattle.tz_info.proofs.timeline.hints.Hints.new.Goals as goal
 

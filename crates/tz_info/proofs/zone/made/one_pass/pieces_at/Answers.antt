@@ -1,6 +1,7 @@
 use Rattle.std.proofs.lemmas.Option.{slice_get_within}
 use Rattle.tz_info.proofs.{
-  OnePass.pieces_found, Words.{SFits, arith, inl, inr, linear, refl, rules, to_z-of_z, w64},
+  OnePass.pieces_found,
+  Words.{SFits, arith, inl, inr, linear, refl, rules, to_z-of_z, w64},
   zone.made.one_pass.pieces_at.Goals.{else-end-start, then-end-start},
 }
 use Rattle.tz_info.proofs.zone.made.one_pass.pieces_at.Goals as goal

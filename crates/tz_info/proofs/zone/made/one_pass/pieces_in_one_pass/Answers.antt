@@ -44,8 +44,11 @@ returns-then-is_crossed-2 c =
     let crossed = rw here at (simp to_z-of_z at (c.is_crossed-then-count-entries.ensures.crossed c.if-is_crossed-2.true)) in
     let last = c.if-count-entries.true in
     crossed_by (zone_in c.args.lists) _ c.loop-place.place _ _ _ _ (omega arith) crossed.0 c.loop-place.invariant.pieces
-    (record { type = seg.type; listed = inl (rw seg.index at seg.listed);
-    is_cut = rw (here, seg.offset) at (simp to_z-of_z at c.cut_of-end.ensures) }) crossed.1
+    (record {
+      type = seg.type;
+      listed = inl (rw seg.index at seg.listed);
+      is_cut = rw (here, seg.offset) at (simp to_z-of_z at c.cut_of-end.ensures);
+    }) crossed.1
 
 pub returns : goal.returns
 returns c =

@@ -24,6 +24,13 @@ returns c =
     let fe = c.cut_of-3.type_inv in
     let fo : SFits w64 c.segment_at-segment.result.offset = search rules in
     let s = c.segment_at-segment.ensures in
-    rw (c.in_ok-pieces-3.ensures.items, simp fits at c.in_ok-start.ensures, simp fits at c.in_ok-end-2.ensures,
-    rw s.offset at (simp fits at c.cut_of-2.ensures), rw s.offset at (simp fits at c.cut_of-3.ensures), s.index, add-one)
+    rw (
+      c.in_ok-pieces-3.ensures.items,
+      simp fits at c.in_ok-start.ensures,
+      simp fits at c.in_ok-end-2.ensures,
+      rw s.offset at (simp fits at c.cut_of-2.ensures),
+      rw s.offset at (simp fits at c.cut_of-3.ensures),
+      s.index,
+      add-one,
+    )
     (inner_pieces _ _ _ _ s.type (rw add-one at c.requires.table) (omega arith) (rw s.index at s.listed) s.is_offset (omega arith) (omega arith))

@@ -1,5 +1,7 @@
 use Rattle.tz_info.proofs.{
-  Fits.fits, TableLaws.{no_segments, one_segment}, Words.{arith, sym, ◌∙◌},
+  Fits.fits,
+  TableLaws.{no_segments, one_segment},
+  Words.{arith, sym, ◌∙◌},
   zone.made.index.Index.without_pieces.Goals.{else-segment_count-eq0, then-segment_count-eq0},
 }
 use Rattle.tz_info.proofs.zone.made.index.Index.without_pieces.Goals as goal
