@@ -1,5 +1,5 @@
 -- The changes of a zone's types as instants, and that clocks keep their type between them.
-use Rattle.tz_info.{specs.Steps.Changes.{IsAheadUpTo as IsBetween}, proofs.Words.{HasNoChange, IfSome, IsAhead, IsNearest, IsNearestChange, Precedes}}
+use Rattle.tz_info.proofs.Words.{HasNoChange, IfSome, IsAhead, IsNearest, IsNearestChange, Precedes, ◌<ℤ◌}
 use Rattle.zoned_ref.{specs.ZoneChange.{AreAround, IsUpTo, StandAlike, StandWithin, change_of_instants}, proofs.Words.{AreOffsetsOf, Bool, Change, IsAfter}}
 use Rattle.zoned_ref.proofs.Words.{IsAt, IsInRange, Law, LocalType, MatchOption, Meaning, Option, TypeAt, Zone, Zoned, arith, false, ints, of_secs, option_map}
 use Rattle.zoned_ref.proofs.Words.{pos, stays, subst, true, type_once, ℤ, ◌-ℤ◌, ◌≡◌, ◌≤ℤ◌}
@@ -9,6 +9,11 @@ use Rattle.zoned_ref.proofs.Words.{pos, stays, subst, true, type_once, ℤ, ◌-
 abbrev pub IsTold : Bool → ℤ → ℤ → Type 0
 IsTold true s u = IsAfter s u
 IsTold false s u = IsUpTo s u
+
+-- u is ahead of s, and not beyond the second `end`
+abbrev pub IsBetween : Bool → ℤ → ℤ → ℤ → Type 0
+IsBetween true s end u = (s <ℤ u) × (u ≤ℤ end)
+IsBetween false s end u = (end <ℤ u) × (u ≤ℤ s)
 
 -- what shows a change if and only if both its seconds are in range
 abbrev pub TellsInRange : {T : Type 0} → (T → Change) → (T → Type 0) → Change → Option T → Type 0
