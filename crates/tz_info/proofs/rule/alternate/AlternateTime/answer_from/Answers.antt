@@ -37,7 +37,7 @@ answer_amid-requires-clause-season c =
     let both = and_parts _ _ c.if-decides.true in
     let by_first = rw first at (simp to_z-of_z at c.second_showing-by_first.ensures.value) in
     let by_last = rw last at (simp to_z-of_z at c.second_showing.ensures.value) in
-    simp to_z-of_z (season_for _ _ _ _ dst c.season-season.ensures
+    simp to_z-of_z (season_for _ _ _ _ dst c.season-season.ensures.season
     (record { decided = rw by_first at ((simp to_z-of_z at c.decides.ensures).0 both.0); since = omega linear })
     (record { decided = rw by_last at ((simp to_z-of_z at c.decides-then-from-by_first.ensures).0 both.1); since = omega linear }))
 
