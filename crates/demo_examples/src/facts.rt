@@ -1,11 +1,13 @@
 //! Facts about instants, stated in the words that the library passes on. None has a proof file.
-ghost use Rattle.std.specs.{Int.{w64}, Prelude.{IfOk, IfSome, ℤ}};
-ghost use Rattle.std.specs.Prelude.{◌≡◌, ◌<ℤ◌, ◌≤ℤ◌, ◌+ℤ◌, ◌++◌, ◌∷◌, option_map, pos, string_bytes, FitsSigned, IfErr};
-ghost use Rattle.zoned.specs.{Choice.{IsUnresolved}, InstantFields.{IsOnly}, Laws.{IsMultiple}, LocalTypes.{LocalType}};
-ghost use Rattle.zoned.specs.{DateTime.{wall_of, zoned, IsIn}, NaiveDateTime.{reading}, Reading.{reading_at, total}};
-ghost use Rattle.zoned.specs.{FixedOffset.{printed_offset, seconds_of}, KeptZone.{change_of, law_of, off_of, zone_of}};
-ghost use Rattle.zoned.specs.{NaiveDate.{day_of}, Range.{IsInRange}, Zone.{ShowsByOffset}, Zoned.{in_seconds}};
-ghost use Rattle.zoned.specs.Zones.{TypeAt};
+ghost use Rattle.{
+  std.specs.Int.{w64},
+  std.specs.Prelude.{IfOk, IfSome, ℤ, ◌≡◌, ◌<ℤ◌, ◌≤ℤ◌, ◌+ℤ◌, ◌++◌, ◌∷◌, option_map, pos, string_bytes, FitsSigned},
+  std.specs.Prelude.{IfErr},
+  zoned.specs.{Choice.{IsUnresolved}, InstantFields.{IsOnly}, Laws.{IsMultiple}, LocalTypes.{LocalType}},
+  zoned.specs.{DateTime.{wall_of, zoned, IsIn}, NaiveDateTime.{reading}, Reading.{reading_at, total}},
+  zoned.specs.{FixedOffset.{printed_offset, seconds_of}, KeptZone.{change_of, law_of, off_of, zone_of}},
+  zoned.specs.{NaiveDate.{day_of}, Range.{IsInRange}, Zone.{ShowsByOffset}, Zoned.{in_seconds}, Zones.{TypeAt}},
+};
 
 use std::alloc::{AllocError, Global};
 use zoned::tz_info::TimeZoneName;

@@ -1,9 +1,11 @@
 //! Theorems: each function is empty, its contract is proved; never called.
-ghost use Rattle.std.specs.Prelude.{◌≡◌, ◌↔◌, pos, IsTrue, ℤ};
-ghost use Rattle.offset_core.specs.WallAnswer.{IsNeverShown, IsShownBetween};
-ghost use Rattle.naive_base.specs.{Range.{IsWide}, Year.{floor_mod}};
-ghost use Rattle.zoned_time.specs.Zone.{ShowsByOffset};
-ghost use Rattle.demo_own_zone.specs.Odd.{odd_offset};
+ghost use Rattle.{
+  demo_own_zone.specs.Odd.{odd_offset},
+  naive_base.specs.{Range.{IsWide}, Year.{floor_mod}},
+  offset_core.specs.WallAnswer.{IsNeverShown, IsShownBetween},
+  std.specs.Prelude.{◌≡◌, ◌↔◌, pos, IsTrue, ℤ},
+  zoned_time.specs.Zone.{ShowsByOffset},
+};
 
 use crate::{Odd, OddOffset};
 

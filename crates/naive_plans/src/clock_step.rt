@@ -1,9 +1,10 @@
 //! Steps of the local clock: days, weeks, months, years and parts of a day.
-ghost use Rattle.std.specs.Prelude.{◌≡◌, ◌<◌, ◌≤◌, ◌+◌, ◌-◌, ◌%◌, ◌≤ℤ◌, ◌+ℤ◌, ◌-ℤ◌, neg_ℤ, pos, MatchOption};
-ghost use Rattle.naive_base.specs.{NaiveDate.{day_of}, NaiveDateTime.{reading}, Range.{IsWide, IsWideDay}};
-ghost use Rattle.naive_plans.specs.ClockSteps.{seconds_of_step, BeginsOnDay, BeginsStep, IsPart};
-ghost use Rattle.naive_plans.specs.PartsOfDay.{IsPartOfDay};
-ghost use Rattle.naive_plans.specs.Steps.{Members.{IsFirstAfter, IsLastUpTo}, StepPlaces.{IsNear, IsNearDay, IsPlace}};
+ghost use Rattle.{
+  naive_base.specs.{NaiveDate.{day_of}, NaiveDateTime.{reading}, Range.{IsWide, IsWideDay}},
+  naive_plans.specs.{ClockSteps.{seconds_of_step, BeginsOnDay, BeginsStep, IsPart}, PartsOfDay.{IsPartOfDay}},
+  naive_plans.specs.Steps.{Members.{IsFirstAfter, IsLastUpTo}, StepPlaces.{IsNear, IsNearDay, IsPlace}},
+  std.specs.Prelude.{◌≡◌, ◌<◌, ◌≤◌, ◌+◌, ◌-◌, ◌%◌, ◌≤ℤ◌, ◌+ℤ◌, ◌-ℤ◌, neg_ℤ, pos, MatchOption},
+};
 
 use crate::day_plan::{at_second, date_after, date_before};
 use crate::rule::{days_of_week, month_length, place_in_year};

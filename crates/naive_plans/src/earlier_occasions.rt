@@ -1,10 +1,12 @@
 //! The last time of a rule up to a second, in whole seconds.
-ghost use Rattle.std.specs.Prelude.{◌≡◌, ◌<◌, ◌≤◌, ◌*◌, ◌<ℤ◌, ◌≤ℤ◌, ◌+ℤ◌, ◌-ℤ◌, neg_ℤ, pos, MatchOption, ℕ, ℤ};
-ghost use Rattle.gregorian.specs.Year.{floor_div};
-ghost use Rattle.naive_plans.specs.{DayPlans.{HasNoSecondUntil, IsLastSecondUntil}, Plans.{HasNoneUntil}};
-ghost use Rattle.naive_plans.specs.{Plans.{IsLastUntil}, RecurrenceRules.{IsOccasion, IsOccasionOn, IsOnDate}};
-ghost use Rattle.naive_plans.specs.Steps.OccasionSteps.{IsTimeOn, IsCounted, IsEndOfLast, IsSkippedBack};
-ghost use Rattle.naive_plans.specs.Steps.RuleSteps.{IsRuleDay, IsRuleSecond};
+ghost use Rattle.{
+  gregorian.specs.Year.{floor_div},
+  naive_plans.specs.{DayPlans.{HasNoSecondUntil, IsLastSecondUntil}, Plans.{HasNoneUntil, IsLastUntil}},
+  naive_plans.specs.RecurrenceRules.{IsOccasion, IsOccasionOn, IsOnDate},
+  naive_plans.specs.Steps.OccasionSteps.{IsTimeOn, IsCounted, IsEndOfLast, IsSkippedBack},
+  naive_plans.specs.Steps.RuleSteps.{IsRuleDay, IsRuleSecond},
+  std.specs.Prelude.{◌≡◌, ◌<◌, ◌≤◌, ◌*◌, ◌<ℤ◌, ◌≤ℤ◌, ◌+ℤ◌, ◌-ℤ◌, neg_ℤ, pos, MatchOption, ℕ, ℤ},
+};
 
 use crate::occasions::Occasions;
 use crate::rule_periods::{last_period, period_after};

@@ -1,13 +1,13 @@
 //! The times that a rule's parts let through, in whole seconds, and the next of them.
-ghost use Rattle.std.specs.Prelude.{◌≡◌, ◌↔◌, ◌<◌, ◌≤◌, ◌*◌, ◌<ℤ◌, ◌≤ℤ◌, ◌+ℤ◌, ◌*ℤ◌, neg_ℤ, pos, IsTrue, MatchOption};
-ghost use Rattle.std.specs.Prelude.{ℕ, ℤ};
-ghost use Rattle.gregorian.specs.Year.{floor_div, floor_mod};
-ghost use Rattle.naive_base.specs.{NaiveDateTime.{reading}, Range.{IsInRange}};
-ghost use Rattle.naive_plans.specs.{DayPlans.{HasNoSecondFrom, IsFirstSecondFrom}, RecurrenceRules.{HasHour}};
-ghost use Rattle.naive_plans.specs.RecurrenceRules.{HasMinute, HasSecond, IsOccasion, IsOccasionOn, IsOnDate};
-ghost use Rattle.naive_plans.specs.Steps.OccasionSteps.{IsStartOfNext, IsTimeOn, HasNoneBetween, IsCounted};
-ghost use Rattle.naive_plans.specs.{Steps.OccasionSteps.{IsFirstBetween, IsSkipped}, Steps.RuleSteps.{least_period}};
-ghost use Rattle.naive_plans.specs.Steps.RuleSteps.{own_period, IsPeriod, IsRuleDay, IsRuleSecond, IsStarted};
+ghost use Rattle.{
+  gregorian.specs.Year.{floor_div, floor_mod},
+  naive_base.specs.{NaiveDateTime.{reading}, Range.{IsInRange}},
+  naive_plans.specs.DayPlans.{HasNoSecondFrom, IsFirstSecondFrom},
+  naive_plans.specs.RecurrenceRules.{HasHour, HasMinute, HasSecond, IsOccasion, IsOccasionOn, IsOnDate},
+  naive_plans.specs.Steps.OccasionSteps.{IsStartOfNext, IsTimeOn, HasNoneBetween, IsCounted, IsFirstBetween, IsSkipped},
+  naive_plans.specs.Steps.RuleSteps.{least_period, own_period, IsPeriod, IsRuleDay, IsRuleSecond, IsStarted},
+  std.specs.Prelude.{◌≡◌, ◌↔◌, ◌<◌, ◌≤◌, ◌*◌, ◌<ℤ◌, ◌≤ℤ◌, ◌+ℤ◌, ◌*ℤ◌, neg_ℤ, pos, IsTrue, MatchOption, ℕ, ℤ},
+};
 
 use crate::RecurrenceRule;
 use crate::rule::month_length;

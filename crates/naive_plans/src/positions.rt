@@ -1,11 +1,14 @@
 //! `BYSETPOS`: places among the times that a rule's other parts let through in one of its periods.
-ghost use Rattle.std.specs.Prelude.{◌≡◌, ◌↔◌, ◌⊎◌, ◌<◌, ◌≤◌, ◌+◌, ◌<ℤ◌, ◌≤ℤ◌, ◌+ℤ◌, ◌-ℤ◌, neg_ℤ, pos, Contains, IsTrue};
-ghost use Rattle.std.specs.Prelude.{MatchOption, ℕ, ℤ};
-ghost use Rattle.gregorian.specs.Year.{floor_mod};
-ghost use Rattle.naive_plans.specs.{RecurrenceRules.{IsOccasion}, Steps.RuleSteps.{own_period, IsRuleSecond}};
-ghost use Rattle.naive_plans.specs.RecurrenceSets.{HasAfter, HasBefore, IsAtPosition, IsInPeriod, IsListedNth, IsNth};
-ghost use Rattle.naive_plans.specs.Steps.Members.{HasNoneLeft, HasNoneUpTo, IsFirstAfter, IsLastUpTo};
-ghost use Rattle.naive_plans.specs.Steps.PositionSteps.{HasSecondAt, IsBeyond, IsChain, IsLength};
+ghost use Rattle.{
+  gregorian.specs.Year.{floor_mod},
+  naive_plans.specs.RecurrenceRules.{IsOccasion},
+  naive_plans.specs.Steps.RuleSteps.{own_period, IsRuleSecond},
+  naive_plans.specs.Steps.Members.{HasNoneLeft, HasNoneUpTo, IsFirstAfter, IsLastUpTo},
+  naive_plans.specs.Steps.PositionSteps.{HasSecondAt, IsBeyond, IsChain, IsLength},
+  naive_plans.specs.RecurrenceSets.{HasAfter, HasBefore, IsAtPosition, IsInPeriod, IsListedNth, IsNth},
+  std.specs.Prelude.{◌≡◌, ◌↔◌, ◌⊎◌, ◌<◌, ◌≤◌, ◌+◌, ◌<ℤ◌, ◌≤ℤ◌, ◌+ℤ◌, ◌-ℤ◌, neg_ℤ, pos, Contains, IsTrue, MatchOption},
+  std.specs.Prelude.{ℕ, ℤ},
+};
 
 use crate::Frequency;
 use crate::occasions::Occasions;

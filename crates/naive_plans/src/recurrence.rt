@@ -1,12 +1,13 @@
 //! Recurrences of RFC 5545.
-ghost use Rattle.std.specs.Prelude.{◌≡◌, ◌≢◌, ◌↔◌, ◌<◌, ◌<ℤ◌, ◌≤ℤ◌, ◌-ℤ◌, neg_ℤ, pos, All, IsTrue, MatchOption};
-ghost use Rattle.std.specs.Prelude.{MatchResult, ℤ};
-ghost use Rattle.naive_base.specs.{NaiveDateTime.{reading}, Range.{IsWide}};
+ghost use Rattle.{
+  naive_base.specs.{NaiveDateTime.{reading}, Range.{IsWide}},
+  naive_plans.specs.Plans.{HasNoneUntil, IsLastUntil},
+  naive_plans.specs.RecurrenceSets.{HasTimesOf, IsPlannedUpTo, IsRuleTime, IsWithinCount, IsWithinEnd},
+  naive_plans.specs.Steps.{OccasionSteps.{HasNoneBetween, IsFirstBetween}, RuleSteps.{IsBounded}},
+  naive_plans.specs.Steps.RecurrenceSteps.{HasNoneLater, IsFirstLater, IsLastSecond},
+  std.specs.Prelude.{◌≡◌, ◌≢◌, ◌↔◌, ◌<◌, ◌<ℤ◌, ◌≤ℤ◌, ◌-ℤ◌, neg_ℤ, pos, All, IsTrue, MatchOption, MatchResult, ℤ},
+};
 ghost use Rattle.naive_plans.specs.AllowedRules as allowed;
-ghost use Rattle.naive_plans.specs.Plans.{HasNoneUntil, IsLastUntil};
-ghost use Rattle.naive_plans.specs.RecurrenceSets.{HasTimesOf, IsPlannedUpTo, IsRuleTime, IsWithinCount, IsWithinEnd};
-ghost use Rattle.naive_plans.specs.Steps.{OccasionSteps.{HasNoneBetween, IsFirstBetween}, RuleSteps.{IsBounded}};
-ghost use Rattle.naive_plans.specs.Steps.RecurrenceSteps.{HasNoneLater, IsFirstLater, IsLastSecond};
 
 use crate::occasions::{LAST_SECOND, Occasions, local_at};
 use crate::seconds::{is_from, later_or_start, second_after, second_before};

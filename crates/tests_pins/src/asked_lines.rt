@@ -1,13 +1,14 @@
 //! Lines that `zoneq` reads, and their answers.
 
-ghost use Rattle.std.specs.Prelude.{◌≡◌, ◌∷◌, [], codes, neg_ℤ, pos};
-ghost use Rattle.naive_base.specs.Stamp.{of_secs};
-ghost use Rattle.tz_base.specs.Grammar.{Spells};
-ghost use Rattle.zoneq_lib.specs.Answers.{shown_date_time, shown_refusal, shown_type, shown_wall, shown_zone};
-ghost use Rattle.zoneq_lib.specs.{Answers.{AnswersAt, AnswersWall}, Lines.{ended_lines, last_line, IsSplit}};
-ghost use Rattle.zoneq_lib.specs.{Endings.{message_of, status_of}, Faults.{fault_text}};
-ghost use Rattle.zoneq_lib.specs.Questions.{choice, Asks, At, Data, IsBadLine, Resolve, Show, Wall};
-ghost use Rattle.tests_pins.specs.{Changes.{unnamed}, NewYork.{edt, est, new_york_zone}, Zones.{honolulu, hst10}};
+ghost use Rattle.{
+  naive_base.specs.Stamp.{of_secs},
+  std.specs.Prelude.{◌≡◌, ◌∷◌, [], codes, neg_ℤ, pos},
+  tests_pins.specs.{Changes.{unnamed}, NewYork.{edt, est, new_york_zone}, Zones.{honolulu, hst10}},
+  tz_base.specs.Grammar.{Spells},
+  zoneq_lib.specs.Answers.{shown_date_time, shown_refusal, shown_type, shown_wall, shown_zone, AnswersAt, AnswersWall},
+  zoneq_lib.specs.{Lines.{ended_lines, last_line, IsSplit}, Endings.{message_of, status_of}, Faults.{fault_text}},
+  zoneq_lib.specs.Questions.{choice, Asks, At, Data, IsBadLine, Resolve, Show, Wall},
+};
 
 use offset_core::{FoldChoice, GapChoice, LocalResult};
 use zoneq_lib::RunError;

@@ -1,11 +1,12 @@
 //! Clock changes: New York's in 2021, and what counts as one.
 
-ghost use Rattle.std.specs.Prelude.{◌∷◌, [], neg_ℤ, pos, ⊤};
-ghost use Rattle.tz_base.specs.LocalTypes.{LocalType};
-ghost use Rattle.tz_info.specs.{Changes.{AreChanges, IsChange, IsFirst, IsFromUntil, IsLast}, Zones.{TypeAt}};
-ghost use Rattle.tz_info.specs.OffsetChanges.{IsFirstOfOffset, IsLastOfOffset, IsOffsetChange, KeepsOffset};
-ghost use Rattle.tests_pins.specs.Changes.{at_epoch, autumn, cet, change_at, dst_cet, renamed, spring};
-ghost use Rattle.tests_pins.specs.NewYork.{new_york_zone};
+ghost use Rattle.{
+  std.specs.Prelude.{◌∷◌, [], neg_ℤ, pos, ⊤},
+  tests_pins.specs.{Changes.{at_epoch, autumn, cet, change_at, dst_cet, renamed, spring}, NewYork.{new_york_zone}},
+  tz_base.specs.LocalTypes.{LocalType},
+  tz_info.specs.{Changes.{AreChanges, IsChange, IsFirst, IsFromUntil, IsLast}, Zones.{TypeAt}},
+  tz_info.specs.OffsetChanges.{IsFirstOfOffset, IsLastOfOffset, IsOffsetChange, KeepsOffset},
+};
 
 /// EDT comes into force at 1615705200 and EST at 1636264800; nothing changes a second earlier.
 pub fn new_york()

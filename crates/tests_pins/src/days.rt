@@ -2,12 +2,13 @@
 //! database has them. Each zone is taken as if clocks had been set that once.
 #![tactic(auto, using(crate::proofs::SetDays::set_days))]
 
-ghost use Rattle.std.specs.Prelude.{◌≡◌, ℤ, pos, neg_ℤ};
-ghost use Rattle.naive_base.specs.Stamp.{of_secs};
-ghost use Rattle.zoned_time.specs.Days.{AreEndsOfDay, IsNeverOnDay, IsFirstInstantFrom, IsInDay, midnight};
-ghost use Rattle.zoned_time.specs.DayEnds.{HasNoEnd, IsEndOfDay, IsFirstOfWeek, IsLengthOfDay};
-ghost use Rattle.zoned_time.specs.DayEnds.{first_day_of_year, first_of_month};
-ghost use Rattle.tests_pins.specs.Days.{AreSetAt};
+ghost use Rattle.{
+  naive_base.specs.Stamp.{of_secs},
+  std.specs.Prelude.{◌≡◌, ℤ, pos, neg_ℤ},
+  tests_pins.specs.Days.{AreSetAt},
+  zoned_time.specs.Days.{AreEndsOfDay, IsNeverOnDay, IsFirstInstantFrom, IsInDay, midnight},
+  zoned_time.specs.DayEnds.{HasNoEnd, IsEndOfDay, IsFirstOfWeek, IsLengthOfDay, first_day_of_year, first_of_month},
+};
 
 /// In Apia clocks went from 10 hours behind UTC to 14 ahead at 2011-12-30 10:00:00 UTC. The date
 /// 2011-12-30, day 15338, was never shown; it and the next one start at that second, so it has no length

@@ -1,16 +1,18 @@
 //! Parts of TZif files, as Honolulu's file has them (RFC 8536 appendix B.2).
 
-ghost use Rattle.std.specs.Prelude.{◌≡◌, ◌++◌, ◌∷◌, [], false, neg_ℤ, pos, true, Bool, List, ℕ};
-ghost use Rattle.tz_base.specs.{Grammar.{be_u32, Spells}, LocalTypes.{LocalType}};
-ghost use Rattle.tz_info.specs.{FileBlocks.{block, Parts}, FilePieces.{after_first_block, is_extended, FilePieces}};
-ghost use Rattle.tz_info.specs.FileContents.{file_time, IndicatorsAgree, IsMark, SpellsLeapSecond, SpellsType};
-ghost use Rattle.tz_info.specs.FileContents.{TypeFault};
-ghost use Rattle.tz_info.specs.{FileHeaders.{six_counts, version, CountsAgree}, declared.file.header.Version.{Version}};
-ghost use Rattle.tz_info.specs.{Footers.{FooterFault, IsFooter}, declared.file.header.{Counts.{Counts}, Place.{Place}}};
-ghost use Rattle.tz_info.specs.declared.file.header.{Place.TheVariants.{First}, Version.TheVariants.{One, Three, Two}};
-ghost use Rattle.tests_pins.specs.Files.{long_record, of_types, one_leap_second, one_to_six, short_record};
-ghost use Rattle.tests_pins.specs.{Files.{with_leap_second}, LeapSeconds.{entry}, Zones.{hst, hst10}};
-ghost use Rattle.tests_pins.specs.Honolulu.{designations, first_time, hst_footer, hst_record, least_time_bytes};
+ghost use Rattle.{
+  std.specs.Prelude.{◌≡◌, ◌++◌, ◌∷◌, [], false, neg_ℤ, pos, true, Bool, List, ℕ},
+  tests_pins.specs.Files.{long_record, of_types, one_leap_second, one_to_six, short_record, with_leap_second},
+  tests_pins.specs.{LeapSeconds.{entry}, Zones.{hst, hst10}},
+  tests_pins.specs.Honolulu.{designations, first_time, hst_footer, hst_record, least_time_bytes},
+  tz_base.specs.{Grammar.{be_u32, Spells}, LocalTypes.{LocalType}},
+  tz_info.specs.{FileBlocks.{block, Parts}, FilePieces.{after_first_block, is_extended, FilePieces}},
+  tz_info.specs.FileContents.{file_time, IndicatorsAgree, IsMark, SpellsLeapSecond, SpellsType, TypeFault},
+  tz_info.specs.FileHeaders.{six_counts, version, CountsAgree},
+  tz_info.specs.declared.file.header.{Version.{Version, TheVariants.{One, Three, Two}}, Counts.{Counts}},
+  tz_info.specs.declared.file.header.Place.{Place, TheVariants.{First}},
+  tz_info.specs.Footers.{FooterFault, IsFooter},
+};
 
 use tz_base::{Error, Expected};
 

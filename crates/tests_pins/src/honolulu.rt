@@ -1,16 +1,18 @@
 //! The file of Pacific/Honolulu, whole (RFC 8536 appendix B.2): its bytes spell the lists that the
 //! appendix says, these make a zone, and they spell no other.
 
-ghost use Rattle.std.specs.Prelude.{◌≡◌, ◌++◌, ◌∷◌, [], neg_ℤ, pos, List, ℕ};
-ghost use Rattle.tz_base.specs.Grammar.{Spells};
-ghost use Rattle.tz_info.specs.{FileBlocks.{block as a_block}, Zones.{IsValid, Zone}};
-ghost use Rattle.tz_info.specs.{FileContents.{IndicatorsAgree, SpellTransitions, SpellTypes}, FilePieces.{HasPieces}};
-ghost use Rattle.tz_info.specs.{FileHeaders.{header as a_header}, TzFiles.{IsTzFile, IsZoneFault}};
-ghost use Rattle.tz_info.specs.declared.file.header.{Place.TheVariants.{First, Second}, Version.TheVariants.{Two}};
-ghost use Rattle.tests_pins.specs.Honolulu.{counts, designations, file_with, honolulu_block, honolulu_file};
-ghost use Rattle.tests_pins.specs.Honolulu.{honolulu_header, indicators, long_times, parts, pieces, short_file};
-ghost use Rattle.tests_pins.specs.Honolulu.{short_times, type_indexes, type_records};
-ghost use Rattle.tests_pins.specs.Zones.{honolulu, honolulu_from, hst10};
+ghost use Rattle.{
+  std.specs.Prelude.{◌≡◌, ◌++◌, ◌∷◌, [], neg_ℤ, pos, List, ℕ},
+  tests_pins.specs.Honolulu.{counts, designations, file_with, honolulu_block, honolulu_file, honolulu_header},
+  tests_pins.specs.Honolulu.{indicators, long_times, parts, pieces, short_file, short_times, type_indexes},
+  tests_pins.specs.Honolulu.{type_records},
+  tests_pins.specs.Zones.{honolulu, honolulu_from, hst10},
+  tz_base.specs.Grammar.{Spells},
+  tz_info.specs.{FileBlocks.{block as a_block}, Zones.{IsValid, Zone}},
+  tz_info.specs.{FileContents.{IndicatorsAgree, SpellTransitions, SpellTypes}, FilePieces.{HasPieces}},
+  tz_info.specs.{FileHeaders.{header as a_header}, TzFiles.{IsTzFile, IsZoneFault}},
+  tz_info.specs.declared.file.header.{Place.TheVariants.{First, Second}, Version.TheVariants.{Two}},
+};
 
 use tz_base::{Error, Expected};
 

@@ -1,15 +1,17 @@
 //! Clock changes as text: the lines of `zdump -v`, a line of a table, and JSON.
 #![tactic(auto, using(crate::proofs::ChangeDays::march_2021), unfolding(crate::proofs::Computed::wording))]
 
-ghost use Rattle.std.specs.Prelude.{◌≡◌, ◌++◌, ◌∷◌, [], codes, false, neg_ℤ, pos, true};
-ghost use Rattle.json.specs.{Print.{print}, Tree.{json_tokens}};
-ghost use Rattle.naive_base.specs.NaiveDate.{day_of};
-ghost use Rattle.zonedump_lib.specs.{ChangeLines.{change_lines}, ChangeValues.{change_value, step_name, type_value}};
-ghost use Rattle.zonedump_lib.specs.DifferenceForms.{difference_lines, differences_value, lone_value, moved_by};
-ghost use Rattle.zonedump_lib.specs.Periods.{bound_value, bound_words, first_second, second_after, IsPeriod};
-ghost use Rattle.zonedump_lib.specs.{Words.{offset_words, step_words, type_words}, ZdumpLines.{short_weekday}};
-ghost use Rattle.zonedump_lib.specs.ZdumpLines.{first_lines, flag_text, last_lines, pair_lines, short_day, short_month};
-ghost use Rattle.tests_pins.specs.{Changes.{change_at, spring, unnamed}, Differences.{in_march}, NewYork.{edt, est}};
+ghost use Rattle.{
+  json.specs.{Print.{print}, Tree.{json_tokens}},
+  naive_base.specs.NaiveDate.{day_of},
+  std.specs.Prelude.{◌≡◌, ◌++◌, ◌∷◌, [], codes, false, neg_ℤ, pos, true},
+  tests_pins.specs.{Changes.{change_at, spring, unnamed}, Differences.{in_march}, NewYork.{edt, est}},
+  zonedump_lib.specs.{ChangeLines.{change_lines}, ChangeValues.{change_value, step_name, type_value}},
+  zonedump_lib.specs.DifferenceForms.{difference_lines, differences_value, lone_value, moved_by},
+  zonedump_lib.specs.Periods.{bound_value, bound_words, first_second, second_after, IsPeriod},
+  zonedump_lib.specs.Words.{offset_words, step_words, type_words},
+  zonedump_lib.specs.ZdumpLines.{short_weekday, first_lines, flag_text, last_lines, pair_lines, short_day, short_month},
+};
 
 use naive_base::NaiveDate;
 use zonedump_lib::Bound;

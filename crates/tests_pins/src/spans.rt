@@ -1,11 +1,11 @@
 //! Spans: New York's standard time from November 2020 to March 2021, the steps over it in both directions,
 //! and the years of a rule that never changes the clocks.
 
-ghost use Rattle.std.specs.Prelude.{◌≡◌, pos, Option, Some};
-ghost use Rattle.tz_info.specs.{Spans.{IsInSpan, IsSpan, IsSpanAt}, Zones.{TypeAt}};
-ghost use Rattle.tz_info.specs.SpanSteps.{IsNextSpan, IsPreviousSpan, SpanPlace};
-ghost use Rattle.tests_pins.specs.NewYork.{est, new_york_zone};
-ghost use Rattle.tests_pins.specs.Spans.{place_before, rule_years, span_of, steady_zone, winter};
+ghost use Rattle.{
+  std.specs.Prelude.{◌≡◌, pos, Option, Some},
+  tests_pins.specs.{NewYork.{est, new_york_zone}, Spans.{place_before, rule_years, span_of, steady_zone, winter}},
+  tz_info.specs.{Spans.{IsInSpan, IsSpan, IsSpanAt}, Zones.{TypeAt}, SpanSteps.{IsNextSpan, IsPreviousSpan, SpanPlace}},
+};
 
 use tz_base::Span;
 

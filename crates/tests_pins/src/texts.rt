@@ -1,15 +1,16 @@
 //! TZ strings and the rules that they spell (POSIX.1 section 8.3, RFC 8536 section 3.3.1).
 
-ghost use Rattle.std.specs.Prelude.{◌≡◌, ◌++◌, ◌∷◌, [], codes, false, neg_ℤ, pos, true, Bool, ℕ};
-ghost use Rattle.tz_base.specs.Names.{IsName};
-ghost use Rattle.tz_info.specs.PosixZones.{posix_zone, types_of, IsExtendedFaultPlace, IsPlaced, IsPosixFaultPlace};
-ghost use Rattle.tz_info.specs.{PosixZones.{IsPosixZone}, Zones.{plain_zone, Zone}};
-ghost use Rattle.tz_info.specs.TzGrammar.{signed_seconds, text_fault_position, time_limit, IsTextFault, IsTzText};
-ghost use Rattle.tests_pins.specs.NewYork.{edt, est, new_york_rule, new_york_zone};
-ghost use Rattle.tests_pins.specs.Texts.{day_0, fo_5, foo, foo_23, foo_23_rule, foo_24, foo_5_06_07, foo_5_30};
-ghost use Rattle.tests_pins.specs.Texts.{foo_5_60, foo_ahead, foo_behind, foo_minus_5, foo_plus_5, jerusalem_rule};
-ghost use Rattle.tests_pins.specs.Texts.{jerusalem_text, new_york_text, no_days, numbered_rule, numbered_text};
-ghost use Rattle.tests_pins.specs.Texts.{nuuk_rule, nuuk_text, small, utc_rule, utc_text};
+ghost use Rattle.{
+  std.specs.Prelude.{◌≡◌, ◌++◌, ◌∷◌, [], codes, false, neg_ℤ, pos, true, Bool, ℕ},
+  tests_pins.specs.NewYork.{edt, est, new_york_rule, new_york_zone},
+  tests_pins.specs.Texts.{day_0, fo_5, foo, foo_23, foo_23_rule, foo_24, foo_5_06_07, foo_5_30, foo_5_60, foo_ahead},
+  tests_pins.specs.Texts.{foo_behind, foo_minus_5, foo_plus_5, jerusalem_rule, jerusalem_text, new_york_text, no_days},
+  tests_pins.specs.Texts.{numbered_rule, numbered_text, nuuk_rule, nuuk_text, small, utc_rule, utc_text},
+  tz_base.specs.Names.{IsName},
+  tz_info.specs.PosixZones.{posix_zone, types_of, IsExtendedFaultPlace, IsPlaced, IsPosixFaultPlace, IsPosixZone},
+  tz_info.specs.Zones.{plain_zone, Zone},
+  tz_info.specs.TzGrammar.{signed_seconds, text_fault_position, time_limit, IsTextFault, IsTzText},
+};
 
 use tz_base::{Error, Expected};
 use tz_info::TransitionRule;

@@ -1,15 +1,16 @@
 //! Rules, tables and zones as `zonedump` prints them.
 #![tactic(auto, unfolding(crate::proofs::Computed::wording))]
 
-ghost use Rattle.std.specs.Prelude.{◌≡◌, ◌++◌, ◌∷◌, [], codes, neg_ℤ, pos};
-ghost use Rattle.json.specs.{Print.{print}, Tree.{json_tokens}};
-ghost use Rattle.zonedump_lib.specs.ChangeLines.{change_lines};
-ghost use Rattle.zonedump_lib.specs.{JsonValues.{day_value, leap_value, rule_value, zone_value}, Zdump.{IsZdump}};
-ghost use Rattle.zonedump_lib.specs.RuleWords.{day_words, moment_words, month_words, rule_words, week_words};
-ghost use Rattle.zonedump_lib.specs.{RuleWords.{weekday_words}, Tables.{head_text, leap_text, table_text, BeginsTable, IsTable}};
-ghost use Rattle.zonedump_lib.specs.ZdumpLines.{zdump_text};
-ghost use Rattle.tests_pins.specs.{Changes.{autumn, spring}, NewYork.{new_york_rule, new_york_zone}, Texts.{utc_rule}};
-ghost use Rattle.tests_pins.specs.{LeapSeconds.{entry}, Zones.{utc_zone}};
+ghost use Rattle.{
+  json.specs.{Print.{print}, Tree.{json_tokens}},
+  std.specs.Prelude.{◌≡◌, ◌++◌, ◌∷◌, [], codes, neg_ℤ, pos},
+  tests_pins.specs.{Changes.{autumn, spring}, NewYork.{new_york_rule, new_york_zone}, Texts.{utc_rule}},
+  tests_pins.specs.{LeapSeconds.{entry}, Zones.{utc_zone}},
+  zonedump_lib.specs.{ChangeLines.{change_lines}, JsonValues.{day_value, leap_value, rule_value, zone_value}},
+  zonedump_lib.specs.Zdump.{IsZdump},
+  zonedump_lib.specs.RuleWords.{day_words, moment_words, month_words, rule_words, week_words, weekday_words},
+  zonedump_lib.specs.{Tables.{head_text, leap_text, table_text, BeginsTable, IsTable}, ZdumpLines.{zdump_text}},
+};
 
 use tz_info::DayForm;
 use zonedump_lib::Bound;

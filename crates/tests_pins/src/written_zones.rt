@@ -1,14 +1,15 @@
 //! TZ strings and files that are written: the shortest string, and the bytes of a file.
 #![tactic(auto, using(crate::proofs::WrittenPins::written_pins), unfolding(crate::proofs::Computed::written))]
 
-ghost use Rattle.std.specs.Prelude.{◌≡◌, ◌++◌, ◌∷◌, [], codes, false, true, Bool};
-ghost use Rattle.tz_write.specs.FileBytes.{file_bytes, first_half, number_bytes};
-ghost use Rattle.tz_write.specs.FileDesignations.{begins, name_of, place_of, AreShortest};
-ghost use Rattle.tz_write.specs.WrittenTexts.{AreInPairs, IsWrittenText, IsWrittenZone};
-ghost use Rattle.tests_pins.specs.Changes.{unnamed};
-ghost use Rattle.tests_pins.specs.Honolulu.{designations, hst_footer, long_times, type_indexes, type_records};
-ghost use Rattle.tests_pins.specs.{NewYork.{new_york_rule, new_york_zone}, WrittenZones.{first_block, second_header}};
-ghost use Rattle.tests_pins.specs.{Texts.{new_york_long, new_york_text, utc_text}, Zones.{honolulu, hst, hst10}};
+ghost use Rattle.{
+  std.specs.Prelude.{◌≡◌, ◌++◌, ◌∷◌, [], codes, false, true, Bool},
+  tests_pins.specs.{Changes.{unnamed}, Honolulu.{designations, hst_footer, long_times, type_indexes, type_records}},
+  tests_pins.specs.{NewYork.{new_york_rule, new_york_zone}, WrittenZones.{first_block, second_header}},
+  tests_pins.specs.{Texts.{new_york_long, new_york_text, utc_text}, Zones.{honolulu, hst, hst10}},
+  tz_write.specs.FileBytes.{file_bytes, first_half, number_bytes},
+  tz_write.specs.FileDesignations.{begins, name_of, place_of, AreShortest},
+  tz_write.specs.WrittenTexts.{AreInPairs, IsWrittenText, IsWrittenZone},
+};
 
 /// A text leaves out a time of 2 o'clock, needs no extensions if it has none, spells the rule,
 /// and has minutes in two digits.

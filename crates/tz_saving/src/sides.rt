@@ -1,11 +1,11 @@
 //! Standard time on both sides of a second of daylight saving time, and changes to a type.
 
-ghost use Rattle.std.specs.{Int.{w64}, Prelude.{◌≡◌, ◌↔◌, ◌-ℤ◌, pos, true, FitsSigned, IsTrue}};
-ghost use Rattle.std.specs.Prelude.{MatchOption, option_map};
-ghost use Rattle.tz_info.specs.{Changes.{IsNearest}, HeldChanges.{change_held}, Zones.{TypeAt}};
-ghost use Rattle.tz_saving.specs.Sides.{HasNoStandard, IsAfter, IsBefore, IsFirstAfter, IsFound};
-ghost use Rattle.tz_saving.specs.Sides.{IsRuleStandard, IsSoonAfter};
-ghost use Rattle.tz_saving.specs.Steps.Walks.{far_second, far_type, HasNoTurn, IsBeyond, IsNearestTurn, IsWanted};
+ghost use Rattle.{
+  std.specs.{Int.{w64}, Prelude.{◌≡◌, ◌↔◌, ◌-ℤ◌, pos, true, FitsSigned, IsTrue, MatchOption, option_map}},
+  tz_info.specs.{Changes.{IsNearest}, HeldChanges.{change_held}, Zones.{TypeAt}},
+  tz_saving.specs.Sides.{HasNoStandard, IsAfter, IsBefore, IsFirstAfter, IsFound, IsRuleStandard, IsSoonAfter},
+  tz_saving.specs.Steps.Walks.{far_second, far_type, HasNoTurn, IsBeyond, IsNearestTurn, IsWanted},
+};
 
 use tz_info::{HeldChange, LocalTimeType, TimeZone, TransitionRule};
 

@@ -1,10 +1,12 @@
 //! Time zone files (TZif, RFC 8536): the bytes of the file of a zone.
 
-ghost use Rattle.std.specs.Prelude.{IfOk, MatchOption, MatchResult, OnErr, option_map, string_bytes};
-ghost use Rattle.tz_base.specs.Errors.{IsOutOfMemory};
-ghost use Rattle.tz_info.specs.Zones.{Zone};
-ghost use Rattle.tz_write.specs.Steps.FileParts.{IsRoomOf};
-ghost use Rattle.tz_write.specs.WrittenFiles.{IsFooterText, IsInNoFile, IsSpellableOrNone, IsWritable, IsWrittenFile};
+ghost use Rattle.{
+  std.specs.Prelude.{IfOk, MatchOption, MatchResult, OnErr, option_map, string_bytes},
+  tz_base.specs.Errors.{IsOutOfMemory},
+  tz_info.specs.Zones.{Zone},
+  tz_write.specs.Steps.FileParts.{IsRoomOf},
+  tz_write.specs.WrittenFiles.{IsFooterText, IsInNoFile, IsSpellableOrNone, IsWritable, IsWrittenFile},
+};
 
 mod contents;
 mod designations;

@@ -1,15 +1,17 @@
 //! The TZ string of a rule.
 
-ghost use Rattle.std.specs.Prelude.{◌≡◌, ◌↔◌, ◌++◌, false, string_bytes, true, Bool, IfOk, IsTrue, List, MatchBool};
-ghost use Rattle.std.specs.Prelude.{MatchOption, MatchResult, OnErr, OnOk, ℕ};
-ghost use Rattle.offset_core.specs.Offset.{IsWithinDay};
-ghost use Rattle.tz_base.specs.{Errors.{IsOutOfMemory}, Names.{IsName}};
-ghost use Rattle.tz_info.specs.{Rules.{IsAlternateRule}, RuleTypes.{IsRule}, TzGrammar.{IsTzText}};
-ghost use Rattle.tz_info.specs.declared.rule.transition_rule.TransitionRule.{TransitionRule as Rule};
-ghost use Rattle.tz_write.specs.FileDesignations.{name_of};
-ghost use Rattle.tz_write.specs.Steps.TextPieces.{spelled_alternate, spelled_days, spelled_name, spelled_rule};
-ghost use Rattle.tz_write.specs.{Steps.TextPieces.{spelled_type}, WrittenTexts.{IsUnspelled, IsWrittenText}};
-ghost use Rattle.tz_write.specs.WrittenTexts.{AreTimesOf, CanBeSpelled, HasPlainText, IsNamedType, IsPlainTime};
+ghost use Rattle.{
+  offset_core.specs.Offset.{IsWithinDay},
+  std.specs.Prelude.{◌≡◌, ◌↔◌, ◌++◌, false, string_bytes, true, Bool, IfOk, IsTrue, List, MatchBool, MatchOption},
+  std.specs.Prelude.{MatchResult, OnErr, OnOk, ℕ},
+  tz_base.specs.{Errors.{IsOutOfMemory}, Names.{IsName}},
+  tz_info.specs.{Rules.{IsAlternateRule}, RuleTypes.{IsRule}, TzGrammar.{IsTzText}},
+  tz_info.specs.declared.rule.transition_rule.TransitionRule.{TransitionRule as Rule},
+  tz_write.specs.FileDesignations.{name_of},
+  tz_write.specs.Steps.TextPieces.{spelled_alternate, spelled_days, spelled_name, spelled_rule, spelled_type},
+  tz_write.specs.WrittenTexts.{IsUnspelled, IsWrittenText, AreTimesOf, CanBeSpelled, HasPlainText, IsNamedType},
+  tz_write.specs.WrittenTexts.{IsPlainTime},
+};
 
 use crate::pieces::day::push_day;
 use crate::pieces::name::push_name;

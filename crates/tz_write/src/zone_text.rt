@@ -1,10 +1,11 @@
 //! The TZ string of a zone.
 
-ghost use Rattle.std.specs.Prelude.{◌≡◌, ◌↔◌, ◌∷◌, [], string_bytes, IfOk, IsTrue, List, MatchOption, MatchResult};
-ghost use Rattle.std.specs.Prelude.{OnErr, ℕ};
-ghost use Rattle.tz_base.specs.Errors.{IsOutOfMemory};
-ghost use Rattle.tz_info.specs.{PosixZones.{types_of, IsPosixZone}, RuleTypes.{IsRule}, Zones.{zone_of_rule, Zone}};
-ghost use Rattle.tz_write.specs.WrittenTexts.{HasZoneText, IsNoPosixZone, IsOfText, IsWrittenZone};
+ghost use Rattle.{
+  std.specs.Prelude.{◌≡◌, ◌↔◌, ◌∷◌, [], string_bytes, IfOk, IsTrue, List, MatchOption, MatchResult, OnErr, ℕ},
+  tz_base.specs.Errors.{IsOutOfMemory},
+  tz_info.specs.{PosixZones.{types_of, IsPosixZone}, RuleTypes.{IsRule}, Zones.{zone_of_rule, Zone}},
+  tz_write.specs.WrittenTexts.{HasZoneText, IsNoPosixZone, IsOfText, IsWrittenZone},
+};
 
 use crate::rule_text::{has_plain_text, text_of};
 use std::alloc::Global;

@@ -1,17 +1,17 @@
 //! Theorems for a client's own contracts: that a question has one answer, that an instant made from
 //! one of a zone is one of that zone, and some in the shape of a client's clauses. Calling one makes
 //! its statement available in the caller's proof, and does nothing when it runs.
-ghost use Rattle.std.specs.Prelude.{◌≡◌, ◌≢◌, ◌⊎◌, ◌<ℤ◌, ◌≤ℤ◌, ◌+ℤ◌, ◌-ℤ◌, ◌∷◌, [], pos, List, MatchOption, Option, ℕ};
-ghost use Rattle.std.specs.Prelude.{ℤ};
-ghost use Rattle.offset_core.specs.{LocalResult.{map_of}, WallAnswer.{IsNeverShown, IsWallAnswer}};
-ghost use Rattle.offset_core.specs.TimeDelta.{nanos_of};
-ghost use Rattle.naive_base.specs.{NaiveDateTime.{reading}, Range.{last_second, IsInRange}, Reading.{total, Reading}};
-ghost use Rattle.tz_info.specs.{Changes.{AreChanges, IsFirst}, Zones.{TypeAt, Zone}};
-ghost use Rattle.zoned_time.specs.{Choice.{IsResolved}, Relocal.{IsRelocal}, Zone.{Each, ShowsByOffset}};
-ghost use Rattle.zoned_time.specs.{DateTime.{home_law_of, wall_of, zoned, IsDaysAdded, IsIn}, Zoned.{in_seconds, IsAt}};
-ghost use Rattle.zoned_round.specs.{Durations.{IsRoundedTo}, Laws.{IsMultiple}, Multiples.{multiple_below, IsItselfOr}};
-ghost use Rattle.zoned_ref.specs.ZoneChange.{IsAfter};
-ghost use Rattle.zoned.specs.Within.{IsFromFirstToLast};
+ghost use Rattle.{
+  naive_base.specs.{NaiveDateTime.{reading}, Range.{last_second, IsInRange}, Reading.{total, Reading}},
+  offset_core.specs.{LocalResult.{map_of}, WallAnswer.{IsNeverShown, IsWallAnswer}, TimeDelta.{nanos_of}},
+  std.specs.Prelude.{◌≡◌, ◌≢◌, ◌⊎◌, ◌<ℤ◌, ◌≤ℤ◌, ◌+ℤ◌, ◌-ℤ◌, ◌∷◌, [], pos, List, MatchOption, Option, ℕ, ℤ},
+  tz_info.specs.{Changes.{AreChanges, IsFirst}, Zones.{TypeAt, Zone}},
+  zoned.specs.Within.{IsFromFirstToLast},
+  zoned_ref.specs.ZoneChange.{IsAfter},
+  zoned_round.specs.{Durations.{IsRoundedTo}, Laws.{IsMultiple}, Multiples.{multiple_below, IsItselfOr}},
+  zoned_time.specs.{Choice.{IsResolved}, Relocal.{IsRelocal}, Zone.{Each, ShowsByOffset}},
+  zoned_time.specs.{DateTime.{home_law_of, wall_of, zoned, IsDaysAdded, IsIn}, Zoned.{in_seconds, IsAt}},
+};
 
 use crate::{
     Choice, DateTime, DurationRound, LocalResult, NaiveDateTime, Offset, TimeDelta, TimeZone,

@@ -4,18 +4,20 @@
 //! If a function is empty, its contract is the theorem. [`statement`] makes the calls, so that nobody has to
 //! join their contracts by hand.
 
-ghost use Rattle.std.specs.Prelude.{◌≡◌, ◌↔◌, IfSome, IsSome, IsTrue, List, ℕ, ℤ};
-ghost use Rattle.offset_core.specs.{LocalResult.{map_of}, Offset.{IsWithinDay}, WallAnswer.{IsWallAnswer}};
-ghost use Rattle.naive_base.specs.{NaiveDateTime.{reading}, Range.{IsWide}};
-ghost use Rattle.tz_base.specs.LocalTypes.{LocalType};
-ghost use Rattle.tz_info.specs.{Counts.{HasRoom}, Looks.{RoseByWallClock}, Zones.{IsValid, TypeAt, Zone}};
-ghost use Rattle.tz_info.specs.{FilePieces.{FilePieces, HasPieces}, PosixZones.{IsPosixFault, IsPosixZone}};
-ghost use Rattle.tz_info.specs.{TzFiles.{IsFileFault, IsTzFile}, TzGrammar.{IsTextFault, IsTzText}, WallClocks.{Shows}};
+ghost use Rattle.{
+  naive_base.specs.{NaiveDateTime.{reading}, Range.{IsWide}},
+  offset_core.specs.{LocalResult.{map_of}, Offset.{IsWithinDay}, WallAnswer.{IsWallAnswer}},
+  std.specs.Prelude.{◌≡◌, ◌↔◌, IfSome, IsSome, IsTrue, List, ℕ, ℤ},
+  tz_base.specs.LocalTypes.{LocalType},
+  tz_info.specs.{Counts.{HasRoom}, Looks.{RoseByWallClock}, Zones.{IsValid, TypeAt, Zone}},
+  tz_info.specs.{FilePieces.{FilePieces, HasPieces}, PosixZones.{IsPosixFault, IsPosixZone}},
+  tz_info.specs.{TzFiles.{IsFileFault, IsTzFile}, TzGrammar.{IsTextFault, IsTzText}, WallClocks.{Shows}},
+  zoned.specs.Headline.{AreCalls, Headline, IsAnswerOf, IsAnsweredByRule, IsAnsweredInZone, IsLawOf, IsLawful},
+  zoned.specs.Headline.{IsValidFile},
+  zoned_ref.specs.{Offsets.{AreOffsetsOf, IsNarrow}, TimeZoneRef.{off_of, zone_of}},
+  zoned_time.specs.{DateTime.{zoned}, Zone.{IsZoneSecond, SameOffsets}},
+};
 ghost use Rattle.zoned_time.specs.Zone as zones;
-ghost use Rattle.zoned_time.specs.{DateTime.{zoned}, Zone.{IsZoneSecond, SameOffsets}};
-ghost use Rattle.zoned_ref.specs.{Offsets.{AreOffsetsOf, IsNarrow}, TimeZoneRef.{off_of, zone_of}};
-ghost use Rattle.zoned.specs.Headline.{AreCalls, Headline, IsAnswerOf, IsAnsweredByRule, IsAnsweredInZone, IsLawOf};
-ghost use Rattle.zoned.specs.Headline.{IsLawful, IsValidFile};
 
 mod answers;
 

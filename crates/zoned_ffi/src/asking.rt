@@ -3,12 +3,14 @@
 //! what clocks have reached.
 #![tactic(auto, using(crate::proofs::Casts::passed_on))]
 
-ghost use Rattle.std.specs.Prelude.{◌≡◌, ◌≢◌, ◌⊎◌, length, pos};
-ghost use Rattle.tz_info.specs.Zones.{IsTypeRefused, Zone};
-ghost use Rattle.zoned_ffi.specs.{Columns.{AreAnswered, IsFirstWithout}, Handles.{IsLent, IsNoneLent, IsUnanswered}};
-ghost use Rattle.zoned_ffi.specs.{Fields.{AreFieldsAt, AreNoFieldsAt}, Instants.{AreOffsetsAt, IsWrittenOffsetAt}};
-ghost use Rattle.zoned_ffi.specs.{Units.{per_second, IsUnit}, WallClocks.{AreWallClocks, IsWallClockAt}};
-ghost use Rattle.zoned_ffi.specs.{WrittenSpans.{IsWrittenSpanAt}, WrittenTypes.{AreWrittenTypesAt, IsWrittenTypeAt}};
+ghost use Rattle.{
+  std.specs.Prelude.{◌≡◌, ◌≢◌, ◌⊎◌, length, pos},
+  tz_info.specs.Zones.{IsTypeRefused, Zone},
+  zoned_ffi.specs.{Columns.{AreAnswered, IsFirstWithout}, Handles.{IsLent, IsNoneLent, IsUnanswered}},
+  zoned_ffi.specs.{Fields.{AreFieldsAt, AreNoFieldsAt}, Instants.{AreOffsetsAt, IsWrittenOffsetAt}},
+  zoned_ffi.specs.{Units.{per_second, IsUnit}, WallClocks.{AreWallClocks, IsWallClockAt}},
+  zoned_ffi.specs.{WrittenSpans.{IsWrittenSpanAt}, WrittenTypes.{AreWrittenTypesAt, IsWrittenTypeAt}},
+};
 
 pub mod around;
 pub mod locals;

@@ -1,11 +1,13 @@
 //! The changes of a zone's clocks, and the calls by which C asks for them.
 #![tactic(auto, using(crate::proofs::Casts::passed_on))]
 
-ghost use Rattle.std.specs.Prelude.{◌≡◌, ◌≢◌, ◌⊎◌, ◌<ℤ◌, ◌≤ℤ◌, slice_set};
-ghost use Rattle.tz_info.specs.{Changes.{HasNoChange}, OffsetChanges.{KeepsOffset}, Zones.{TypeAt, Zone}};
-ghost use Rattle.zoned_ffi.specs.Handles.{IsLent, IsNoneLent};
-ghost use Rattle.zoned_ffi.specs.WrittenChanges.{written_change, AreFirstWritten, IsFirstOffsetWritten, IsFirstWritten};
-ghost use Rattle.zoned_ffi.specs.WrittenChanges.{IsLastOffsetWritten, IsLastWritten};
+ghost use Rattle.{
+  std.specs.Prelude.{◌≡◌, ◌≢◌, ◌⊎◌, ◌<ℤ◌, ◌≤ℤ◌, slice_set},
+  tz_info.specs.{Changes.{HasNoChange}, OffsetChanges.{KeepsOffset}, Zones.{TypeAt, Zone}},
+  zoned_ffi.specs.Handles.{IsLent, IsNoneLent},
+  zoned_ffi.specs.WrittenChanges.{written_change, AreFirstWritten, IsFirstOffsetWritten, IsFirstWritten},
+  zoned_ffi.specs.WrittenChanges.{IsLastOffsetWritten, IsLastWritten},
+};
 
 use crate::lent::Lent;
 use crate::local_type::WrittenType;

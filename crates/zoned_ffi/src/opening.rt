@@ -1,10 +1,12 @@
 //! Zones that C keeps: opened, shared and closed.
 
-ghost use Rattle.std.specs.{Arc.{arc_value}, Prelude.{◌≡◌, ◌≢◌, ◌⊎◌, ◌↔◌, IfErr, IfOk, IfSome, IsTrue}};
-ghost use Rattle.tz_base.specs.LocalTypes.{IsUtOffset};
-ghost use Rattle.tz_info.specs.Zones.{plain_zone, Zone};
-ghost use Rattle.zoned_ffi.specs.{Handles.{IsClosed, IsLent, IsNoneLent, IsOpen}, Kinds.{IsZoneOf}};
-ghost use Rattle.zoned_ffi.specs.{Limits.{IsAboveLimits}, Refusals.{refusal_number, IsErrorOfKind}};
+ghost use Rattle.{
+  std.specs.{Arc.{arc_value}, Prelude.{◌≡◌, ◌≢◌, ◌⊎◌, ◌↔◌, IfErr, IfOk, IfSome, IsTrue}},
+  tz_base.specs.LocalTypes.{IsUtOffset},
+  tz_info.specs.Zones.{plain_zone, Zone},
+  zoned_ffi.specs.{Handles.{IsClosed, IsLent, IsNoneLent, IsOpen}, Kinds.{IsZoneOf}, Limits.{IsAboveLimits}},
+  zoned_ffi.specs.Refusals.{refusal_number, IsErrorOfKind},
+};
 
 use crate::handle::Handle;
 use crate::kind::{Kind, read_zone};

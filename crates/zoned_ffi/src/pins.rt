@@ -1,31 +1,34 @@
 //! Facts about only the definitions, each proved with no code between: the numbers that the header
 //! gives to C. The functions are empty, and never called.
 
-ghost use Rattle.std.specs.Prelude.{◌≡◌, ◌⊎◌, ◌-ℤ◌, ◌∷◌, [], codes, false, neg_ℤ, pos, true, List, ℕ, ℤ};
-ghost use Rattle.offset_core.specs.WallAnswer.{IsShownBetween, IsShownOnce};
-ghost use Rattle.naive_base.specs.Stamp.{of_secs};
-ghost use Rattle.tz_base.specs.LocalTypes.{LocalType};
-ghost use Rattle.tz_info.specs.{Around.{Skips}, PosixZones.{IsExtendedZone}, WallClocks.{Shows}};
-ghost use Rattle.tz_info.specs.FilePieces.{HasCounts};
-ghost use Rattle.tz_info.specs.{Folds.{HasFold, Repeats, SkipsOrRepeats}, TzFiles.{IsTzFile}, Zones.{IsTypeRefused, IsValid, TypeAt, Zone}};
-ghost use Rattle.naive_plans.specs.ClockSteps.{BeginsStep};
-ghost use Rattle.zoned_time.specs.{Days.{IsInDay}, StepBounds.{AreStepBounds}};
-ghost use Rattle.zoned_ref.specs.Offsets.{AreOffsetsOf};
-ghost use Rattle.tz_write.specs.WrittenTexts.{IsWrittenText};
-ghost use Rattle.zoned_ffi.specs.Columns.{second_holding, IsAnsweredOrNone, IsFirstWithout, IsInstantOf, IsNoInstant};
-ghost use Rattle.zoned_ffi.specs.Columns.{IsNoWholeSecondOf, IsRowNumber, IsSoughtNumber, IsWholeSecondOf};
-ghost use Rattle.zoned_ffi.specs.{FaultPlaces.{no_position, IsFaultPosition}, Steps.SetBack.{set_back, summer, winter}};
-ghost use Rattle.zoned_ffi.specs.{Fields.{AreFieldsOf, IsNoLocalOf}, WrittenSpans.{written_span, IsWrittenSpanAt}};
-ghost use Rattle.zoned_ffi.specs.{Handles.{IsUnanswered}, Kinds.{kind_number, IsKind}, Texts.{written_over, IsTextOf}};
-ghost use Rattle.zoned_ffi.specs.{Instants.{no_offset, IsWrittenOffsetAt}, WrittenSavings.{written_saving}};
-ghost use Rattle.zoned_ffi.specs.{Limits.{IsAboveLimits}, LocalInfos.{IsLocalInfo}, RuleStrings.{IsRuleString}};
-ghost use Rattle.zoned_ffi.specs.Refusals.{detail_number, refusal_number, IsErrorOfKind, IsReaderNumber};
-ghost use Rattle.zoned_ffi.specs.Resolved.{unresolved, IsChoice, IsChoiceOf, IsNoneTaken, IsReachedAt, IsResolvedAt};
-ghost use Rattle.zoned_ffi.specs.{Resolved.{IsTakenGapEnd, IsTakenType, TakesOf}, WallClocks.{out_of_range, written}};
-ghost use Rattle.zoned_ffi.specs.Units.{local_by, no_time, per_second, IsCounted, IsLocal, IsUnit};
-ghost use Rattle.zoned_ffi.specs.WholeSeconds.{step_number, IsDayAt, IsFound, IsNoDayAt, IsStep};
-ghost use Rattle.zoned_ffi.specs.WrittenChanges.{written_change, written_into, IsNoLocalChange};
-ghost use Rattle.zoned_ffi.specs.WrittenTypes.{mark, no_type, written_type, zero_ended, zeros};
+ghost use Rattle.{
+  naive_base.specs.Stamp.{of_secs},
+  naive_plans.specs.ClockSteps.{BeginsStep},
+  offset_core.specs.WallAnswer.{IsShownBetween, IsShownOnce},
+  std.specs.Prelude.{◌≡◌, ◌⊎◌, ◌-ℤ◌, ◌∷◌, [], codes, false, neg_ℤ, pos, true, List, ℕ, ℤ},
+  tz_base.specs.LocalTypes.{LocalType},
+  tz_info.specs.{Around.{Skips}, PosixZones.{IsExtendedZone}, WallClocks.{Shows}, FilePieces.{HasCounts}},
+  tz_info.specs.{Folds.{HasFold, Repeats, SkipsOrRepeats}, TzFiles.{IsTzFile}},
+  tz_info.specs.Zones.{IsTypeRefused, IsValid, TypeAt, Zone},
+  tz_write.specs.WrittenTexts.{IsWrittenText},
+  zoned_ffi.specs.Columns.{second_holding, IsAnsweredOrNone, IsFirstWithout, IsInstantOf, IsNoInstant},
+  zoned_ffi.specs.Columns.{IsNoWholeSecondOf, IsRowNumber, IsSoughtNumber, IsWholeSecondOf},
+  zoned_ffi.specs.{FaultPlaces.{no_position, IsFaultPosition}, Steps.SetBack.{set_back, summer, winter}},
+  zoned_ffi.specs.{Fields.{AreFieldsOf, IsNoLocalOf}, WrittenSpans.{written_span, IsWrittenSpanAt}},
+  zoned_ffi.specs.{Handles.{IsUnanswered}, Kinds.{kind_number, IsKind}, Texts.{written_over, IsTextOf}},
+  zoned_ffi.specs.{Instants.{no_offset, IsWrittenOffsetAt}, WrittenSavings.{written_saving}, Limits.{IsAboveLimits}},
+  zoned_ffi.specs.{LocalInfos.{IsLocalInfo}, RuleStrings.{IsRuleString}},
+  zoned_ffi.specs.Refusals.{detail_number, refusal_number, IsErrorOfKind, IsReaderNumber},
+  zoned_ffi.specs.Resolved.{unresolved, IsChoice, IsChoiceOf, IsNoneTaken, IsReachedAt, IsResolvedAt, IsTakenGapEnd},
+  zoned_ffi.specs.Resolved.{IsTakenType, TakesOf},
+  zoned_ffi.specs.WallClocks.{out_of_range, written},
+  zoned_ffi.specs.Units.{local_by, no_time, per_second, IsCounted, IsLocal, IsUnit},
+  zoned_ffi.specs.WholeSeconds.{step_number, IsDayAt, IsFound, IsNoDayAt, IsStep},
+  zoned_ffi.specs.WrittenChanges.{written_change, written_into, IsNoLocalChange},
+  zoned_ffi.specs.WrittenTypes.{mark, no_type, written_type, zero_ended, zeros},
+  zoned_ref.specs.Offsets.{AreOffsetsOf},
+  zoned_time.specs.{Days.{IsInDay}, StepBounds.{AreStepBounds}},
+};
 
 use crate::choice::{Choice, ChoiceInGap};
 use crate::column::Way;

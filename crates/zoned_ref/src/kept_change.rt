@@ -1,10 +1,11 @@
 //! When the clocks of a kept zone change, as instants.
-ghost use Rattle.std.specs.Prelude.{◌≡◌, ◌<ℤ◌, ◌≤ℤ◌, option_map, IfSome};
-ghost use Rattle.tz_info.specs.{Changes.{IsFirst, IsLast}, Zones.{TypeAt}};
-ghost use Rattle.zoned_time.specs.DateTime.{zoned};
+ghost use Rattle.{
+  std.specs.Prelude.{◌≡◌, ◌<ℤ◌, ◌≤ℤ◌, option_map, IfSome},
+  tz_info.specs.{Changes.{IsFirst, IsLast}, Zones.{TypeAt}},
+  zoned_ref.specs.{KeptZone.{change_of, off_of, zone_of, IsOfZone}, ZoneChange.{IsAfter, IsUpTo, StandWithin}},
+  zoned_time.specs.DateTime.{zoned},
+};
 ghost use Rattle.zoned_ref.specs.ZoneChange as borrowed;
-ghost use Rattle.zoned_ref.specs.KeptZone.{change_of, off_of, zone_of, IsOfZone};
-ghost use Rattle.zoned_ref.specs.ZoneChange.{IsAfter, IsUpTo, StandWithin};
 
 use crate::{KeptZone, TimeZoneRef, ZoneChange};
 use zoned_time::{DateTime, TimeZone};

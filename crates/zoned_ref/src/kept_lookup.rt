@@ -1,12 +1,13 @@
 //! A kept zone's lookups and its days: those of the borrowed one.
-ghost use Rattle.std.specs.Prelude.{refl, MatchOption};
-ghost use Rattle.offset_core.specs.{LocalResult.{map_of}, WallAnswer.{IsWallAnswer}};
-ghost use Rattle.naive_base.specs.NaiveDateTime.{reading};
-ghost use Rattle.tz_info.specs.{Around.{map_both, IsAroundOrBefore}, Gaps.{IsShown, IsTypeBeforeGap}, Zones.{TypeAt}};
-ghost use Rattle.tz_info.specs.WallClocks.{Shows};
-ghost use Rattle.zoned_time.specs.Choice.{AreOffsetsAround, IsOffsetBeforeGap};
-ghost use Rattle.zoned_time.specs.Zone.{midnight_of, AreOffsetsFor, IsOffsetAt};
-ghost use Rattle.zoned_ref.specs.{KeptZone.{law_of, zone_of}, ZoneOffset.{meaning_of, type_of}};
+ghost use Rattle.{
+  naive_base.specs.NaiveDateTime.{reading},
+  offset_core.specs.{LocalResult.{map_of}, WallAnswer.{IsWallAnswer}},
+  std.specs.Prelude.{refl, MatchOption},
+  tz_info.specs.{Around.{map_both, IsAroundOrBefore}, Gaps.{IsShown, IsTypeBeforeGap}, Zones.{TypeAt}},
+  tz_info.specs.WallClocks.{Shows},
+  zoned_ref.specs.{KeptZone.{law_of, zone_of}, ZoneOffset.{meaning_of, type_of}},
+  zoned_time.specs.{Choice.{AreOffsetsAround, IsOffsetBeforeGap}, Zone.{midnight_of, AreOffsetsFor, IsOffsetAt}},
+};
 
 use crate::{KeptZone, ZoneOffset};
 use naive_base::{NaiveDate, NaiveDateTime};

@@ -1,13 +1,14 @@
 //! A borrowed zone's lookups: those of the parsed zone, as offsets.
-ghost use Rattle.std.specs.Prelude.{◌≡◌, refl, MatchOption};
-ghost use Rattle.offset_core.specs.{LocalResult.{map_of}, WallAnswer.{IsWallAnswer}};
-ghost use Rattle.naive_base.specs.NaiveDateTime.{reading};
-ghost use Rattle.tz_info.specs.{Around.{map_both, IsAroundOrBefore}, Gaps.{IsShown, IsTypeBeforeGap}, Zones.{TypeAt}};
-ghost use Rattle.tz_info.specs.WallClocks.{Shows};
-ghost use Rattle.zoned_time.specs.Choice.{AreOffsetsAround, IsOffsetBeforeGap};
-ghost use Rattle.zoned_time.specs.Zone.{midnight_of, AreOffsetsFor, IsOffsetAt, IsZoneSecond};
-ghost use Rattle.zoned_ref.specs.Offsets.{AreOffsetsOf};
-ghost use Rattle.zoned_ref.specs.{TimeZoneRef.{off_of, zone_of}, ZoneOffset.{law_of, meaning_of, type_of}};
+ghost use Rattle.{
+  naive_base.specs.NaiveDateTime.{reading},
+  offset_core.specs.{LocalResult.{map_of}, WallAnswer.{IsWallAnswer}},
+  std.specs.Prelude.{◌≡◌, refl, MatchOption},
+  tz_info.specs.{Around.{map_both, IsAroundOrBefore}, Gaps.{IsShown, IsTypeBeforeGap}, Zones.{TypeAt}},
+  tz_info.specs.WallClocks.{Shows},
+  zoned_ref.specs.{Offsets.{AreOffsetsOf}, TimeZoneRef.{off_of, zone_of}, ZoneOffset.{law_of, meaning_of, type_of}},
+  zoned_time.specs.Choice.{AreOffsetsAround, IsOffsetBeforeGap},
+  zoned_time.specs.Zone.{midnight_of, AreOffsetsFor, IsOffsetAt, IsZoneSecond},
+};
 
 use crate::{TimeZoneRef, ZoneOffset};
 use naive_base::{NaiveDate, NaiveDateTime, NaiveTime};

@@ -1,14 +1,15 @@
 //! When the clocks of a zone show a local time: from the bytes of a file, or a TZ string, to the
 //! instants.
-ghost use Rattle.std.specs.Prelude.{◌≡◌, ◌⊎◌, option_map, IfErr, IfOk, MatchResult, SomeIff};
-ghost use Rattle.offset_core.specs.{FixedOffset.{seconds_of}, LocalResult.{map_of}, Offset.{IsWithinDay}};
-ghost use Rattle.naive_base.specs.NaiveDateTime.{reading};
-ghost use Rattle.tz_base.specs.Errors.{error_number};
-ghost use Rattle.tz_info.specs.Counts.{HasRoom};
-ghost use Rattle.tz_info.specs.{FilePieces.{FilePieces, HasPieces}, PosixZones.{IsPosixFault, IsPosixZone}};
-ghost use Rattle.tz_info.specs.{Looks.{RoseByWallClock}, TzFiles.{IsTzFile, IsZoneFault}, Zones.{IsValid, Zone}};
-ghost use Rattle.zoned_time.specs.{DateTime.{zoned}, Relocal.{instant_of, HasInstant}, Zone.{Each}, Zoned.{in_seconds}};
-ghost use Rattle.zoned_ref.specs.Instants.{AreInstantsAt, AreInstantsFor, AreTypesFor};
+ghost use Rattle.{
+  naive_base.specs.NaiveDateTime.{reading},
+  offset_core.specs.{FixedOffset.{seconds_of}, LocalResult.{map_of}, Offset.{IsWithinDay}},
+  std.specs.Prelude.{◌≡◌, ◌⊎◌, option_map, IfErr, IfOk, MatchResult, SomeIff},
+  tz_base.specs.Errors.{error_number},
+  tz_info.specs.{Counts.{HasRoom}, FilePieces.{FilePieces, HasPieces}, PosixZones.{IsPosixFault, IsPosixZone}},
+  tz_info.specs.{Looks.{RoseByWallClock}, TzFiles.{IsTzFile, IsZoneFault}, Zones.{IsValid, Zone}},
+  zoned_ref.specs.Instants.{AreInstantsAt, AreInstantsFor, AreTypesFor},
+  zoned_time.specs.{DateTime.{zoned}, Relocal.{instant_of, HasInstant}, Zone.{Each}, Zoned.{in_seconds}},
+};
 
 use crate::TimeZoneRef;
 use naive_base::NaiveDateTime;

@@ -1,11 +1,13 @@
 //! Rounding to multiples of a length of time.
-ghost use Rattle.std.specs.{Int.{w64}, Prelude.{◌≡◌, FitsSigned, ℤ}};
-ghost use Rattle.offset_core.specs.TimeDelta.{nanos_of};
-ghost use Rattle.naive_base.specs.{NaiveDateTime.{reading}, Reading.{moved, total, Reading}};
-ghost use Rattle.zoned_time.specs.{DateTime.{home_law_of, wall_of, zoned}, Zoned.{IsAt}};
-ghost use Rattle.zoned_round.specs.Durations.{IsGone, IsReadingMoved, IsRoundedTo};
-ghost use Rattle.zoned_round.specs.Multiples.{multiple_above, multiple_below, nearest_multiple};
-ghost use Rattle.zoned_round.specs.{Steps.Stamps.{IsNearRange}, declared.error.RoundingError.{RoundingError as Fault}};
+ghost use Rattle.{
+  naive_base.specs.{NaiveDateTime.{reading}, Reading.{moved, total, Reading}},
+  offset_core.specs.TimeDelta.{nanos_of},
+  std.specs.{Int.{w64}, Prelude.{◌≡◌, FitsSigned, ℤ}},
+  zoned_round.specs.Durations.{IsGone, IsReadingMoved, IsRoundedTo},
+  zoned_round.specs.{Multiples.{multiple_above, multiple_below, nearest_multiple}, Steps.Stamps.{IsNearRange}},
+  zoned_round.specs.declared.error.RoundingError.{RoundingError as Fault},
+  zoned_time.specs.{DateTime.{home_law_of, wall_of, zoned}, Zoned.{IsAt}},
+};
 
 use crate::RoundingError;
 use crate::stamp::Stamp;

@@ -1,10 +1,12 @@
 //! Theorems: each function is empty, its contract is proved; never called.
-ghost use Rattle.std.specs.{Int.{w64}, Prelude.{◌≡◌, ◌↔◌, ◌⊎◌, ◌<◌, ◌≤◌, ◌≤ℤ◌, FitsSigned, IsTrue, ℕ, ℤ}};
-ghost use Rattle.naive_base.specs.{NaiveDateTime.{reading}, Range.{IsInRange}, Reading.{total, Reading}};
-ghost use Rattle.zoned_time.specs.DateTime.{wall_of, zoned};
-ghost use Rattle.zoned_round.specs.{Durations.{IsRoundedTo}, Subseconds.{MayRound}};
-ghost use Rattle.zoned_round.specs.Laws.{apart, IsGreatestWith, IsLeastWith, IsMultiple, IsShortOf, IsWithinHalf};
-ghost use Rattle.zoned_round.specs.Multiples.{multiple_above, multiple_below, nearest_multiple};
+ghost use Rattle.{
+  naive_base.specs.{NaiveDateTime.{reading}, Range.{IsInRange}, Reading.{total, Reading}},
+  std.specs.{Int.{w64}, Prelude.{◌≡◌, ◌↔◌, ◌⊎◌, ◌<◌, ◌≤◌, ◌≤ℤ◌, FitsSigned, IsTrue, ℕ, ℤ}},
+  zoned_round.specs.{Durations.{IsRoundedTo}, Subseconds.{MayRound}},
+  zoned_round.specs.Laws.{apart, IsGreatestWith, IsLeastWith, IsMultiple, IsShortOf, IsWithinHalf},
+  zoned_round.specs.Multiples.{multiple_above, multiple_below, nearest_multiple},
+  zoned_time.specs.DateTime.{wall_of, zoned},
+};
 
 use crate::{DurationRound, RoundingError, SubsecRound};
 use naive_base::{NaiveDateTime, NaiveTime};

@@ -1,9 +1,10 @@
 //! A series as a plan: its time on its first day and on each day after it, whatever the zone.
-ghost use Rattle.std.specs.Prelude.{◌≡◌};
-ghost use Rattle.naive_base.specs.{NaiveDate.{day_of}, NaiveDateTime.{reading}, NaiveTime.{second_of}, Reading.{reading_at}};
-ghost use Rattle.naive_plans.specs.DayPlans.{IsPlannedOnItsDay};
-ghost use Rattle.zoned_series.specs.DailySeries.{series_of};
-ghost use Rattle.zoned_series.specs.Series.{IsPlannedOn};
+ghost use Rattle.{
+  naive_base.specs.{NaiveDate.{day_of}, NaiveDateTime.{reading}, NaiveTime.{second_of}, Reading.{reading_at}},
+  naive_plans.specs.DayPlans.{IsPlannedOnItsDay},
+  std.specs.Prelude.{◌≡◌},
+  zoned_series.specs.{DailySeries.{series_of}, Series.{IsPlannedOn}},
+};
 
 use crate::DailySeries;
 use naive_base::{NaiveDate, NaiveDateTime, NaiveTime, Timelike};

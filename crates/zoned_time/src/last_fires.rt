@@ -1,11 +1,13 @@
 //! When plans fired last under a policy for local times in gaps and in folds.
-ghost use Rattle.std.specs.Prelude.{◌≡◌, ◌↔◌, ◌+ℤ◌, ◌-ℤ◌, pos, IsTrue, MatchOption};
-ghost use Rattle.offset_core.specs.Offset.{IsWithinDay};
-ghost use Rattle.naive_base.specs.Range.{IsInRange};
-ghost use Rattle.zoned_time.specs.{DateTime.{zoned}, Fires.{second_before}, Policies.{IsFireBy, IsShownFire}};
-ghost use Rattle.zoned_time.specs.Nearest.{IsZonedLastOf, NoneUntil};
-ghost use Rattle.zoned_time.specs.Steps.Shown.{AreAllQuietUntil, AreQuietUntil, IsEither, IsFirstShown, IsLastPlannedIn};
-ghost use Rattle.zoned_time.specs.Steps.Shown.{NoneUntilPlannedIn};
+ghost use Rattle.{
+  naive_base.specs.Range.{IsInRange},
+  offset_core.specs.Offset.{IsWithinDay},
+  std.specs.Prelude.{◌≡◌, ◌↔◌, ◌+ℤ◌, ◌-ℤ◌, pos, IsTrue, MatchOption},
+  zoned_time.specs.{DateTime.{zoned}, Fires.{second_before}, Policies.{IsFireBy, IsShownFire}},
+  zoned_time.specs.Nearest.{IsZonedLastOf, NoneUntil},
+  zoned_time.specs.Steps.Shown.{AreAllQuietUntil, AreQuietUntil, IsEither, IsFirstShown, IsLastPlannedIn},
+  zoned_time.specs.Steps.Shown.{NoneUntilPlannedIn},
+};
 
 use crate::policies::utc_at;
 use crate::resolve::instant_at;

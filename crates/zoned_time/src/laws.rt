@@ -4,17 +4,19 @@ pub mod days;
 pub mod fires;
 pub mod steps;
 
+ghost use Rattle.{
+  naive_base.specs.{Fields.{TimeOfDay}, NaiveDateTime.{reading}, Range.{IsInRange}},
+  naive_base.specs.{Reading.{of_total, total, IsEarlier, Reading}, Stamp.{of_secs, IsStamp}},
+  offset_core.specs.{FixedOffset.{seconds_of}, LocalResult.{map_of}},
+  std.specs.{Int.{w64}, Prelude.{◌≡◌, ◌↔◌, ◌⊎◌, ◌++◌, [], FitsSigned, IsTrue, Option, SomeIff, ℕ, ℤ}},
+  zoned_time.specs.Choice.{IsBeforeGap, IsResolved, IsUnresolved},
+  zoned_time.specs.{DateTime.{home_law_of, zoned, IsIn, IsOnlyAtTime, IsOnlyOnDay}, Order.{compared}},
+  zoned_time.specs.Relocal.{instant_of, HasInstant, IsRelocal, SingleIff},
+  zoned_time.specs.Stamps.{in_utc, micros_of, millis_of, of_micros, of_millis},
+  zoned_time.specs.Zone.{seconds_alone, Each, SameLaw, SameOffsets},
+  zoned_time.specs.Zoned.{in_seconds, local_of, IsAt, IsFixedFrom, Zoned},
+};
 ghost use Rattle.std.specs.Hash as fed;
-ghost use Rattle.std.specs.{Int.{w64}, Prelude.{◌≡◌, ◌↔◌, ◌⊎◌, ◌++◌, [], FitsSigned, IsTrue, Option, SomeIff, ℕ, ℤ}};
-ghost use Rattle.offset_core.specs.{FixedOffset.{seconds_of}, LocalResult.{map_of}};
-ghost use Rattle.naive_base.specs.{Fields.{TimeOfDay}, NaiveDateTime.{reading}, Range.{IsInRange}};
-ghost use Rattle.naive_base.specs.{Reading.{of_total, total, IsEarlier, Reading}, Stamp.{of_secs, IsStamp}};
-ghost use Rattle.zoned_time.specs.Choice.{IsBeforeGap, IsResolved, IsUnresolved};
-ghost use Rattle.zoned_time.specs.{DateTime.{home_law_of, zoned, IsIn, IsOnlyAtTime, IsOnlyOnDay}, Order.{compared}};
-ghost use Rattle.zoned_time.specs.Relocal.{instant_of, HasInstant, IsRelocal, SingleIff};
-ghost use Rattle.zoned_time.specs.Stamps.{in_utc, micros_of, millis_of, of_micros, of_millis};
-ghost use Rattle.zoned_time.specs.Zone.{seconds_alone, Each, SameLaw, SameOffsets};
-ghost use Rattle.zoned_time.specs.Zoned.{in_seconds, local_of, IsAt, IsFixedFrom, Zoned};
 
 use crate::{DateTime, Offset, TimeZone, Utc};
 use naive_base::NaiveDateTime;

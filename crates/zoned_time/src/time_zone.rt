@@ -1,12 +1,14 @@
 //! Zones.
-ghost use Rattle.std.specs.Prelude.{◌≡◌, pos, IsSome, MatchResult, ℤ};
-ghost use Rattle.offset_core.specs.{LocalResult.{map_of, single_of}, Offset.{IsWithinDay}};
-ghost use Rattle.naive_base.specs.{Clock.{clock_second, IsClock}, Range.{IsInRange, IsInnerYear, IsYearInRange}};
-ghost use Rattle.naive_base.specs.{Date.{day_number, IsDate}, Reading.{behind, of_total, reading_at}};
-ghost use Rattle.naive_base.specs.{NaiveDateTime.{reading}, Stamp.{of_secs, IsStamp}};
+ghost use Rattle.{
+  naive_base.specs.{Clock.{clock_second, IsClock}, Range.{IsInRange, IsInnerYear, IsYearInRange}},
+  naive_base.specs.{Date.{day_number, IsDate}, Reading.{behind, of_total, reading_at}, NaiveDateTime.{reading}},
+  naive_base.specs.Stamp.{of_secs, IsStamp},
+  offset_core.specs.{LocalResult.{map_of, single_of}, Offset.{IsWithinDay}},
+  std.specs.Prelude.{◌≡◌, pos, IsSome, MatchResult, ℤ},
+  zoned_time.specs.{Choice.{AreOffsetsAround, IsOffsetBeforeGap, IsResolved, IsUnresolved}, Relocal.{IsRelocal}},
+  zoned_time.specs.{Stamps.{of_micros, of_millis, IsAtWhere}, Zoned.{shown, IsAt}},
+};
 ghost use Rattle.zoned_time.specs.Zone as zones;
-ghost use Rattle.zoned_time.specs.Choice.{AreOffsetsAround, IsOffsetBeforeGap, IsResolved, IsUnresolved};
-ghost use Rattle.zoned_time.specs.{Relocal.{IsRelocal}, Stamps.{of_micros, of_millis, IsAtWhere}, Zoned.{shown, IsAt}};
 
 use crate::resolve::{instant_by, shifted};
 use crate::{DateTime, Offset, Utc};

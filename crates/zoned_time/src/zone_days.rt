@@ -1,16 +1,18 @@
 //! The days of a zone, and when plans fire in it.
-ghost use Rattle.std.specs.Prelude.{◌≡◌, ◌↔◌, ◌≤ℤ◌, ◌+ℤ◌, ◌-ℤ◌, pos, IfSome, IsTrue, MatchOption, ℤ};
-ghost use Rattle.offset_core.specs.{Offset.{IsWithinDay}, TimeDelta.{nanos_of}};
-ghost use Rattle.naive_base.specs.{NaiveDate.{day_of}, Stamp.{of_secs}, Year.{floor_div}};
-ghost use Rattle.naive_base.specs.{NaiveDateTime.{reading}, Range.{IsInRange, IsWideDay}, Weekday.{weekday_number}};
-ghost use Rattle.naive_plans.specs.ClockSteps.{BeginsStep};
+ghost use Rattle.{
+  naive_base.specs.{NaiveDate.{day_of}, Stamp.{of_secs}, Year.{floor_div}, NaiveDateTime.{reading}},
+  naive_base.specs.{Range.{IsInRange, IsWideDay}, Weekday.{weekday_number}},
+  naive_plans.specs.ClockSteps.{BeginsStep},
+  offset_core.specs.{Offset.{IsWithinDay}, TimeDelta.{nanos_of}},
+  std.specs.Prelude.{◌≡◌, ◌↔◌, ◌≤ℤ◌, ◌+ℤ◌, ◌-ℤ◌, pos, IfSome, IsTrue, MatchOption, ℤ},
+  zoned_time.specs.{DateTime.{zoned}, Fires.{IsFire}, Policies.{IsFireBy}},
+  zoned_time.specs.{Nearest.{IsZonedLastOf, IsZonedNextOf, NoneAfter, NoneUntil}, Reached.{IsReachedAt}},
+  zoned_time.specs.{Stretches.{IsOffsetStretch}, Zoned.{IsAt}},
+};
 ghost use Rattle.zoned_time.specs.Days as instants;
 ghost use Rattle.zoned_time.specs.DayEnds as ends;
 ghost use Rattle.zoned_time.specs.Fires as fire_times;
 ghost use Rattle.zoned_time.specs.StepBounds as bounds;
-ghost use Rattle.zoned_time.specs.{DateTime.{zoned}, Fires.{IsFire}, Policies.{IsFireBy}};
-ghost use Rattle.zoned_time.specs.Nearest.{IsZonedLastOf, IsZonedNextOf, NoneAfter, NoneUntil};
-ghost use Rattle.zoned_time.specs.{Reached.{IsReachedAt}, Stretches.{IsOffsetStretch}, Zoned.{IsAt}};
 
 use crate::last_fires::{last_by_policy, previous_by_policy};
 use crate::policies::next_by_policy;

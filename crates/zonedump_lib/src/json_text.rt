@@ -1,12 +1,14 @@
 //! A zone and the changes of its clocks as JSON.
 #![tactic(auto, using(crate::proofs::JsonPutting::wrote, crate::proofs::JsonPutting::puts_then))]
 
-ghost use Rattle.std.specs.{Fmt.{signed_decimal}, Prelude.{◌≡◌, ◌∷◌, [], codes, decimal, flat_map, length, IfOk}};
-ghost use Rattle.json.specs.Json.{document};
-ghost use Rattle.json.specs.{Print.{print}, Token.{begin_object, end_object, key, number, string}, Tree.{json_tokens}};
-ghost use Rattle.naive_base.specs.NaiveDate.{printed_date};
-ghost use Rattle.zonedump_lib.specs.{ChangeValues.{list_value}, JsonSteps.{Puts}, Periods.{bound_value}};
-ghost use Rattle.zonedump_lib.specs.JsonValues.{day_value, leap_value, moment_value, rule_value, zone_value, IsJson};
+ghost use Rattle.{
+  json.specs.{Json.{document}, Print.{print}, Token.{begin_object, end_object, key, number, string}},
+  json.specs.Tree.{json_tokens},
+  naive_base.specs.NaiveDate.{printed_date},
+  std.specs.{Fmt.{signed_decimal}, Prelude.{◌≡◌, ◌∷◌, [], codes, decimal, flat_map, length, IfOk}},
+  zonedump_lib.specs.{ChangeValues.{list_value}, JsonSteps.{Puts}, Periods.{bound_value}},
+  zonedump_lib.specs.JsonValues.{day_value, leap_value, moment_value, rule_value, zone_value, IsJson},
+};
 
 use crate::change_json::{put_changes, put_count, put_number, put_string, put_type};
 use crate::changes::changes_in;

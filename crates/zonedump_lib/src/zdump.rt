@@ -1,12 +1,13 @@
 //! The lines that `zdump -v` prints of a zone.
 
-ghost use Rattle.std.specs.List.{flat_map};
-ghost use Rattle.std.specs.Prelude.{◌≡◌, ◌-ℤ◌, ◌++◌, [], codes, pos, string_bytes, All, IfOk, OnOk, Some};
-ghost use Rattle.naive_base.specs.{NaiveDateTime.{reading}, Reading.{day_at}};
-ghost use Rattle.zonedump_lib.specs.{ChangeLines.{ended_line}, Steps.Seconds.{clocks_of}, Zdump.{IsZdump}};
-ghost use Rattle.zonedump_lib.specs.{Spans.{IsInYears, IsNearYears}, ZdumpLines.{zdump_day_text, zdump_text}};
-ghost use Rattle.zonedump_lib.specs.ZdumpLines.{asctime_text, first_lines, last_lines, null_line, pair_lines};
-ghost use Rattle.zonedump_lib.specs.ZdumpLines.{second_text, short_day, short_month, short_weekday, type_fields};
+ghost use Rattle.{
+  naive_base.specs.{NaiveDateTime.{reading}, Reading.{day_at}},
+  std.specs.{List.{flat_map}, Prelude.{◌≡◌, ◌-ℤ◌, ◌++◌, [], codes, pos, string_bytes, All, IfOk, OnOk, Some}},
+  zonedump_lib.specs.{ChangeLines.{ended_line}, Steps.Seconds.{clocks_of}, Zdump.{IsZdump}},
+  zonedump_lib.specs.Spans.{IsInYears, IsNearYears},
+  zonedump_lib.specs.ZdumpLines.{zdump_day_text, zdump_text, asctime_text, first_lines, last_lines, null_line},
+  zonedump_lib.specs.ZdumpLines.{pair_lines, second_text, short_day, short_month, short_weekday, type_fields},
+};
 
 use crate::change_lines::{shown, utc_at};
 use crate::changes::changes_after;

@@ -1,13 +1,14 @@
 //! The answer to a line.
 
-ghost use Rattle.std.specs.Prelude.{◌≡◌, ◌++◌, ◌∷◌, [], codes, string_bytes, IfSome, List};
-ghost use Rattle.std.specs.Prelude.{MatchResult, OnOk, Some, ℕ};
-ghost use Rattle.naive_base.specs.{NaiveDateTime.{reading}, Text.{reading_text}};
-ghost use Rattle.tz_base.specs.Errors.{error_number};
-ghost use Rattle.zoned_time.specs.{DateTime.{zoned}, Zoned.{local_of}};
-ghost use Rattle.zoneq_lib.specs.Answers.{shown_refusal, shown_type, shown_wall, shown_zone, AnswersAt, AnswersData};
-ghost use Rattle.zoneq_lib.specs.Answers.{AnswersFile, AnswersLine, AnswersResolve, AnswersShow, AnswersText, AnswersWall};
-ghost use Rattle.zoneq_lib.specs.Hex.{bytes_of};
+ghost use Rattle.{
+  naive_base.specs.{NaiveDateTime.{reading}, Text.{reading_text}},
+  std.specs.Prelude.{◌≡◌, ◌++◌, ◌∷◌, [], codes, string_bytes, IfSome, List, MatchResult, OnOk, Some, ℕ},
+  tz_base.specs.Errors.{error_number},
+  zoned_time.specs.{DateTime.{zoned}, Zoned.{local_of}},
+  zoneq_lib.specs.Answers.{shown_refusal, shown_type, shown_wall, shown_zone, AnswersAt, AnswersData, AnswersFile},
+  zoneq_lib.specs.Answers.{AnswersLine, AnswersResolve, AnswersShow, AnswersText, AnswersWall},
+  zoneq_lib.specs.Hex.{bytes_of},
+};
 
 use crate::question::Question;
 use naive_base::NaiveDateTime;

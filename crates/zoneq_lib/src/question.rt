@@ -1,10 +1,12 @@
 //! A line as a question.
 
-ghost use Rattle.std.specs.Prelude.{[], MatchOption};
-ghost use Rattle.naive_base.specs.{NaiveDate.{day_of}, NaiveDateTime.{reading}};
-ghost use Rattle.zoneq_lib.specs.Questions.{at_query, calendar_day, data_query, local_time, resolve_query, show_query};
-ghost use Rattle.zoneq_lib.specs.{Questions.{text_query, wall_query}, Steps.LineReading.{scan, ReadsAs}};
-ghost use Rattle.zoneq_lib.specs.Steps.QueryOf.{query_of};
+ghost use Rattle.{
+  naive_base.specs.{NaiveDate.{day_of}, NaiveDateTime.{reading}},
+  std.specs.Prelude.{[], MatchOption},
+  zoneq_lib.specs.Questions.{at_query, calendar_day, data_query, local_time, resolve_query, show_query, text_query},
+  zoneq_lib.specs.Questions.{wall_query},
+  zoneq_lib.specs.Steps.{LineReading.{scan, ReadsAs}, QueryOf.{query_of}},
+};
 
 use crate::bad_line::{BadLine, stop};
 use crate::choices::choice;

@@ -1,12 +1,13 @@
 //! The designations of a data block (RFC 8536 section 3.2), in which types with the same name, or
 //! with names of which one ends the other, share bytes.
 
-ghost use Rattle.std.specs.Prelude.{◌≡◌, ◌↔◌, ◌<◌, ◌≤◌, ◌+◌, ◌++◌, [], length, All, IsTrue, List, MatchOption, ℕ};
-ghost use Rattle.tz_base.specs.Names.{IsNameOrNone};
-ghost use Rattle.tz_write.specs.FileDesignations.{begins, name_of, place_of, AreNamesIn, AreShortest};
-ghost use Rattle.tz_write.specs.FileLayouts.{before_last, laid, laid_from, text_at, with_text, with_text_of};
-ghost use Rattle.tz_write.specs.FileLayouts.{with_texts, AreNotPlacedBefore, ArePlaced, HasPlace, HavePlaces};
-ghost use Rattle.tz_write.specs.FileLayouts.{IsFirstPlaced, IsLaid, IsPlacedFrom};
+ghost use Rattle.{
+  std.specs.Prelude.{◌≡◌, ◌↔◌, ◌<◌, ◌≤◌, ◌+◌, ◌++◌, [], length, All, IsTrue, List, MatchOption, ℕ},
+  tz_base.specs.Names.{IsNameOrNone},
+  tz_write.specs.FileDesignations.{begins, name_of, place_of, AreNamesIn, AreShortest},
+  tz_write.specs.FileLayouts.{before_last, laid, laid_from, text_at, with_text, with_text_of, with_texts},
+  tz_write.specs.FileLayouts.{AreNotPlacedBefore, ArePlaced, HasPlace, HavePlaces, IsFirstPlaced, IsLaid, IsPlacedFrom},
+};
 
 use std::marker::Model;
 use tz_info::LocalTimeType;

@@ -1,10 +1,12 @@
 //! A file from its first byte to its last.
 
-ghost use Rattle.std.specs.Prelude.{◌≡◌, ◌≤◌, ◌++◌, [], length, All, IfOk, MatchOption, OnOk};
-ghost use Rattle.tz_info.specs.Zones.{IsRuleOrNone, IsValid};
-ghost use Rattle.tz_write.specs.FileBytes.{block_bytes, file_bytes, footer_bytes, second_half, zone_counts, zone_parts};
-ghost use Rattle.tz_write.specs.{FileLayouts.{HavePlaces}, Steps.FileParts.{counts_in, IsRoomOf}};
-ghost use Rattle.tz_write.specs.WrittenFiles.{FitsBlock, HasCounts, HasIndex, IsCount, IsSound};
+ghost use Rattle.{
+  std.specs.Prelude.{◌≡◌, ◌≤◌, ◌++◌, [], length, All, IfOk, MatchOption, OnOk},
+  tz_info.specs.Zones.{IsRuleOrNone, IsValid},
+  tz_write.specs.FileBytes.{block_bytes, file_bytes, footer_bytes, second_half, zone_counts, zone_parts},
+  tz_write.specs.{FileLayouts.{HavePlaces}, Steps.FileParts.{counts_in, IsRoomOf}},
+  tz_write.specs.WrittenFiles.{FitsBlock, HasCounts, HasIndex, IsCount, IsSound},
+};
 
 use crate::file::contents::{have_indexes, push_indexes, push_leap_seconds, push_times};
 use crate::file::designations::{Designations, designations_of};

@@ -1,12 +1,14 @@
 //! Theorems of the files that are written.
 
-ghost use Rattle.std.specs.Prelude.{◌≡◌, ◌∷◌, [], codes, false, neg_ℤ, pos, slice_index, true, IfOk, IfSome, List};
-ghost use Rattle.std.specs.Prelude.{MatchOption, MatchResult, ℕ};
-ghost use Rattle.tz_base.specs.Errors.{IsOutOfMemory};
-ghost use Rattle.tz_info.specs.{TzFiles.{IsTzFile}, Zones.{IsRuleOrNone, IsValid, Zone}};
-ghost use Rattle.tz_write.specs.{FileBytes.{counts_of, header_bytes}, WrittenFiles.{NeedsExtensions}};
-ghost use Rattle.tz_write.specs.FileLayouts.{laid};
-ghost use Rattle.tz_write.specs.WrittenFiles.{AreBytes, IsInNoFile, IsSound, IsWritable, IsWrittenFile};
+ghost use Rattle.{
+  std.specs.Prelude.{◌≡◌, ◌∷◌, [], codes, false, neg_ℤ, pos, slice_index, true, IfOk, IfSome, List, MatchOption},
+  std.specs.Prelude.{MatchResult, ℕ},
+  tz_base.specs.Errors.{IsOutOfMemory},
+  tz_info.specs.{TzFiles.{IsTzFile}, Zones.{IsRuleOrNone, IsValid, Zone}},
+  tz_write.specs.FileBytes.{counts_of, header_bytes},
+  tz_write.specs.WrittenFiles.{NeedsExtensions, AreBytes, IsInNoFile, IsSound, IsWritable, IsWrittenFile},
+  tz_write.specs.FileLayouts.{laid},
+};
 
 use crate::ToTzData;
 use std::alloc::Global;

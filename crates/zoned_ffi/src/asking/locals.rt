@@ -1,11 +1,13 @@
 //! The instants of local times.
 #![tactic(auto, using(crate::proofs::Casts::passed_on))]
 
-ghost use Rattle.std.specs.Prelude.{◌≡◌, ◌≢◌, ◌⊎◌, length, pos};
-ghost use Rattle.tz_info.specs.Zones.{Zone};
-ghost use Rattle.zoned_ffi.specs.{Columns.{AreAnswered, IsFirstWithout, IsRowNumber}, Units.{per_second, IsUnit}};
-ghost use Rattle.zoned_ffi.specs.Handles.{IsLent, IsNoneLent, IsUnanswered};
-ghost use Rattle.zoned_ffi.specs.Resolved.{AreReached, AreResolved, IsChoice, IsChoiceOf, IsReachedAt, IsResolvedAt};
+ghost use Rattle.{
+  std.specs.Prelude.{◌≡◌, ◌≢◌, ◌⊎◌, length, pos},
+  tz_info.specs.Zones.{Zone},
+  zoned_ffi.specs.{Columns.{AreAnswered, IsFirstWithout, IsRowNumber}, Units.{per_second, IsUnit}},
+  zoned_ffi.specs.Handles.{IsLent, IsNoneLent, IsUnanswered},
+  zoned_ffi.specs.Resolved.{AreReached, AreResolved, IsChoice, IsChoiceOf, IsReachedAt, IsResolvedAt},
+};
 
 use crate::choice::{Choice, choice_of};
 use crate::column::{Way, answer_times};

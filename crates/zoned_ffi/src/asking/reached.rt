@@ -1,11 +1,13 @@
 //! What local clocks have reached at an instant: a local time, a day, and steps that begin.
 #![tactic(auto, using(crate::proofs::Casts::passed_on))]
 
-ghost use Rattle.std.specs.Prelude.{◌≡◌, ◌≢◌, ◌⊎◌, ◌-ℤ◌, length, pos};
-ghost use Rattle.tz_info.specs.Zones.{Zone};
-ghost use Rattle.zoned_ffi.specs.{Columns.{AreAnswered, IsFirstWithout, IsSoughtNumber}, Units.{per_second, IsUnit}};
-ghost use Rattle.zoned_ffi.specs.Handles.{IsLent, IsNoneLent, IsUnanswered};
-ghost use Rattle.zoned_ffi.specs.WholeSeconds.{step_number, IsDayAt, IsFound, IsNoDayAt, IsNotFound, IsStep};
+ghost use Rattle.{
+  std.specs.Prelude.{◌≡◌, ◌≢◌, ◌⊎◌, ◌-ℤ◌, length, pos},
+  tz_info.specs.Zones.{Zone},
+  zoned_ffi.specs.{Columns.{AreAnswered, IsFirstWithout, IsSoughtNumber}, Units.{per_second, IsUnit}},
+  zoned_ffi.specs.Handles.{IsLent, IsNoneLent, IsUnanswered},
+  zoned_ffi.specs.WholeSeconds.{step_number, IsDayAt, IsFound, IsNoDayAt, IsNotFound, IsStep},
+};
 
 use crate::column::{Way, answer_whole_seconds};
 use crate::days::WrittenDay;

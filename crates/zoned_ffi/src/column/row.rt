@@ -1,13 +1,15 @@
 //! The answer to one time of a column, by a lookup.
 
-ghost use Rattle.std.specs.Prelude.{◌≡◌, ◌<◌, ◌+ℤ◌, ◌-ℤ◌, pos, MatchOption, MatchResult};
-ghost use Rattle.gregorian.specs.Year.{floor_div};
-ghost use Rattle.naive_base.specs.Stamp.{of_secs};
-ghost use Rattle.zoned_time.specs.Fires.{second_before};
-ghost use Rattle.zoned_ffi.specs.Columns.{IsInstantOf, IsNoInstant, IsNoWholeSecondOf, IsWholeSecondOf};
-ghost use Rattle.zoned_ffi.specs.Steps.KeptTimes.{IsAnsweredBy, IsKept, IsNotAnsweredBy, IsNotWritten, IsWritten};
-ghost use Rattle.zoned_ffi.specs.Steps.ResolvedInstants.{taken_instant};
-ghost use Rattle.zoned_ffi.specs.Units.{IsCounted, IsLocal, IsWithout, per_second};
+ghost use Rattle.{
+  gregorian.specs.Year.{floor_div},
+  naive_base.specs.Stamp.{of_secs},
+  std.specs.Prelude.{◌≡◌, ◌<◌, ◌+ℤ◌, ◌-ℤ◌, pos, MatchOption, MatchResult},
+  zoned_ffi.specs.Columns.{IsInstantOf, IsNoInstant, IsNoWholeSecondOf, IsWholeSecondOf},
+  zoned_ffi.specs.Steps.KeptTimes.{IsAnsweredBy, IsKept, IsNotAnsweredBy, IsNotWritten, IsWritten},
+  zoned_ffi.specs.Steps.ResolvedInstants.{taken_instant},
+  zoned_ffi.specs.Units.{IsCounted, IsLocal, IsWithout, per_second},
+  zoned_time.specs.Fires.{second_before},
+};
 
 use crate::choice::Choice;
 use crate::column::kept::{Kept, less};

@@ -1,11 +1,13 @@
 //! Theorems of days and of the first instants at or after local times: each function is empty, its
 //! contract is proved; never called.
-ghost use Rattle.std.specs.Prelude.{◌≡◌, ◌↔◌, ◌≤ℤ◌, ◌+ℤ◌, ◌-ℤ◌, pos, ℤ};
-ghost use Rattle.offset_core.specs.WallAnswer.{IsNeverShown, IsShownBetween, IsShownOnce};
-ghost use Rattle.naive_base.specs.{Range.{IsInRange}, Reading.{behind, IsEarlier, Reading}, Year.{floor_div}};
-ghost use Rattle.zoned_time.specs.{DayEnds.{IsGapEnd, NonePassed}, Zone.{IsZoneSecond, ShowsByOffset}};
-ghost use Rattle.zoned_time.specs.Days.{midnight, AreEndsOfDay, IsFirstInstantFrom, IsFirstToReach, IsInDay};
-ghost use Rattle.zoned_time.specs.{Days.{IsNeverOnDay, IsOnDay}, Reached.{IsReachedAt}};
+ghost use Rattle.{
+  naive_base.specs.{Range.{IsInRange}, Reading.{behind, IsEarlier, Reading}, Year.{floor_div}},
+  offset_core.specs.WallAnswer.{IsNeverShown, IsShownBetween, IsShownOnce},
+  std.specs.Prelude.{◌≡◌, ◌↔◌, ◌≤ℤ◌, ◌+ℤ◌, ◌-ℤ◌, pos, ℤ},
+  zoned_time.specs.{DayEnds.{IsGapEnd, NonePassed}, Zone.{IsZoneSecond, ShowsByOffset}},
+  zoned_time.specs.Days.{midnight, AreEndsOfDay, IsFirstInstantFrom, IsFirstToReach, IsInDay, IsNeverOnDay, IsOnDay},
+  zoned_time.specs.Reached.{IsReachedAt},
+};
 
 use crate::{ShownDay, TimeZone};
 

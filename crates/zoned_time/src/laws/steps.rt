@@ -1,10 +1,12 @@
 //! Theorems of the steps of the local clock: each function is empty, its contract is proved; never
 //! called.
-ghost use Rattle.std.specs.Prelude.{◌≡◌, ◌↔◌, ◌<ℤ◌, ◌≤ℤ◌, ◌+ℤ◌, ◌-ℤ◌, pos, ℤ};
-ghost use Rattle.naive_base.specs.{Range.{IsInRange, IsWide}, Reading.{Reading}};
-ghost use Rattle.naive_plans.specs.{ClockSteps.{BeginsStep}, Plans.{IsLastUntil, IsNextAfter}};
-ghost use Rattle.zoned_time.specs.Days.{midnight, IsFirstInstantFrom, IsFirstToReach, IsInDay};
-ghost use Rattle.zoned_time.specs.{Fires.{IsLastFire, IsNextFire}, Reached.{IsReachedAt}, StepBounds.{AreStepBounds}};
+ghost use Rattle.{
+  naive_base.specs.{Range.{IsInRange, IsWide}, Reading.{Reading}},
+  naive_plans.specs.{ClockSteps.{BeginsStep}, Plans.{IsLastUntil, IsNextAfter}},
+  std.specs.Prelude.{◌≡◌, ◌↔◌, ◌<ℤ◌, ◌≤ℤ◌, ◌+ℤ◌, ◌-ℤ◌, pos, ℤ},
+  zoned_time.specs.{Days.{midnight, IsFirstInstantFrom, IsFirstToReach, IsInDay}, Fires.{IsLastFire, IsNextFire}},
+  zoned_time.specs.{Reached.{IsReachedAt}, StepBounds.{AreStepBounds}},
+};
 
 use crate::{StepBounds, TimeZone};
 use naive_plans::ClockStep;
