@@ -6,7 +6,7 @@ use Rattle.tz_info.proofs.{
   RuleLaws.rule_year,
   Words.{Alternate, AlternateAt, AreFrom, Bool, Change, HasNoChange, HasNoneBeyond, IsAhead, IsAlternateRule, IsChange, IsNearest, IsNearestChange},
   Words.{IsNextChanging, IsOfYear, IsRuleYear, IsStretchAhead, IsYearNear, IsYearOf, NeverChanges, None, Option, Precedes, Some, by_lt_z, changes_in_year},
-  Words.{false, inl, inr, linear, neg_ℤ, pos, true, type_exact, year_at, ℕ, ℤ, ◌+ℤ◌, ◌+◌, ◌-ℤ◌, ◌<◌, ◌≡◌, ◌⊎◌},
+  Words.{false, inl, inr, linear, neg_ℤ, pos, true, type_exact, year_at, ℕ, ℤ, ◌+ℤ◌, ◌+◌, ◌-ℤ◌, ◌<◌, ◌≡◌, ◌≤ℤ◌, ◌⊎◌},
 }
 
 -- ahead of the second, and the second before lies in the year
@@ -19,42 +19,34 @@ one_or_last : (w : Bool) (first year y : ℤ) → IsRuleYear first → IsRuleYea
 one_or_last true first year y a b c beyond on = grind linear
 one_or_last false first year y a b c beyond on = grind linear
 
-on_or_beyond : (w : Bool) (first y : ℤ) → (y ≡ first) ⊎ Precedes w (year_at w first 1) y → Precedes w first y
-on_or_beyond true first y h = grind linear
-on_or_beyond false first y h = grind linear
-
 -- a second, and a rule's change in a year
 module _ (a : Alternate) (s : ℤ) (d : Change) (y : ℤ) (is : IsChange (AlternateAt a) d) (of_year : IsYearOf (d.at -ℤ pos 1) y) where
   of_rule : IsRuleYear y
   of_rule = rule_year _ y of_year (rule_second a _ _ is.before)
 
+  -- years rise from the second to the one before the change, or back
+  order : (first : ℤ) → IsYearNear s first → (s ≤ℤ (d.at -ℤ pos 1) → first ≤ℤ y) × ((d.at -ℤ pos 1) ≤ℤ s → y ≤ℤ first)
+  order _ h =
+      let time = rule_second a _ _ is.before in
+      (λ m. years_rise _ _ _ y h.of_near of_year (h.is_near.from _ time m), λ m. years_rise _ _ y _ of_year h.of_near (h.is_near.until _ time m))
+
   -- changes ahead come in the year of the second, or beyond it
-  here_or_beyond : (w : Bool) (first : ℤ) → IsYearNear s first → IsAhead w s d.at → (y ≡ first) ⊎ Precedes w (year_at w first 1) y
-  here_or_beyond true first h ahead =
-      let m = h.is_near.from (d.at -ℤ pos 1) (rule_second a _ _ is.before) (omega linear) in
-      let r = years_rise _ _ _ y h.of_near of_year m in
-      by_lt_z first y (λ l. inr (omega linear)) (λ l. inl (omega linear))
-  here_or_beyond false first h ahead =
-      let m = h.is_near.until (d.at -ℤ pos 1) (rule_second a _ _ is.before) (omega linear) in
-      let r = years_rise _ _ y _ of_year h.of_near m in
-      by_lt_z y first (λ l. inr (omega linear)) (λ l. inl (omega linear))
+  here_or_beyond : (w : Bool) (first : ℤ) → IsYearNear s first → IsAhead w s d.at → Precedes w first y
+  here_or_beyond true first h ahead = let (up, down) = order first h in omega linear
+  here_or_beyond false first h ahead = let (up, down) = order first h in omega linear
 
   -- if the year has none, all come beyond it
   beyond_only : (w : Bool) (first : ℤ) → IsYearNear s first → HasNoChange (AlternateAt a) (IsAheadIn w s first) → IsAhead w s d.at
       → Precedes w (year_at w first 1) y
-  beyond_only w _ h none ahead = grind (linear, here_or_beyond)
+  beyond_only true first h none ahead =
+      let (up, down) = order first h in by_lt_z first y (λ l. omega linear) (λ m. let same : y ≡ first = omega linear in absurd (none d is (ahead, rw same at of_year)))
+  beyond_only false first h none ahead =
+      let (up, down) = order first h in by_lt_z y first (λ l. omega linear) (λ m. let same : y ≡ first = omega linear in absurd (none d is (ahead, rw same at of_year)))
 
   -- a change of a year beyond is ahead
   ahead_by_year : (w : Bool) (first : ℤ) → IsYearNear s first → Precedes w (year_at w first 1) y → IsAhead w s d.at
-  ahead_by_year true _ h beyond =
-      let l = later_year _ _ _ _ h.of_near of_year (omega linear) in
-      by_lt_z s d.at (λ m. m)
-      (λ m. let n = h.is_near.until (d.at -ℤ pos 1) (rule_second a _ _ is.before) (omega linear) in omega linear)
-  ahead_by_year false first h beyond =
-      let l = later_year _ _ _ _ of_year h.of_near (omega linear) in
-      by_lt_z s d.at
-      (λ m. let n = h.is_near.from (d.at -ℤ pos 1) (rule_second a _ _ is.before) (omega linear) in omega linear)
-      (λ m. m)
+  ahead_by_year true first h beyond = let (up, down) = order first h in by_lt_z s d.at (λ m. m) (λ m. let l = down (omega linear) in omega linear)
+  ahead_by_year false first h beyond = let (up, down) = order first h in by_lt_z s d.at (λ m. let l = up (omega linear) in omega linear) (λ m. m)
 
 -- seconds ahead of the second s, in that direction
 module _ (w : Bool) (a : Alternate) (s : ℤ) where
@@ -81,7 +73,7 @@ module _ (w : Bool) (a : Alternate) (s : ℤ) where
 
   module _ (first : ℤ) (h : IsYearNear s first) where
     pub found_here : (c : Change) → IsNearestChange w (AlternateAt a) (IsAheadIn w s first) c → IsNearestChange w (AlternateAt a) (IsAhead w s) c
-    found_here c = found_first _ c (λ d is ahead y of_year. on_or_beyond w _ y (here_or_beyond a s d y is of_year w _ h ahead))
+    found_here c = found_first _ c (λ d is ahead y of_year. here_or_beyond a s d y is of_year w _ h ahead)
 
     -- the first year asked has none
     module _ (none : HasNoChange (AlternateAt a) (IsAheadIn w s first)) where

@@ -17,7 +17,7 @@ use Rattle.tz_info.proofs.{
 }
 use Rattle.tz_info.specs.{
   Steps.AskedYears.changes_in_year,
-  Steps.{ChangingYears.{are_apart, dst_near, flips_at, has_flip, is_changing, moment_by, seconds_near, turns_in, year_key, years_near}, Turns.dst_by},
+  Steps.{ChangingYears.{are_apart, dst_near, flips_at, has_flip, is_changing, keys_of, moment_by, seconds_near, turns_in, year_key, years_near}, Kinds.{ends_of, starts_of}, Turns.dst_by},
 }
 
 -- ---- clocks change when daylight saving time begins or ends
@@ -72,12 +72,6 @@ none_at : (p : ℤ → Bool) (xs : List ℤ) (u : ℤ) → Contains xs u → lis
 none_at p xs u (i, below, at) none = grind (arith, list_any_at)
 
 -- ---- by the seconds of kinds
-abbrev starts_of : Alternate → List ℤ
-starts_of a = seconds_by_kind a.start a.std.offset
-
-abbrev ends_of : Alternate → List ℤ
-ends_of a = seconds_by_kind a.end a.dst.offset
-
 by_kind : (t : DayTime) (offset year : ℤ) → IsRuleDay t.day → moment_by (seconds_by_kind t offset) year ≡ moment t offset year
 by_kind t offset year fits = grind (linear, kind_found, fits)
 
@@ -202,9 +196,6 @@ module _ (a : Alternate) (rule : IsAlternateRule a) where
   one_in _ of_rule next types some = one_by _ _ of_rule next types refl some
 
 -- ---- by the year's key
-abbrev keys_of : Alternate → List Bool
-keys_of a = changing_keys (starts_of a) (ends_of a)
-
 key_at : (starts ends : List ℤ) (k : ℕ) → k < 35
     → get_or (changing_keys starts ends) k false ≡ is_changing starts ends (are_calm starts ends) (get_or key_years k (pos 0))
 unfolding changing_keys

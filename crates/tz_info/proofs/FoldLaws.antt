@@ -45,7 +45,7 @@ module _ (z : Zone) (local first last end : ℤ) (s : Span) (ends : AreEndsOfFol
   begins none = first_outside (rw none tt)
 
   pub begins_at : (from : ℤ) → s.from ≡ Some from → (first <ℤ from) × (from ≤ℤ end)
-  begins_at from is = (grind (linear, first_outside), grind linear)
+  begins_at from is = grind (linear, first_outside)
 
   -- and from its begin on clocks show less
   less_from : (from : ℤ) → IsNear first → IsNear last → s.from ≡ Some from → (u : ℤ) (t : LocalType) → from ≤ℤ u → u <ℤ last → TypeAt z u t
@@ -65,7 +65,6 @@ module _ (z : Zone) (local first last end from : ℤ) (s : Span) (before : Local
   pub fold_at : local ≤ℤ ((from -ℤ pos 1) +ℤ before.offset) → HasFold (TypeAt z) local before s.local_time_type from
   fold_at reached =
       let begun = begins_at z _ _ _ end s ends back at _ is in
-      let not_later = back.not_later in
       record {
         first_type = ends.first_type;
         last_type = ends.last_type;
@@ -85,7 +84,7 @@ module _ (z : Zone) (local first last end from : ℤ) (s : Span) (before : Local
   -- else the search goes on before it
   pub goes_back : ((from -ℤ pos 1) +ℤ before.offset) <ℤ local → IsBackTo z local first last (from -ℤ pos 1)
   goes_back less =
-      let begun = begins_at z local _ _ end s ends back at _ is in let not_later = back.not_later in record {
+      let begun = begins_at z local _ _ end s ends back at _ is in record {
         after_first = by_lt_z first (from -ℤ pos 1) (λ l. l) (λ m.
             let same : ends.several.first ≡ from -ℤ pos 1 = omega linear in
             let offset = same_offset z _ _ _ (rw same at ends.several.at_first.type) earlier in omega linear);

@@ -6,10 +6,10 @@ use Rattle.tz_info.proofs.{
   SegmentLaws.{come_at_time, come_by_then},
   WalkLaws.window_most,
   WallSegments.{leap_time_of, near_of, rule_begun},
-  Words.{All-contains, AllPairs-cons, Alternate as AlternateRule, AreUtOffsets, Contains, Contains-append_right, IsAskedAt, IsAskedAtEach, IsAskedAtLeapTime},
+  Words.{All-contains, AllPairs-cons, Alternate as AlternateRule, AreUtOffsets, Bool, Contains, Contains-append_right, IsAskedAt, IsAskedAtEach, IsAskedAtLeapTime},
   Words.{IsAskedFor, IsAskedFrom, IsAskedSince, IsByRuleFor, IsLeapTime, IsNear, IsSecondFrom, IsStart, IsValid, IsWide, IsWindow, LocalType, None, Option},
-  Words.{Some, Transition, TransitionRule, Zone, [], arith, get_or, inl, inr, length, linear, offsets, offsets_of, refl, rule_offsets, segment_of, suc, sym},
-  Words.{zero, ℕ, ℤ, ⊎_elim, ◌+◌, ◌-ℤ◌, ◌<ℤ◌, ◌<◌, ◌↔◌, ◌∙◌, ◌∷◌, ◌≡◌, ◌≢◌, ◌≤ℤ◌, ◌⊎◌},
+  Words.{Some, Transition, TransitionRule, Zone, [], arith, get_or, inl, inr, length, linear, not, offsets, offsets_of, refl, rule_offsets, segment_of, suc},
+  Words.{false, sym, true, type_when, zero, ℕ, ℤ, ⊎_elim, ◌+◌, ◌-ℤ◌, ◌<ℤ◌, ◌<◌, ◌↔◌, ◌∙◌, ◌∷◌, ◌≡◌, ◌≢◌, ◌≤ℤ◌, ◌⊎◌},
   ZoneLaws.same_passed,
 }
 use Rattle.tz_info.specs.{Questions.IsByRule, declared.rule.transition_rule.TransitionRule.TheVariants.{Alternate, Fixed}}
@@ -108,28 +108,23 @@ pub asked_fixed : (f : LocalType) (from l : ℤ) (p q : ℕ) → IsAskedSince fr
 asked_fixed f _ l p q asked = one_second _ _ p q
     (grind linear) (asked_since _ _ l _ p q (0, omega arith, refl) asked)
 
-std_or_dst : (a : AlternateRule) (from l u : ℤ) → IsSecondFrom (Alternate a) from l u → (u ≡ l -ℤ a.std.offset) ⊎ (u ≡ l -ℤ a.dst.offset)
-std_or_dst a _ l u k = grind arith
+module _ (a : AlternateRule) (from l : ℤ) (dst : Bool) where
+  of_rule : (b : Bool) → Contains (rule_offsets (Some (Alternate a))) (type_when a b).offset
+  of_rule true = (1, omega arith, refl)
+  of_rule false = (0, omega arith, refl)
 
-pub asked_std_dst : (a : AlternateRule) (from l : ℤ) (p q r : ℕ) → a.std.offset ≢ a.dst.offset → IsAskedSince from (l -ℤ a.std.offset) p q
-    → IsAskedSince from (l -ℤ a.dst.offset) q r → IsAskedFrom (Alternate a) from l p r
-asked_std_dst a from l p q r other std dst =
-    two_seconds _ _ _ p q r (λ e. other (omega linear)) (std_or_dst a _ l)
-    (asked_since _ _ l _ p q (0, omega arith, refl) std)
-    (asked_since _ _ l _ q r (1, omega arith, refl) dst)
+  either : (u : ℤ) → IsSecondFrom (Alternate a) from l u → (u ≡ l -ℤ (type_when a dst).offset) ⊎ (u ≡ l -ℤ (type_when a (not dst)).offset)
+  either u k = grind arith
 
-pub asked_dst_std : (a : AlternateRule) (from l : ℤ) (p q r : ℕ) → a.std.offset ≢ a.dst.offset → IsAskedSince from (l -ℤ a.dst.offset) p q
-    → IsAskedSince from (l -ℤ a.std.offset) q r → IsAskedFrom (Alternate a) from l p r
-asked_dst_std a from l p q r other dst std = two_seconds _ _ _ p q r (λ e. other (omega linear))
-    (grind linear)
-    (asked_since _ _ l _ p q (1, omega arith, refl) dst)
-    (asked_since _ _ l _ q r (0, omega arith, refl) std)
+  -- the second of the one type is asked, and then that of the other one
+  pub asked_in_turn : (p q r : ℕ) → a.std.offset ≢ a.dst.offset → IsAskedSince from (l -ℤ (type_when a dst).offset) p q
+      → IsAskedSince from (l -ℤ (type_when a (not dst)).offset) q r → IsAskedFrom (Alternate a) from l p r
+  asked_in_turn p q r other h k =
+      two_seconds _ _ _ p q r (grind arith) either (asked_since _ _ l _ p q (of_rule _) h) (asked_since _ _ l _ q r (of_rule _) k)
 
--- if both offsets are equal
-pub asked_once : (a : AlternateRule) (from l : ℤ) (p q : ℕ) → a.std.offset ≡ a.dst.offset → IsAskedSince from (l -ℤ a.std.offset) p q
-    → IsAskedFrom (Alternate a) from l p q
-asked_once a from l p q same std = one_second _ _ p q (λ u k.
-    grind arith) (asked_since _ _ l _ p q (0, omega arith, refl) std)
+  -- if both offsets are equal
+  pub asked_once : (p q : ℕ) → a.std.offset ≡ a.dst.offset → IsAskedSince from (l -ℤ (type_when a dst).offset) p q → IsAskedFrom (Alternate a) from l p q
+  asked_once p q same h = one_second _ _ p q (λ u k. grind (arith, either)) (asked_since _ _ l _ p q (of_rule _) h)
 
 -- ---- none, without a rule
 pub asked_none : (z : Zone) (l : ℤ) (p : ℕ) → z.rule ≡ None → IsAskedFor z l p p
@@ -149,14 +144,14 @@ asked_at_time z u x p q time (inl (rule, is, from, e)) = inl (grind linear, e)
 asked_at_time z u x p q time (inr (inl (none, e))) = inr ((λ a. cc), e)
 asked_at_time z u x p q time (inr (inr (before, e))) = grind (linear, same_passed)
 
-either : (o : Option TransitionRule) → ((rule : TransitionRule) × (o ≡ Some rule)) ⊎ (o ≡ None)
-either (Some rule) = inl (rule, refl)
-either None = inr refl
+some_or_none : (o : Option TransitionRule) → ((rule : TransitionRule) × (o ≡ Some rule)) ⊎ (o ≡ None)
+some_or_none (Some rule) = inl (rule, refl)
+some_or_none None = inr refl
 
 pub asked_without : (z : Zone) (u : ℤ) (p q : ℕ) → length z.transitions ≡ 0 → ((rule : TransitionRule) → z.rule ≡ Some rule → q ≡ p + 1)
     → (z.rule ≡ None → q ≡ p) → IsAskedAt z u p q
 asked_without z u p q e asked unasked =
-    asked_at_time z u u p q (λ h. absurd (omega arith)) (elim (either z.rule) [
+    asked_at_time z u u p q (λ h. absurd (omega arith)) (elim (some_or_none z.rule) [
       | inl k ↦ inl (k.0, k.1, rw (no_items _ e), asked k.0 k.1)
       | inr n ↦ inr (inl (n, unasked n))
     ])

@@ -40,7 +40,7 @@ module _ (z : Zone) (e : Entries) (k : ℕ) (t : ℤ) (valid : IsValid z) (made 
             let low = come_by _ k u made.rising within from in
             let high = places_rise _ u t made.rising come in
             let same = type_there z _ _ k u r s table own shows.fits has (omega arith) shows.type in
-            let o = ap (λ x. x.offset) same in let shown = shows.shown in omega linear;
+            let o = ap (λ x. x.offset) same in omega linear;
         least = omega linear;
       }
 
@@ -54,8 +54,7 @@ module _ (z : Zone) (e : Entries) (k : ℕ) (t : ℤ) (valid : IsValid z) (made 
         (λ more. elim (cases_lt (place_at _ u) k) [
           | inl before ↦
               let top = top_least z.rule e made.more in
-              let least = since.least in
-              let shown = shows.shown in let most = at_most_greatest z u g s greatest shows.type in
+              let most = at_most_greatest z u g s greatest shows.type in
               let near : IsNear m = (omega linear, omega linear) in
               let fits : SFits w64 m = omega linear in
               let none : IsReached _ e.items k m → ⊥ = λ r. let less = (latest m fits).1 r in omega linear in
@@ -69,11 +68,10 @@ module _ (z : Zone) (e : Entries) (k : ℕ) (t : ℤ) (valid : IsValid z) (made 
     -- the last second of the segment whose end is the latest shows the local time before that end
     ended : (j : ℕ) → reached <ℤ end → begin_of e.items k ≤ℤ t → 0 < j → j ≤ k → (end -ℤ pos 1) <ℤ end_of z.types e.items j
         → IsLastReached (TypeAt z) t (end -ℤ pos 1)
-    ended zero less begun some inside later = absurd (omega arith)
+    ended zero less begun some inside later = grind arith
     ended (suc j) less begun some inside later =
         let below = index_below z e j valid made (omega arith) in
         let (s, has) = inside_listed _ _ below in
-        let low = since.least in
         let most = listed_at_most z _ g s greatest below has in
         let order = (come_from e.items (suc j) (begin_of e.items k) made.rising some (omega arith)).0
         (let all = place_begin _ k made.rising (omega arith) within in omega arith) in
@@ -102,7 +100,6 @@ module _ (z : Zone) (e : Entries) (k : ℕ) (t : ℤ) (valid : IsValid z) (made 
     -- if the latest end is later than the segment's last local time, it is the one before that end
     pub at_end : begin_of e.items k ≤ℤ t → SFits w64 end → reached <ℤ end → IsLastReached (TypeAt z) t (end -ℤ pos 1)
     at_end begun fits less =
-        let least = since.least in
         let by = (latest (end -ℤ pos 1) (omega linear)).0 (omega linear) in
         ended by.by less begun by.some by.within by.later
 
@@ -116,16 +113,6 @@ module _ (z : Zone) (e : Entries) (k : ℕ) (t : ℤ) (valid : IsValid z) (made 
       last = λ m u s. none_later _ m u s (omega linear) (omega linear);
     }
 
--- if no segment has passed, `first` is the least second
-pub from_least : (z : Zone) (t reached : ℤ) → IsReachedSince (TypeAt z) least_time t reached → IsLastReached (TypeAt z) t reached
-from_least z t _ h = record {
-  at = h.at;
-  local_type = h.local_type;
-  not_after = h.not_after;
-  shown = h.shown;
-  last = λ m u s come shows. h.last m u s (omega linear) come shows;
-}
-
 -- ---- laws of the last local time
 pub reached_rises : (z : Zone) (t later l m : ℤ) → t ≤ℤ later → IsLastReached (TypeAt z) t l → IsLastReached (TypeAt z) later m → l ≤ℤ m
 reached_rises z t _ l m rise h k = k.last l h.at h.local_type (omega linear) h.shown
@@ -138,7 +125,7 @@ pub adjoint : (z : Zone) (local u t m : ℤ) (s : LocalType) → IsFirstAtOrAfte
 adjoint z _ u t m s first h = (
   λ come.
       let most = h.last (u +ℤ s.offset) u s come (grind linear) in
-      let reached = first.shown.reached in omega linear,
+      omega linear,
   λ less.
       let least = first.first h.at h.local_type (grind linear) in
       omega linear,

@@ -16,15 +16,11 @@ two_types : (a : Alternate) (x y z : Bool) → (type_when a y ≡ type_when a z 
 two_types a x y z differ = grind linear
 
 -- ---- the last local time
--- a rule of two types
-pub alternate_reached : (a : Alternate) (begin t l : ℤ) → IsReachedSince (AlternateAt a) begin t l → IsReachedSince (RuleAt (AlternateRule a)) begin t l
-alternate_reached a _ t l h = grind linear
-
 module _ (a : Alternate) (begin t l : ℤ) (s : LocalType) (rule : IsAlternateRule a) (wide : IsWide t) (order : begin ≤ℤ t) (here : AlternateAt a t s)
     (offset : IsUtOffset s.offset) where
   -- it is shown at the second
-  reached_now : l ≡ t +ℤ s.offset → ((m u : ℤ) (r : LocalType) → begin ≤ℤ u → u ≤ℤ t → Shows (AlternateAt a) m u r → m ≤ℤ l)
-      → IsReachedSince (AlternateAt a) begin t l
+  reached_now : l ≡ t +ℤ s.offset → ((m u : ℤ) (r : LocalType) → begin ≤ℤ u → u ≤ℤ t → Shows (RuleAt (AlternateRule a)) m u r → m ≤ℤ l)
+      → IsReachedSince (RuleAt (AlternateRule a)) begin t l
   reached_now is last = record {
     at = t;
     local_type = s;
@@ -37,11 +33,11 @@ module _ (a : Alternate) (begin t l : ℤ) (s : LocalType) (rule : IsAlternateRu
   }
 
   -- by one type a later second shows more
-  shows_less : (m u v : ℤ) (r q : LocalType) → Shows (AlternateAt a) m u r → r ≡ q → u ≤ℤ v → m ≤ℤ (v +ℤ q.offset)
+  shows_less : (m u v : ℤ) (r q : LocalType) → Shows (RuleAt (AlternateRule a)) m u r → r ≡ q → u ≤ℤ v → m ≤ℤ (v +ℤ q.offset)
   shows_less m u v r q shows same come = grind linear
 
   -- clocks haven't changed since the first second
-  pub still_reached : l ≡ t +ℤ s.offset → HasNoChange (AlternateAt a) (λ w. (begin <ℤ w) × (w ≤ℤ t)) → IsReachedSince (AlternateAt a) begin t l
+  pub still_reached : l ≡ t +ℤ s.offset → HasNoChange (AlternateAt a) (λ w. (begin <ℤ w) × (w ≤ℤ t)) → IsReachedSince (RuleAt (AlternateRule a)) begin t l
   still_reached is none = reached_now is
       (λ m u r from come shows.
       let same = unchanged a rule u t r s (λ d change i. none d change (omega linear, i.1)) shows.type here come in
@@ -54,7 +50,7 @@ module _ (a : Alternate) (begin t l : ℤ) (s : LocalType) (rule : IsAlternateRu
     before_or_after u r there = grind (linear, two_types)
 
     -- since the change clocks show at most what they show at the second, and before it at most what they showed just before it
-    at_most : (m u : ℤ) (r : LocalType) → u ≤ℤ t → Shows (AlternateAt a) m u r → (m ≤ℤ (t +ℤ s.offset)) ⊎ (m ≤ℤ ((c.at -ℤ pos 1) +ℤ c.before.offset))
+    at_most : (m u : ℤ) (r : LocalType) → u ≤ℤ t → Shows (RuleAt (AlternateRule a)) m u r → (m ≤ℤ (t +ℤ s.offset)) ⊎ (m ≤ℤ ((c.at -ℤ pos 1) +ℤ c.before.offset))
     at_most m u r come shows =
         let since : (v : ℤ) (x : LocalType) → c.at ≤ℤ v → v ≤ℤ t → AlternateAt a v x → x ≡ s = λ v x from until there.
         unchanged a rule v t x s (λ d change i. let k = last.nearest d change i.1 in let j = i.0 in omega (linear, from)) there here until in
@@ -67,10 +63,10 @@ module _ (a : Alternate) (begin t l : ℤ) (s : LocalType) (rule : IsAlternateRu
 
     -- the later of the two
     pub changed_reached : IsUtOffset c.before.offset → l ≡ int_max (t +ℤ s.offset) ((c.at -ℤ pos 1) +ℤ c.before.offset) → begin <ℤ c.at
-        → IsReachedSince (AlternateAt a) begin t l
+        → IsReachedSince (RuleAt (AlternateRule a)) begin t l
     changed_reached offset_before is since =
         let inside = last.inside in
-        let all : (m u : ℤ) (r : LocalType) → begin ≤ℤ u → u ≤ℤ t → Shows (AlternateAt a) m u r → m ≤ℤ l =
+        let all : (m u : ℤ) (r : LocalType) → begin ≤ℤ u → u ≤ℤ t → Shows (RuleAt (AlternateRule a)) m u r → m ≤ℤ l =
         λ m u r from come shows. elim (at_most m u r come shows) [
           | inl less ↦ omega (linear, clamps, less, is)
           | inr less ↦ omega (linear, clamps, less, is)
@@ -93,24 +89,20 @@ pub fixed_first : (s : LocalType) (begin local u : ℤ) → IsWide local → beg
     → u ≡ int_max begin (local -ℤ s.offset) → IsFirstSince (RuleAt (Fixed s)) begin local u s
 fixed_first s begin _ u wide near offset is = grind (linear, clamps)
 
-pub alternate_first : (a : Alternate) (begin local u : ℤ) (t : LocalType) → IsFirstSince (AlternateAt a) begin local u t
-    → IsFirstSince (RuleAt (AlternateRule a)) begin local u t
-alternate_first a _ _ u t h = grind linear
-
 -- clocks show less before the later of the begin and the first second at the greater offset
 module _ (a : Alternate) (begin local low : ℤ) (rule : IsAlternateRule a) (low_is : low ≡ int_max begin (local -ℤ int_max a.std.offset a.dst.offset)) where
   most : (b : Bool) → (type_when a b).offset ≤ℤ int_max a.std.offset a.dst.offset
   most b = grind (linear, clamps)
 
   greatest : (b : Bool) × (int_max a.std.offset a.dst.offset ≡ (type_when a b).offset)
-  greatest = by_lt_z a.std.offset a.dst.offset (λ l. (true, omega (linear, clamps, l))) (λ m. (false, omega (linear, clamps, m)))
+  greatest = grind (linear, clamps)
 
-  less_before : (v : ℤ) (r : LocalType) → begin ≤ℤ v → ShowsAtOrAfter (AlternateAt a) local v r → low ≤ℤ v
+  less_before : (v : ℤ) (r : LocalType) → begin ≤ℤ v → ShowsAtOrAfter (RuleAt (AlternateRule a)) local v r → low ≤ℤ v
   less_before v r from shows = grind (linear, clamps, most)
 
   -- from there on, as long as clocks don't change, they show it from the second `shown` on
   module _ (s : LocalType) (here : AlternateAt a low s) (shown : ℤ) (shown_is : shown ≡ int_max low (local -ℤ s.offset)) where
-    shown_from : (v : ℤ) (r : LocalType) → begin ≤ℤ v → ShowsAtOrAfter (AlternateAt a) local v r → HasNoChange (AlternateAt a) (λ w. (low <ℤ w) × (w ≤ℤ v))
+    shown_from : (v : ℤ) (r : LocalType) → begin ≤ℤ v → ShowsAtOrAfter (RuleAt (AlternateRule a)) local v r → HasNoChange (AlternateAt a) (λ w. (low <ℤ w) × (w ≤ℤ v))
         → shown ≤ℤ v
     shown_from v r from shows none =
         let come = less_before v r from shows in
@@ -119,7 +111,7 @@ module _ (a : Alternate) (begin local low : ℤ) (rule : IsAlternateRule a) (low
 
     -- if they don't change up to then, it is that second
     pub still_first : IsNear low → IsNear shown → HasNoChange (AlternateAt a) (λ w. (low <ℤ w) × (w ≤ℤ shown))
-        → IsFirstSince (AlternateAt a) begin local shown s
+        → IsFirstSince (RuleAt (AlternateRule a)) begin local shown s
     still_first near_low near none = record {
       near = near;
       from = omega (linear, clamps);
@@ -136,7 +128,7 @@ module _ (a : Alternate) (begin local low : ℤ) (rule : IsAlternateRule a) (low
 
     -- else it is the change
     pub changed_first : (c : Change) → IsNear low → IsNear shown → IsNearestChange true (AlternateAt a) (IsAhead true low) c → c.at ≤ℤ shown
-        → IsFirstSince (AlternateAt a) begin local c.at c.after
+        → IsFirstSince (RuleAt (AlternateRule a)) begin local c.at c.after
     changed_first c near_low near next come =
         let inside = next.inside in
         let none : (v : ℤ) → v <ℤ c.at → HasNoChange (AlternateAt a) (λ w. (low <ℤ w) × (w ≤ℤ v)) = λ v less d change i.

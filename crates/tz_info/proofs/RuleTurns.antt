@@ -1,8 +1,9 @@
 -- A rule's types and its moments: from which second on a type is in force, and which one a second before.
 use Rattle.tz_info.proofs.{
   RuleDays.{day_rises, one_rule_day, rule_day_is},
-  Words.{Alternate, AlternateAt, DayTime, IsAlternateRule, IsBetween, IsDayOf, IsDstAt, IsInSomeYear, IsRuleDay, IsRuleYear, IsYearOf, ap, arith, by_lt_z},
-  Words.{end_in, false, floors, inl, inr, linear, moment, pos, rule_day, start_in, true, ℤ, ◌*ℤ◌, ◌+ℤ◌, ◌-ℤ◌, ◌<ℤ◌, ◌≡◌, ◌≤ℤ◌, ◌⊎◌},
+  RuleLaws.alternate_at,
+  Words.{Alternate, AlternateAt, Bool, DayTime, IsAlternateRule, IsBetween, IsDayOf, IsDstAt, IsInSomeYear, IsRuleDay, IsRuleYear, IsYearOf, ap, arith, by_lt_z, cond},
+  Words.{end_in, false, floors, inl, inr, linear, moment, not, pos, refl, rule_day, start_in, true, ℤ, ◌*ℤ◌, ◌+ℤ◌, ◌-ℤ◌, ◌<ℤ◌, ◌≡◌, ◌≤ℤ◌, ◌⊎◌},
 }
 
 abbrev Rise : (ℤ → ℤ) → Type 0
@@ -42,34 +43,29 @@ sides f g year u rf rg e (inr (before, after)) = inr (
       (λ l. let r = rf y year (omega linear) in omega linear),
 )
 
--- at a start that comes between ends daylight saving time begins
-begins : (f g : ℤ → ℤ) (year u : ℤ) → Rise f → Rise g → u ≡ f year → IsBetween g f year → IsDstAt f g year u true × IsDstAt f g year (u -ℤ pos 1) false
-begins f g year u rf rg e between = elim (sides f g year u rf rg e between) [
+-- at a moment that comes between the others daylight saving time begins, or is over
+turns : (f g : ℤ → ℤ) (year u : ℤ) (to_dst : Bool) → Rise f → Rise g → u ≡ f year → IsBetween g f year
+    → IsDstAt (cond to_dst f g) (cond to_dst g f) year u to_dst × IsDstAt (cond to_dst f g) (cond to_dst g f) year (u -ℤ pos 1) (not to_dst)
+turns f g year u true rf rg e between = elim (sides f g year u rf rg e between) [
+  | inl (order, there, out) ↦ grind linear
+  | inr (order, there, out) ↦ grind linear
+]
+turns f g year u false rf rg e between = elim (sides f g year u rf rg e between) [
   | inl (order, there, out) ↦ grind linear
   | inr (order, there, out) ↦ grind linear
 ]
 
--- and at an end that comes between starts it is over
-is_over : (f g : ℤ → ℤ) (year u : ℤ) → Rise f → Rise g → u ≡ g year → IsBetween f g year → IsDstAt f g year u false × IsDstAt f g year (u -ℤ pos 1) true
-is_over f g year u rf rg e between = elim (sides g f year u rg rf e between) [
-  | inl (order, there, out) ↦ grind linear
-  | inr (order, there, out) ↦ grind linear
-]
+module _ (a : Alternate) (year day u : ℤ) (rule : IsAlternateRule a) (inside : IsRuleYear year) where
+  pub starts : IsDayOf a.start.day year day → (u +ℤ a.std.offset) ≡ (pos 86_400 *ℤ day +ℤ a.start.time) → IsBetween (end_in a) (start_in a) year
+      → (IsYearOf u year → AlternateAt a u a.dst) × (IsYearOf (u -ℤ pos 1) year → AlternateAt a (u -ℤ pos 1) a.std)
+  starts of_year clock between =
+      let turn = turns _ _ year u true (moments_rise _ _ rule.start_day) (moments_rise _ _ rule.end_day)
+      (moment_is _ _ _ day u rule.start_day of_year clock) between in
+      (λ own. alternate_at a u _ year true refl own inside turn.0, λ own. alternate_at a _ _ year false refl own inside turn.1)
 
-pub starts : (a : Alternate) (year day u : ℤ) → IsAlternateRule a → IsRuleYear year → IsDayOf a.start.day year day
-    → (u +ℤ a.std.offset) ≡ (pos 86_400 *ℤ day +ℤ a.start.time) → IsBetween (end_in a) (start_in a) year
-    → (IsYearOf u year → AlternateAt a u a.dst) × (IsYearOf (u -ℤ pos 1) year → AlternateAt a (u -ℤ pos 1) a.std)
-starts a year day u rule inside of_year clock between =
-    let e = moment_is _ _ _ day u rule.start_day of_year clock in
-    let rs = moments_rise _ _ rule.start_day in
-    let re = moments_rise _ _ rule.end_day in
-    let sides = begins (start_in a) (end_in a) year u rs re e between in grind arith
-
-pub ends : (a : Alternate) (year day u : ℤ) → IsAlternateRule a → IsRuleYear year → IsDayOf a.end.day year day
-    → (u +ℤ a.dst.offset) ≡ (pos 86_400 *ℤ day +ℤ a.end.time) → IsBetween (start_in a) (end_in a) year
-    → (IsYearOf u year → AlternateAt a u a.std) × (IsYearOf (u -ℤ pos 1) year → AlternateAt a (u -ℤ pos 1) a.dst)
-ends a year day u rule inside of_year clock between =
-    let e = moment_is _ _ _ day u rule.end_day of_year clock in
-    let rs = moments_rise _ _ rule.start_day in
-    let re = moments_rise _ _ rule.end_day in
-    let sides = is_over (start_in a) (end_in a) year u rs re e between in grind arith
+  pub ends : IsDayOf a.end.day year day → (u +ℤ a.dst.offset) ≡ (pos 86_400 *ℤ day +ℤ a.end.time) → IsBetween (start_in a) (end_in a) year
+      → (IsYearOf u year → AlternateAt a u a.std) × (IsYearOf (u -ℤ pos 1) year → AlternateAt a (u -ℤ pos 1) a.dst)
+  ends of_year clock between =
+      let turn = turns _ _ year u false (moments_rise _ _ rule.end_day) (moments_rise _ _ rule.start_day)
+      (moment_is _ _ _ day u rule.end_day of_year clock) between in
+      (λ own. alternate_at a u _ year false refl own inside turn.0, λ own. alternate_at a _ _ year true refl own inside turn.1)

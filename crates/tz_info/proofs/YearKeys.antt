@@ -7,7 +7,7 @@ use Rattle.tz_info.proofs.{
   Words.{◌<◌, ◌∙◌, ◌≡◌, ◌≤ℤ◌, ◌↔◌},
 }
 use Rattle.tz_info.specs.{
-  Steps.ChangingYears.{dst_near, flips_at, has_flip, is_changing, key_years, leap_place, moment_by, turns_in, year_key, years_near},
+  Steps.ChangingYears.{dst_near, flips_at, has_flip, is_changing, key_years, leap_place, moment_by, place_of, turns_in, year_key, years_near},
   declared.rule.{changing.YearsNear.YearsNear, moments.Turns.Turns},
 }
 
@@ -58,9 +58,6 @@ leap_fourth : (z : ℤ) → is_leap z ≡ true → floor_mod z 4 ≡ 0
 leap_fourth z h = grind linear
 
 -- at most one of these tests holds, so its place gives the result of each
-abbrev place_of : Bool → Bool → Bool → Bool → ℕ
-place_of a b c d = cond a 0 (cond b 1 (cond c 2 (cond d 3 4)))
-
 IsSolo : Bool → Bool → Bool → Bool → Type 0
 IsSolo a b c d = (a ≡ true → b ≡ true → ⊥) × (a ≡ true → c ≡ true → ⊥) × (a ≡ true → d ≡ true → ⊥) × (b ≡ true → c ≡ true → ⊥) × (b ≡ true → d ≡ true → ⊥) ×
     (c ≡ true → d ≡ true → ⊥)
@@ -71,14 +68,7 @@ solo_at a b c d h = grind arith
 
 leaps_solo : (x : ℤ) → IsSolo (is_leap (x -ℤ pos 1)) (is_leap x) (is_leap (x +ℤ pos 1)) (is_leap (x +ℤ pos 2))
 unfolding IsSolo
-leaps_solo x = (
-  λ h k. grind (linear, leap_fourth),
-  λ h k. grind (linear, leap_fourth),
-  λ h k. grind (linear, leap_fourth),
-  λ h k. grind (linear, leap_fourth),
-  λ h k. grind (linear, leap_fourth),
-  λ h k. grind (linear, leap_fourth),
-)
+leaps_solo x = grind (linear, leap_fourth)
 
 leaps_alike : (x y : ℤ) → leap_place x ≡ leap_place y → LeapsAlike x y
 leaps_alike x y e =
@@ -156,7 +146,7 @@ abbrev are_same : ℕ → ℕ → ℕ → ℕ → ℤ → Bool
 are_same a b c d year = eqb a b && eqb c d && int_le (pos 2000) year && int_le year (pos 2299)
 
 same_are : (a b c d : ℕ) (year : ℤ) → are_same a b c d year ≡ true → (a ≡ b) × (c ≡ d) × (pos 2000 ≤ℤ year) × (year ≤ℤ pos 2299)
-same_are a b c d year h = (grind (arith, eqb-true), grind (arith, eqb-true), grind arith, grind arith)
+same_are a b c d year h = grind (arith, eqb-true)
 
 abbrev fits_key : ℕ → Bool
 fits_key k = let year = get_or key_years k (pos 0) in are_same (year_key year) k (kind_by_key k) (kind_place year) year
@@ -173,13 +163,8 @@ pub key_count : length key_years ≡ 35
 unfolding key_years
 key_count = refl
 
-place_below : (a b c d : Bool) → place_of a b c d < 5
-place_below a b c d = grind arith
-
 pub key_below : (year : ℤ) → year_key year < 35
-key_below year =
-    let place = place_below (is_leap (year -ℤ pos 1)) (is_leap year) (is_leap (year +ℤ pos 1)) (is_leap (year +ℤ pos 2)) in
-    let weekday = weekday_below (year_start year) in omega arith
+key_below year = grind (arith, weekday_below)
 
 -- a year that a rule answers in and the years near it fit 32 bits
 pub near_fit : (year : ℤ) → IsRuleYear year → SFits w32 year × SFits w32 (year -ℤ pos 1) × SFits w32 (year +ℤ pos 1) × SFits w32 (year +ℤ pos 2)

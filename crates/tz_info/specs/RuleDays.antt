@@ -19,15 +19,14 @@ is_rule_day (Julian0 n) = nat_le n 365
 is_rule_day (MonthWeekday month week weekday) = nat_le 1 month && nat_le month 12 && nat_le 1 week && nat_le week 5 && nat_le weekday 6
 
 pub rule_day_from : (form : DayForm) → is_rule_day form ≡ true → IsRuleDay form
-rule_day_from (Julian1 n) h = (grind (arith, nat_tests), grind (arith, nat_tests))
+rule_day_from (Julian1 n) h = grind (arith, nat_tests)
 rule_day_from (Julian0 n) h = grind (arith, nat_tests)
-rule_day_from (MonthWeekday m w d) h =
-    (grind (arith, nat_tests), grind (arith, nat_tests), grind (arith, nat_tests), grind (arith, nat_tests), grind (arith, nat_tests))
+rule_day_from (MonthWeekday m w d) h = grind (arith, nat_tests)
 
 pub rule_day_to : (form : DayForm) → IsRuleDay form → is_rule_day form ≡ true
-rule_day_to (Julian1 n) h = let a = h.0 in let b = h.1 in grind (arith, nat_tests)
+rule_day_to (Julian1 n) h = grind (arith, nat_tests)
 rule_day_to (Julian0 n) h = grind (arith, nat_tests)
-rule_day_to (MonthWeekday m w d) h = let a = h.0 in let b = h.1 in let c = h.2 in let e = h.3 in let f = h.4 in grind (arith, nat_tests)
+rule_day_to (MonthWeekday m w d) h = grind (arith, nat_tests)
 
 abbrev pub rule_day_test : (form : DayForm) → Test (IsRuleDay form)
 rule_day_test form = record { passes = is_rule_day form; decides = (rule_day_from form, rule_day_to form) }

@@ -3,7 +3,7 @@
 ghost use Rattle.std.specs.Prelude.{◌≡◌, ◌+ℤ◌, ◌-ℤ◌};
 ghost use Rattle.offset_core.specs.LocalResult.{map_of};
 ghost use Rattle.tz_base.specs.LocalTypes.{IsUtOffset};
-ghost use Rattle.tz_info.specs.{Leaps.{IsNear}, Moments.{IsRuleTime}, Steps.{Answers.{joined, shown_if}, Runs.{IsEnd}}};
+ghost use Rattle.tz_info.specs.{Leaps.{IsNear}, Moments.{IsRuleTime}, Steps.{Answers.{joined}, Runs.{IsEnd}}};
 
 use offset_core::MappedLocalTime;
 use tz_base::LocalTimeType;
@@ -23,28 +23,6 @@ pub(crate) fn joined<'a>(
             MappedLocalTime::Single(least) | MappedLocalTime::Ambiguous(least, _),
             MappedLocalTime::Single(greatest) | MappedLocalTime::Ambiguous(_, greatest),
         ) => MappedLocalTime::Ambiguous(least, greatest),
-    }
-}
-
-// The answer of two seconds, the first of which is the earlier; each shows the local time or
-// doesn't.
-#[inline(always)]
-pub(crate) fn answer_of_two<'a>(
-    first: &'a LocalTimeType,
-    is_first: bool,
-    last: &'a LocalTimeType,
-    is_last: bool,
-) -> MappedLocalTime<&'a LocalTimeType>
-    ensures { map_of (λ r. r.now) result
-        ≡ joined (shown_if is_first first.now) (shown_if is_last last.now) }
-{
-    if is_first != is_last {
-        return MappedLocalTime::Single(if is_first { first } else { last });
-    }
-    if is_first {
-        MappedLocalTime::Ambiguous(first, last)
-    } else {
-        MappedLocalTime::None
     }
 }
 

@@ -2,18 +2,16 @@
 use Rattle.std.specs.Prelude.{◌≡◌, Bool, true, if◌then◌else◌, ℤ, pos, ◌-ℤ◌}
 use Rattle.tz_base.specs.declared.change.Change.{Change}
 use Rattle.tz_info.specs.{Changes.{IsChange, Precedes}, Moments.{AlternateAt, IsRuleYear, IsYearOf, end_in, start_in}, Rules.{Alternate, IsAlternateRule}}
-use Rattle.tz_info.specs.Steps.{Changes.{IsNearRuleTime, year_at}, ChangingYears.{is_changing}, Kinds.{are_calm, seconds_by_kind}}
+use Rattle.tz_info.specs.Steps.{Changes.{IsNearRuleTime, year_at}, ChangingYears.{is_changing}, Kinds.{are_calm, ends_of, starts_of}}
 use Rattle.tz_info.specs.declared.rule.asked.AskedYear.{AskedYear}
 
 -- whether clocks change in the year, by a rule whose types differ
 abbrev pub changes_in_year : Alternate → ℤ → Bool
-changes_in_year a year =
-    is_changing (seconds_by_kind a.start a.std.offset) (seconds_by_kind a.end a.dst.offset)
-    (are_calm (seconds_by_kind a.start a.std.offset) (seconds_by_kind a.end a.dst.offset)) year
+changes_in_year a year = is_changing (starts_of a) (ends_of a) (are_calm (starts_of a) (ends_of a)) year
 
 -- all moments of the rule keep away from the ends of their years
 abbrev pub IsCalmRule : Alternate → Type 0
-IsCalmRule a = are_calm (seconds_by_kind a.start a.std.offset) (seconds_by_kind a.end a.dst.offset) ≡ true
+IsCalmRule a = are_calm (starts_of a) (ends_of a) ≡ true
 
 -- when daylight saving time starts in the year, or ends
 abbrev pub turn_of : Alternate → Bool → ℤ → ℤ

@@ -4,12 +4,15 @@ use Rattle.std.specs.Prelude.{ℕ, ◌+◌, ◌*◌, Bool, false, true, not, if�
 use Rattle.std.specs.{Prelude.{int_le, int_lt}, List.{list_any}}
 use Rattle.std.proofs.Math.Bool.{beq}
 use Rattle.naive_base.specs.{Year.{is_leap, year_start}, Weekday.{weekday_of}}
-use Rattle.tz_info.specs.{Steps.{Kinds.{are_calm, kind_place}, Turns.{dst_by}}, declared.rule.{changing.YearsNear.{YearsNear}, moments.Turns.{Turns}}}
+use Rattle.tz_info.specs.{Rules.{Alternate}, Steps.{Kinds.{are_calm, ends_of, kind_place, starts_of}, Turns.{dst_by}}, declared.rule.{changing.YearsNear.{YearsNear}, moments.Turns.{Turns}}}
 
--- the place of the leap year among the four, or 4
+-- the place of the test that holds among the four, or 4
+abbrev pub place_of : Bool → Bool → Bool → Bool → ℕ
+place_of a b c d = if a then 0 else (if b then 1 else (if c then 2 else (if d then 3 else 4)))
+
+-- the place of the leap year
 abbrev pub leap_place : ℤ → ℕ
-leap_place year =
-    if is_leap (year -ℤ pos 1) then 0 else (if is_leap year then 1 else (if is_leap (year +ℤ pos 1) then 2 else (if is_leap (year +ℤ pos 2) then 3 else 4)))
+leap_place year = place_of (is_leap (year -ℤ pos 1)) (is_leap year) (is_leap (year +ℤ pos 1)) (is_leap (year +ℤ pos 2))
 
 abbrev pub year_key : ℤ → ℕ
 year_key year = 7 * leap_place year + weekday_of (year_start year)
@@ -67,6 +70,9 @@ is_changing starts ends calm year =
 -- the same in a year of each key
 unfoldable pub changing_keys : List ℤ → List ℤ → List Bool
 changing_keys starts ends = map (is_changing starts ends (are_calm starts ends)) key_years
+
+abbrev pub keys_of : Alternate → List Bool
+keys_of a = changing_keys (starts_of a) (ends_of a)
 
 -- each moment lies less than two years from the first second of its year
 abbrev pub AreWithinYears : List ℤ → Type 0

@@ -1,7 +1,7 @@
 -- Kinds of years: a year is a leap year or not, and begins with one of the seven weekdays.
 use Rattle.std.specs.Prelude.{ℕ, ◌+◌, Bool, ◌&&◌, if◌then◌else◌, List, map, slice_index_or, ℤ, pos, neg_ℤ, ◌-ℤ◌, ◌*ℤ◌, int_le, int_lt, ◌+ℤ◌}
 use Rattle.naive_base.specs.{Year.{is_leap, year_start}, Weekday.{weekday_of}}
-use Rattle.tz_info.specs.{Moments.{moment}, Steps.{Below.{all_below}, KindPlaces.{places_by_kind}}, declared.rule.day.DayTime.{DayTime}}
+use Rattle.tz_info.specs.{Moments.{moment}, Rules.{Alternate}, Steps.{Below.{all_below}, KindPlaces.{places_by_kind}}, declared.rule.day.DayTime.{DayTime}}
 
 -- the place of the year's kind: the common years that begin with Sunday to Saturday, and then the leap years
 abbrev pub kind_place : ℤ → ℕ
@@ -18,6 +18,13 @@ day_time_second t offset place = pos 86_400 *ℤ pos place +ℤ (t.time -ℤ off
 -- that second in a year of each kind
 unfoldable pub seconds_by_kind : DayTime → ℤ → List ℤ
 seconds_by_kind t offset = map (day_time_second t offset) (places_by_kind t.day)
+
+-- those of an alternate rule's start and of its end
+abbrev pub starts_of : Alternate → List ℤ
+starts_of a = seconds_by_kind a.start a.std.offset
+
+abbrev pub ends_of : Alternate → List ℤ
+ends_of a = seconds_by_kind a.end a.dst.offset
 
 -- the second, counted from the year's first, lies two days or more from the year's ends
 abbrev pub is_inside : ℤ → Bool

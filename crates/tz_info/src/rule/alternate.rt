@@ -34,7 +34,7 @@ pub struct AlternateTime {
 impl Model for AlternateTime {
     ghost use Rattle.std.{proofs.Common.{sym}, specs.{List.{list_any}, Prelude.{◌≡◌}}};
     ghost use Rattle.tz_info.specs.Rules.{Alternate, IsAlternateRule};
-    ghost use Rattle.tz_info.specs.Steps.{ChangingYears.{changing_keys}, Kinds.{margin_of, seconds_by_kind}};
+    ghost use Rattle.tz_info.specs.Steps.{ChangingYears.{keys_of}, Kinds.{ends_of, margin_of, starts_of}};
 
     ghost Value = { Alternate };
 
@@ -45,35 +45,29 @@ impl Model for AlternateTime {
       end = a.dst_end;
     } };
 
-    ghost invariant = { λ a. IsAlternateRule (record {
+    ghost invariant = { λ a. let shown : Alternate = record {
       std = a.std_type;
       dst = a.dst_type;
       start = a.dst_start;
       end = a.dst_end;
-    })
-        × (a.starts ≡ seconds_by_kind a.dst_start a.std_type.offset)
-        × (a.ends ≡ seconds_by_kind a.dst_end a.dst_type.offset)
-        × (a.margin ≡ margin_of (seconds_by_kind a.dst_start a.std_type.offset)
-        (seconds_by_kind a.dst_end a.dst_type.offset))
-        × (a.changing ≡ changing_keys (seconds_by_kind a.dst_start a.std_type.offset)
-        (seconds_by_kind a.dst_end a.dst_type.offset))
-        × (a.is_changing ≡ list_any (λ b. b)
-        (changing_keys (seconds_by_kind a.dst_start a.std_type.offset)
-        (seconds_by_kind a.dst_end a.dst_type.offset))) };
+    } in
+        IsAlternateRule shown
+        × (a.starts ≡ starts_of shown)
+        × (a.ends ≡ ends_of shown)
+        × (a.margin ≡ margin_of (starts_of shown) (ends_of shown))
+        × (a.changing ≡ keys_of shown)
+        × (a.is_changing ≡ list_any (λ b. b) (keys_of shown)) };
 
     ghost inverse = { λ a. record {
       std_type = a.std;
       dst_type = a.dst;
       dst_start = a.start;
       dst_end = a.end;
-      starts = seconds_by_kind a.start a.std.offset;
-      ends = seconds_by_kind a.end a.dst.offset;
-      margin = margin_of (seconds_by_kind a.start a.std.offset)
-          (seconds_by_kind a.end a.dst.offset);
-      changing = changing_keys (seconds_by_kind a.start a.std.offset)
-          (seconds_by_kind a.end a.dst.offset);
-      is_changing = list_any (λ b. b) (changing_keys (seconds_by_kind a.start a.std.offset)
-          (seconds_by_kind a.end a.dst.offset));
+      starts = starts_of a;
+      ends = ends_of a;
+      margin = margin_of (starts_of a) (ends_of a);
+      changing = keys_of a;
+      is_changing = list_any (λ b. b) (keys_of a);
     } };
 
     ghost inverse_ok = { λ a h i. record {

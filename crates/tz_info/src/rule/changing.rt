@@ -6,8 +6,8 @@
 
 ghost use Rattle.std.specs.{List.{list_any}, Prelude.{◌≡◌, ◌<◌, ◌≤◌, ◌≤ℤ◌, neg_ℤ, pos, slice_index_or}};
 ghost use Rattle.tz_info.specs.Steps.ChangingYears.{changing_keys, dst_near, flips_at, has_flip, is_changing};
-ghost use Rattle.tz_info.specs.Steps.ChangingYears.{key_years, leap_place, moment_by, turns_in, year_key, years_near};
-ghost use Rattle.tz_info.specs.Steps.{ChangingYears.{AreWithinYears}, Kinds.{kind_place}};
+ghost use Rattle.tz_info.specs.Steps.ChangingYears.{key_years, leap_place, moment_by, place_of, turns_in};
+ghost use Rattle.tz_info.specs.Steps.{ChangingYears.{year_key, years_near, AreWithinYears}, Kinds.{kind_place}};
 
 use crate::rule::kinds::{are_calm, kind_of};
 use crate::rule::moments::{Turns, is_dst_by_three};
@@ -40,13 +40,26 @@ fn leap_place(year: i32) -> u32
     ensures value { result ≡ leap_place year }
     ensures bound { result ≤ 4 }
 {
-    if is_leap_year(year - 1) {
+    place_of(
+        is_leap_year(year - 1),
+        is_leap_year(year),
+        is_leap_year(year + 1),
+        is_leap_year(year + 2),
+    )
+}
+
+// The place of the test that holds among the four, or 4.
+fn place_of(a: bool, b: bool, c: bool, d: bool) -> u32
+    ensures value { result ≡ place_of a b c d }
+    ensures bound { result ≤ 4 }
+{
+    if a {
         0
-    } else if is_leap_year(year) {
+    } else if b {
         1
-    } else if is_leap_year(year + 1) {
+    } else if c {
         2
-    } else if is_leap_year(year + 2) {
+    } else if d {
         3
     } else {
         4
@@ -141,12 +154,19 @@ fn turns_in(starts: &[i64; 14], ends: &[i64; 14], year: i32) -> Turns
     requires ends { AreWithinYears ends.now }
     ensures { result ≡ turns_in (moment_by starts.now) (moment_by ends.now) year }
 {
-    let first = year_start(year);
-    let kind = kind_of(year, first);
     Turns {
-        start: 86_400 * first + starts[kind],
-        end: 86_400 * first + ends[kind],
+        start: moment_by(starts, year),
+        end: moment_by(ends, year),
     }
+}
+
+// The year's moment, by the seconds of its kind.
+fn moment_by(seconds: &[i64; 14], year: i32) -> i64
+    requires { AreWithinYears seconds.now }
+    ensures { result ≡ moment_by seconds.now year }
+{
+    let first = year_start(year);
+    86_400 * first + seconds[kind_of(year, first)]
 }
 
 impl YearsNear {

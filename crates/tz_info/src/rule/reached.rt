@@ -54,7 +54,7 @@ impl AlternateTime {
         requires wide { IsWide second }
         requires order { begin ≤ℤ second }
         requires room { HasRoomFor 2 probes.old.rule_questions }
-        ensures reached { IsReachedSince (AlternateAt self.now) begin second result }
+        ensures reached { IsReachedSince (RuleAt (TransitionRule.Alternate self.now)) begin second result }
         ensures cost { RoseWithin probes.old probes.new 0 2 }
     {
         let (local_type, previous) = self.type_and_change(second, false, probes);
@@ -71,7 +71,7 @@ impl AlternateTime {
         requires local { IsWide local }
         requires near { begin ≤ℤ pos 10_000_000_000_000 }
         requires room { HasRoomFor 2 probes.old.rule_questions }
-        ensures first { IsFirstSince (AlternateAt self.now) begin local
+        ensures first { IsFirstSince (RuleAt (TransitionRule.Alternate self.now)) begin local
             result.at result.local_time_type.now }
         ensures cost { RoseWithin probes.old probes.new 0 2 }
     {

@@ -52,15 +52,6 @@ impl AlternateTime {
         Ok(self.type_in(self.season(unix_time), unix_time))
     }
 
-    // The type in force at the second: a function of its own, for seconds that are seldom asked.
-    #[inline(never)]
-    pub(crate) fn type_at(&self, unix_time: i64) -> &LocalTimeType
-        requires { IsRuleTime unix_time }
-        ensures { AlternateAt self.now unix_time result.now }
-    {
-        self.type_in(self.season(unix_time), unix_time)
-    }
-
     // The moments of the second's year, for questions about several seconds near it.
     #[inline(always)]
     pub(crate) fn season(&self, unix_time: i64) -> Season

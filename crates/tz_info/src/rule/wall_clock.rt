@@ -1,15 +1,16 @@
 //! The wall clock of a rule.
 
-ghost use Rattle.std.specs.{Prelude.{◌≢◌, ◌-ℤ◌, ⊤, MatchOption, ℤ}, Result.{IsOkAnd}};
+ghost use Rattle.std.specs.{Prelude.{◌-ℤ◌, ⊤, MatchOption, ℤ}, Result.{IsOkAnd}};
 ghost use Rattle.offset_core.specs.{LocalResult.{map_of}, WallAnswer.{IsWallAnswer}};
 ghost use Rattle.naive_base.specs.{NaiveDateTime.{reading}, Range.{IsWide}};
 ghost use Rattle.tz_base.specs.LocalTypes.{IsUtOffset};
 ghost use Rattle.tz_info.specs.{Counts.{HasRoomFor, RoseWithin}, HeldChanges.{change_held}, Steps.Walk.{IsAskedLast}};
+ghost use Rattle.tz_info.specs.Moments.{type_when};
 ghost use Rattle.tz_info.specs.{Rules.{IsAlternateRule}, RuleTypes.{RuleAt}, WallClocks.{Shows}};
-ghost use Rattle.tz_info.specs.Steps.{Gaps.{IsNeverFrom, IsRuleGap}, Seasons.{IsSeasonFor, IsSeasonOf}};
+ghost use Rattle.tz_info.specs.Steps.{Gaps.{IsNeverFrom, IsRuleGap}, Seasons.{IsSeason, IsSeasonFor, IsSeasonOf}};
 ghost use Rattle.tz_info.specs.Steps.RuleSeconds.{AreUtOffsets, IsAskedFrom, IsAskedSince, TypeFrom};
 
-use crate::answers::{answer_of_two, joined, second_showing, types_copied};
+use crate::answers::{joined, second_showing, types_copied};
 use crate::change::HeldChange;
 use crate::rule::moments::Moment;
 use crate::rule::{AlternateTime, Season, TransitionRule};
@@ -111,55 +112,31 @@ impl AlternateTime {
     {
         // The greater offset has the earlier second.
         let dst_first = self.std().offset() < self.dst().offset();
-        let first = self.type_when(dst_first).offset();
-        let last = self.type_when(!dst_first).offset();
-        if first == last {
-            let only = self.ask(from, local, first, MappedLocalTime::None, probes);
-            return (None, only);
+        let season = self.season(local);
+        let one = self.ask(season, from, local, dst_first, MappedLocalTime::None, probes);
+        if self.std().offset() == self.dst().offset() {
+            return (None, one);
         }
-        let by_first = second_showing(local, first);
-        if from <= by_first {
-            let season = self.season(local);
-            if season.decides(by_first) & season.decides(second_showing(local, last)) {
-                return self.answer_amid(season, from, local, probes);
-            }
-        }
-        let one = self.ask(from, local, first, MappedLocalTime::None, probes);
-        (None, self.ask(from, local, last, one, probes))
+        let both = self.ask(season, from, local, !dst_first, one, probes);
+        (self.season_for(season, from, local), both)
     }
 
-    // Asks for the two seconds that could show the local time, if the season's moments decide at
-    // both, and hands the season on.
+    // The season, if its moments decide at both seconds that could show the local time.
     #[inline(always)]
-    fn answer_amid(
-        &self,
-        season: Season,
-        from: i64,
-        local: i64,
-        probes: &mut Probes,
-    ) -> (Option<Season>, MappedLocalTime<&LocalTimeType>)
+    #[tactic(auto, using(crate::proofs::Ranges::in_range))]
+    fn season_for(&self, season: Season, from: i64, local: i64) -> Option<Season>
+        requires season { IsSeason self.now season }
         requires local { IsWide local }
-        requires room { HasRoomFor 2 probes.old.rule_questions }
-        requires season { IsSeasonFor self.now from local season }
-        requires other { self.now.std.offset ≢ self.now.dst.offset }
-        ensures season { MatchOption result.0 ⊤ (IsSeasonFor self.now from local) }
-        ensures found { IsWallAnswer (Shows (TypeFrom (TransitionRule.Alternate self.now) from) local)
-            (map_of (λ r. r.now) result.1) }
-        ensures cost { RoseWithin probes.old probes.new 0 2 }
-        ensures counted { IsAskedFrom (TransitionRule.Alternate self.now) from local
-            probes.old.rule_questions probes.new.rule_questions }
+        ensures { MatchOption result ⊤ (IsSeasonFor self.now from local) }
     {
-        // The greater offset has the earlier second.
-        let dst_first = self.std().offset() < self.dst().offset();
-        let first = self.type_when(dst_first);
-        let last = self.type_when(!dst_first);
-        probes.count_question();
-        probes.count_question();
-        let by_first = second_showing(local, first.offset());
-        let by_last = second_showing(local, last.offset());
-        let is_first = self.is_dst_amid(season, by_first) == dst_first;
-        let is_last = self.is_dst_amid(season, by_last) == !dst_first;
-        (Some(season), answer_of_two(first, is_first, last, is_last))
+        let standard = second_showing(local, self.std().offset());
+        let daylight = second_showing(local, self.dst().offset());
+        let is_since = from <= standard && from <= daylight;
+        if is_since && season.decides(standard) && season.decides(daylight) {
+            Some(season)
+        } else {
+            None
+        }
     }
 
     // The change at which clocks jump over the local time, if the season's moments decide at both
@@ -180,31 +157,35 @@ impl AlternateTime {
         })
     }
 
-    // Asks for the one second that could show the local time at the offset, unless it comes before
-    // that one.
+    // Asks for the one second that could show the local time by daylight saving time, or by standard
+    // time, unless it comes before that one.
     #[inline(always)]
+    #[tactic(auto, using(crate::proofs::Ranges::in_range, crate::proofs::Candidates::asked_found, crate::proofs::Candidates::asked_other))]
     fn ask<'a>(
         &'a self,
+        season: Season,
         from: i64,
         local: i64,
-        offset: i32,
+        dst: bool,
         answer: MappedLocalTime<&'a LocalTimeType>,
         probes: &mut Probes,
     ) -> MappedLocalTime<&'a LocalTimeType>
+        requires season { IsSeason self.now season }
         requires local { IsWide local }
         requires room { HasRoomFor 1 probes.old.rule_questions }
-        ensures asked { IsAskedLast (TypeFrom (TransitionRule.Alternate self.now) from) local offset
-            (map_of (λ r. r.now) answer.entry) (map_of (λ r. r.now) result) }
+        ensures asked { IsAskedLast (TypeFrom (TransitionRule.Alternate self.now) from) local
+            (type_when self.now dst).offset (map_of (λ r. r.now) answer.entry) (map_of (λ r. r.now) result) }
         ensures cost { RoseWithin probes.old probes.new 0 1 }
-        ensures counted { IsAskedSince from (local -ℤ offset)
+        ensures counted { IsAskedSince from (local -ℤ (type_when self.now dst).offset)
             probes.old.rule_questions probes.new.rule_questions }
     {
+        let offset = self.type_when(dst).offset();
         let second = second_showing(local, offset);
         if second < from {
             return answer;
         }
         probes.count_question();
-        let found = self.type_at(second);
+        let found = self.type_in(season, second);
         if found.offset() == offset {
             return joined(answer, MappedLocalTime::Single(found));
         }

@@ -56,9 +56,6 @@ impl TimeZone {
             Some(rule) => rule.reached_since(begin, second, probes),
             None => shown_at(second, &self.local_types[index]),
         };
-        if place == 0 {
-            return reached;
-        }
         let end = latest_end(&self.local_types, &self.changes, &self.index, place, probes);
         if reached < end { end - 1 } else { reached }
     }

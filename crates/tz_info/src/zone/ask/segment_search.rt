@@ -78,7 +78,6 @@ fn is_reached(
     requires some { 0 < length types.now }
     requires named { NameTypes (length types.now) changes.now.items }
     requires ends { AreEnds types.now changes.now.items index.now.maxima }
-    requires first { 0 < place }
     requires place { place ≤ length changes.now.items }
     requires room { HasRoomFor 1 probes.old.reads }
     ensures reached { IsTrue result ↔ IsReached types.now changes.now.items place local }
@@ -88,7 +87,7 @@ fn is_reached(
 }
 
 // The latest end of the segments before that place: clocks show just the earlier local times, or later ones,
-// in one of them. One probe is counted.
+// in one of them. One probe is counted at most.
 #[inline(always)]
 pub(super) fn latest_end(
     types: &[LocalTimeType],
@@ -100,12 +99,14 @@ pub(super) fn latest_end(
     requires some { 0 < length types.now }
     requires named { NameTypes (length types.now) changes.now.items }
     requires ends { AreEnds types.now changes.now.items index.now.maxima }
-    requires first { 0 < place }
     requires place { place ≤ length changes.now.items }
     requires room { HasRoomFor 1 probes.old.reads }
     ensures end { IsLatestEnd types.now changes.now.items place result }
     ensures cost { RoseWithin probes.old probes.new 1 0 }
 {
+    if place == 0 {
+        return i64::MIN;
+    }
     match index.latest_end(place, probes) {
         Some(end) => end,
         None => end_at(types, changes, place, probes),

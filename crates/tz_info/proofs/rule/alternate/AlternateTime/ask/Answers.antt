@@ -1,22 +1,25 @@
-use Rattle.tz_info.proofs.{Candidates.{asked_found, asked_other}, Words.{SFits, linear, to_z-of_z, w32, w64, ◌-ℤ◌, ◌≡◌}}
-use Rattle.tz_info.proofs.rule.alternate.AlternateTime.ask.Goals as goal
+use Rattle.tz_info.proofs.{Candidates.{asked_found, asked_other}, Words.{AlternateAt, SFits, ap, linear, rules, to_z-of_z, type_when, w32, w64, ◌-ℤ◌, ◌∙◌, ◌≡◌}}
 use Rattle.tz_info.proofs.rule.alternate.AlternateTime.ask.Goals.{After-offset}
+use Rattle.tz_info.proofs.rule.alternate.AlternateTime.ask.Goals as goal
 
--- what was given fits, and so do the second and the offset of the type there
-known : (c : After-offset)
-    → SFits w64 c.args.local × SFits w32 c.args.offset × SFits w64 c.args.from × SFits w64 (c.args.local -ℤ c.args.offset)
-    × SFits w64 c.second_showing-second.result × SFits w32 c.offset.result
-    × (c.second_showing-second.result ≡ c.args.local -ℤ c.args.offset)
-known c = grind (linear, to_z-of_z)
+-- the second fits, and the type is in force then
+known : (c : After-offset) → let o = (type_when c.args.self.now c.args.dst).offset in
+    SFits w64 (c.args.local -ℤ o) × (c.offset-offset.result ≡ o) × (c.second_showing-second.result ≡ c.args.local -ℤ o)
+    × AlternateAt c.args.self.now (c.args.local -ℤ o) c.type_in-found.result.now
+known c =
+    let fl = c.ranges.local in let fo : SFits w32 c.offset-offset.result = search rules in
+    let fs : SFits w64 c.second_showing-second.result = search rules in
+    let offset = c.offset-offset.ensures.value ∙ ap (λ t. t.offset) c.type_when.ensures in
+    let second = rw offset at (simp to_z-of_z at c.second_showing-second.ensures.value) in
+    (rw (← second) fs, offset, second, rw second at (simp to_z-of_z at c.type_in-found.ensures))
 
 pub returns-then-offset-clause-asked : goal.returns-then-offset-clause-asked
 returns-then-offset-clause-asked c =
-    let (fl, fo, ff, fits, fs, ft, is) = known (goal.at.returns-then-offset-clause-asked c).After-offset in
-    rw c.joined.ensures (asked_found _ _ _ _ _ _ fits (omega linear)
-    (rw is at (simp to_z-of_z at c.type_at-found.ensures)) (omega linear))
+    let (fits, offset, second, here) = known (goal.at.returns-then-offset-clause-asked c).After-offset in
+    let ff = c.ranges.from in
+    rw c.joined.ensures (asked_found _ _ _ _ _ _ fits (omega linear) here (omega linear))
 
 pub returns-clause-asked : goal.returns-clause-asked
 returns-clause-asked c =
-    let (fl, fo, ff, fits, fs, ft, is) = known (goal.at.returns-clause-asked c).After-offset in
-    asked_other _ _ _ _ _ _
-    (rw is at (simp to_z-of_z at c.type_at-found.ensures)) (λ e. omega linear)
+    let (fits, offset, second, here) = known (goal.at.returns-clause-asked c).After-offset in
+    asked_other _ _ _ _ _ _ here (λ e. omega linear)

@@ -1,5 +1,5 @@
 use Rattle.std.proofs.lemmas.Int.{clamps}
-use Rattle.tz_info.proofs.{Fits.fits, RuleReached.{alternate_first, fixed_first}, Words.{to_z-of_z, arith, ints}}
+use Rattle.tz_info.proofs.{Fits.fits, RuleReached.fixed_first, Words.{arith, ints}}
 use Rattle.tz_info.proofs.rule.transition_rule.TransitionRule.first_since.Goals as goal
 
 pub returns-in-Fixed-clause-first : goal.returns-in-Fixed-clause-first
@@ -9,6 +9,3 @@ returns-in-Fixed-clause-first c =
     let fm = c.max.type_inv in
     let value = rw c.offset.ensures.value at (simp fits at c.second_showing.ensures.value) in
     rw c.in-Fixed.is (simp fits (fixed_first _ _ _ _ c.requires.local c.requires.near c.offset.ensures.bound (omega (arith, ints, clamps))))
-
-pub returns-in-Alternate-clause-first : goal.returns-in-Alternate-clause-first
-returns-in-Alternate-clause-first c = grind (arith, to_z-of_z, alternate_first)

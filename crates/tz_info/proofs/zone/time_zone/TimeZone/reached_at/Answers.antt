@@ -1,11 +1,10 @@
 use Rattle.tz_info.proofs.{
   EntryChanges.{rose_less, rose_then},
   Fits.fits,
-  ReachedLaws.{at_end, at_segment, from_least, reached_in},
+  ReachedLaws.{at_end, at_segment, reached_in},
   RuleSegments.reached_by_rule,
   SegmentEndLaws.begun_by,
-  SegmentLaws.begin_first,
-  Words.{RoseWithin, SFits, TypeAt, ap, arith, begin_of, digits, digits-more, ints, least_time, length, linear, pos, refl, rules, slice_get_read, sym, to_z},
+  Words.{RoseWithin, SFits, TypeAt, ap, arith, begin_of, digits, digits-more, ints, length, linear, pos, refl, rules, slice_get_read, sym, to_z},
   Words.{w32, w64, ◌+◌, ◌-ℤ◌, ◌≡◌},
   zone.time_zone.TimeZone.reached_at.Goals.{After-latest_end-end, in-None, in-Some},
 }
@@ -43,37 +42,6 @@ since c =
           (rw (c.begin_of-index.ensures.index, ap (λ z. z.types) c.self.view_is) at has) w.shown_at-reached.ensures.offset
           (simp fits at w.shown_at-reached.ensures.shown)))
     ]
-
-pub returns-then-place-eq0 : goal.returns-then-place-eq0
-returns-then-place-eq0 c =
-    let fs = c.ranges.second in
-    let fb : SFits w64 c.begin_of-index.result.1 = search rules in
-    let valid = rw c.self.view_is at c.self.invariant.valid in
-    let made = rw c.self.view_is at c.self.invariant.list in
-    let place = simp fits at c.count-place.ensures.count in
-    let first : begin_of c.self.inside.changes.items c.count-place.result ≡ least_time = rw c.if-place-eq0.true (begin_first c.self.inside.changes.items) in
-    let more = digits-more _ _ made.few in
-    record {
-      reached = from_least _ _ _ (elim c.match-rule_at.branch [
-        | in-Some w ↦
-            let fr = w.reached_since-reached.type_inv in
-            let is = rw (ap (λ z. z.rule) c.self.view_is) at w.in-Some.ensures in
-            rw w.reached-is (simp fits (rw first at (reached_by_rule _ _ _ _ valid made is.0 c.count-place.ensures.within is.1 _ _
-            (rw c.begin_of-index.ensures.begin at (simp fits at w.reached_since-reached.ensures.reached)))))
-        | in-None w ↦
-            let fr = w.shown_at-reached.type_inv in
-            let own = rw (ap (λ z. z.rule) c.self.view_is) at w.in-None.ensures in
-            let has = slice_get_read _ _ _ _ refl (rw c.deref.ensures.value at c.begin_of-index.ensures.below) w.index.ensures in
-            rw w.reached-is (simp fits (rw first at (reached_in _ _ _ _ valid made c.requires.second _ _ (sym place) own
-            (rw (c.begin_of-index.ensures.index, ap (λ z. z.types) c.self.view_is) at has) w.shown_at-reached.ensures.offset
-            (simp fits at w.shown_at-reached.ensures.shown))))
-      ]);
-      cost = elim c.match-rule_at.branch [
-        | in-Some w ↦ rw w.probes-is (rose_less _ _ _ _ _ _ (rose_then _ _ _ _ _ _ _ (rose_then _ _ _ _ _ _ _ c.count-place.ensures.cost
-            c.begin_of-index.ensures.cost) w.reached_since-reached.ensures.cost) (omega arith) (omega arith))
-        | in-None w ↦ rw w.probes-is (grind linear)
-      ];
-    }
 
 ended : (c : After-latest_end-end) → RoseWithin c.args.probes.now c.latest_end-end.new.probes (digits (length c.args.self.now.transitions) + 2) 2
 ended c =
