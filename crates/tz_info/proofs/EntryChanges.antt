@@ -2,19 +2,20 @@
 use Rattle.tz_info.proofs.{
   LeapOrder.{leap_times_answer},
   Prefixes.{any, index_within, last_taken},
-  SegmentLaws.{begin_first, begin_next, come_at_time, come_by_time, come_from, not_later, place_before, place_begin, place_most, places_rise, segment_most},
-  SegmentLaws.{split_at, split_count},
+  SegmentLaws.{begin_first, begin_next, come_at_time, come_by_time, come_from, not_later, place_before, place_begin, place_most, places_rise},
+  SegmentLaws.{segment_most, split_at, split_count},
   TableSearch.{search_found},
-  Words.{AreLeapSeconds, AreRising, Bool, Change, Counts, HasNoChange, HasType, IsAhead, IsBeforeLast, IsChange, IsFirst, IsFirstChange, IsInTable, IsLast},
-  Words.{IsLastChange, IsLastOf, IsLeapTime, IsNear, IsNearestChange, IsSpanAt, IsTrue, IsValid, LeapSecond, List, LocalType, MatchOption, None, Option},
-  Words.{Precedes, RoseWithin, SFits, Some, Transition, TypeAt, Zone, ap, arith, begin_of, cases_lt, correction_at, digits, digits-le, digits-more, false},
-  Words.{get_or, index_at, index_of, inl, inr, leap_time_at, length, length-take, linear, passed, pos, refl, segment_of, slice_get, suc, sym, take, true, w64},
-  Words.{zero, ℕ, ℤ, ◌+ℤ◌, ◌+◌, ◌-ℤ◌, ◌-◌, ◌<ℤ◌, ◌<◌, ◌==◌, ◌↔◌, ◌∙◌, ◌≡◌, ◌≤ℤ◌, ◌≤◌},
+  Words.{AreLeapSeconds, AreRising, Bool, Change, Counts, HasNoChange, HasType, IsAhead, IsBeforeLast, IsChange, IsInTable, IsLastOf, IsLeapTime},
+  Words.{IsNear, IsNearestChange, IsSpanAt, IsTrue, IsValid, LeapSecond, List, LocalType, MatchOption, None, Option, Precedes, RoseWithin, SFits},
+  Words.{Some, Transition, TypeAt, Zone, arith, begin_of, cases_lt, correction_at, digits, digits-le, digits-more, false, get_or, index_at, index_of},
+  Words.{inl, inr, leap_time_at, length, length-take, linear, passed, pos, refl, segment_of, slice_get, suc, sym, take, true, w64, zero, ℕ, ℤ, ◌+ℤ◌},
+  Words.{◌+◌, ◌-ℤ◌, ◌-◌, ◌<ℤ◌, ◌<◌, ◌==◌, ◌↔◌, ◌∙◌, ◌≡◌, ◌≤ℤ◌, ◌≤◌},
   ZoneChanges.{out_before, out_from, refused_on, time_of},
   ZoneLaws.{before_or_from_last, inside_listed, last_index_below, leap_time_decided},
 }
 use Rattle.tz_info.specs.{
-  Steps.Entries.{AreEntries, Entries, HaveComeAt, IsBetween, IsCome, IsEntryChange, last_index, most_looks},
+  Steps.Entries.{AreEntries, Entries, HaveComeAt, IsBetween, IsCome, IsEntryChange, entry_time, last_index, most_looks},
+  Steps.Changes.{IsChangeAt, count_ahead, place_ahead},
   declared.zone.made.change_table.{Between.{Between}, Come.{Come}},
 }
 
@@ -25,32 +26,30 @@ abbrev count_at : Entries → ℤ → ℕ
 count_at e u = length (passed e.items u)
 
 abbrev time_at : Entries → ℕ → ℤ
-time_at e k = (get_or e.items k any).unix_leap_time
+time_at e k = entry_time e.items k
 
 pub index_there : (e : Entries) (u : ℤ) → AreRising e.items → last_index (passed e.items u) ≡ index_of e.items (count_at e u)
 index_there e u rising =
     let p = split_at _ u rising in
     let n = split_count _ u p.0 p.1 in
-    rw (n, search_found _ u p.0 p.0 (omega arith) p.1) refl
+    grind (linear, search_found)
 
 -- n entries have come if the last of them has and the next one hasn't
-pub count_here : (ts : List Transition) (u : ℤ) (n : ℕ) → AreRising ts → n ≤ length ts → ((d : Transition) → 0 < n → (get_or ts (n - 1) d).unix_leap_time ≤ℤ u)
-    → ((d : Transition) → n < length ts → u <ℤ (get_or ts n d).unix_leap_time) → n ≡ length (passed ts u)
+pub count_here : (ts : List Transition) (u : ℤ) (n : ℕ) → AreRising ts → n ≤ length ts → (0 < n → entry_time ts (n - 1) ≤ℤ u)
+    → (n < length ts → u <ℤ entry_time ts n) → n ≡ length (passed ts u)
 count_here ts u n rising within since until =
     let most = place_most ts u rising in
-    let before = since any in
-    let after = until any in
     let b = come_by_time ts u (n - 1) any rising in
     let a = come_by_time ts u n any rising in grind linear
 
 pub begin_at : (ts : List Transition) (k : ℕ) (d : Transition) → 0 < k → k ≤ length ts → (get_or ts (k - 1) d).unix_leap_time ≡ begin_of ts k
-begin_at ts zero d some within = absurd (omega arith)
+begin_at ts zero d some within = grind linear
 begin_at ts (suc k) d some within = grind (linear, begin_next)
 
 -- ---- which seconds have a leap time
 pub near_time : (es : List LeapSecond) (u : ℤ) → AreLeapSeconds es → IsNear u → IsLeapTime es u (u +ℤ correction_at es u)
 near_time es u valid near = elim (leap_time_decided es u) [
-  | inl x ↦ record { sum = refl; fits = x.1.fits }
+  | inl x ↦ grind linear
   | inr r ↦ absurd (leap_times_answer es u valid near.0 near.1 r)
 ]
 
@@ -58,9 +57,7 @@ near_time es u valid near = elim (leap_time_decided es u) [
 pub have_come : (z : Zone) (e : Entries) (u : ℤ) (c : Come) → IsValid z → AreEntries z e → SFits w64 u → IsLeapTime z.leaps u (leap_time_at z u)
     → IsCome e u c → HaveComeAt z u c
 have_come z e u c valid made fits l come =
-    let last = made.come u (leap_time_at z u) fits l in
-    let named = made.named u (leap_time_at z u) fits l in
-    record { of_second = l; all = grind arith; named = grind arith; below = rw come.index (last_index_below _ u 0 _ valid.some made.indexes) }
+    grind (linear, last_index_below)
 
 pub not_last : (z : Zone) (u : ℤ) (c : Come) → HaveComeAt z u c → c.are_all ≡ false → IsBeforeLast z (leap_time_at z u)
 not_last z u c h not = grind (linear, before_or_from_last)
@@ -70,8 +67,8 @@ pub is_come : (e : Entries) (u : ℤ) (n : ℕ) (latest : Option Transition) (c 
     → passed e.items u ≡ take n e.items → IsLastOf e.items n latest
     → MatchOption latest (c.index ≡ 0) (λ t. c.index ≡ t.type_index) → c.are_all ≡ (n == e.all) → IsCome e u c
 is_come e u n _ c within come last index all =
-    let many : length (passed e.items u) ≡ n = ap length come ∙ (simp length-take (omega arith)) in
-    record { all = rw (many, all) (λ t. grind arith, λ q. grind arith); index = rw come (named_by _ n _ _ within last index) }
+    let many : length (passed e.items u) ≡ n = grind (linear, length-take) in
+    record { all = grind linear; index = rw come (named_by _ n _ _ within last index) }
   where
     named_by : (ts : List Transition) (n : ℕ) (latest : Option Transition) (i : ℕ) → n ≤ length ts → IsLastOf ts n latest
         → MatchOption latest (i ≡ 0) (λ t. i ≡ t.type_index)
@@ -95,12 +92,18 @@ pub rose_then : (a b c : Counts) (m n p q : ℕ) → RoseWithin a b m p → Rose
 rose_then a b c m n p q one two = grind linear
 
 pub looks_most : (m n : ℕ) → 0 < n → m ≤ n → most_looks m ≤ digits n
-looks_most zero n some h = grind (linear, digits-more, some, digits_one)
+looks_most zero n some h = grind (linear, digits-more, digits_one)
 looks_most (suc m) n some h = digits-more _ n h
 
--- of the entries that have come, those after the first k make no change
-abbrev pub AreIdleBehind : Zone → Entries → ℤ → ℕ → Type 0
-AreIdleBehind z e last k = (j : ℕ) → k ≤ j → j < count_at e last → (d : Change) → IsChange (TypeAt z) d → time_at e j ≡ d.at → ⊥
+-- the entry at that place is one of those that are left
+abbrev IsLeftAt : Bool → ℕ → ℕ → ℕ → Type 0
+IsLeftAt true len left place = len ≤ place + left
+IsLeftAt false len left place = place < left
+
+-- of the entries ahead of the second that many are left, and each change ahead comes with one of them
+pub record AreLeft (z : Zone) (e : Entries) (w : Bool) (s : ℤ) (left : ℕ) : Type 0 where
+  pub most : left ≤ count_ahead w (length e.items) (count_at e s)
+  pub each : (j : ℕ) (d : Change) → j < length e.items → IsChange (TypeAt z) d → time_at e j ≡ d.at → IsAhead w s d.at → IsLeftAt w (length e.items) left j
 
 -- a zone and its entries
 module _ (z : Zone) (e : Entries) (valid : IsValid z) (made : AreEntries z e) where
@@ -115,7 +118,7 @@ module _ (z : Zone) (e : Entries) (valid : IsValid z) (made : AreEntries z e) wh
   -- the type in force is the one after the entries that have come
   type_here : (u x : ℤ) (n : ℕ) → SFits w64 u → IsLeapTime z.leaps u x → count_at e u ≡ n
       → slice_get z.types (index_at z x) ≡ slice_get z.types (index_of e.items n)
-  type_here u x n fits l count = let named = made.named u x fits l in let index = index_there e u made.rising in grind arith
+  type_here u x n fits l count = let index = index_there e u made.rising in grind arith
 
   type_amid : (u x : ℤ) (n : ℕ) (t : LocalType) → SFits w64 u → IsLeapTime z.leaps u x → count_at e u ≡ n → n < e.all
       → HasType z (index_of e.items n) t → TypeAt z u t
@@ -132,7 +135,6 @@ module _ (z : Zone) (e : Entries) (valid : IsValid z) (made : AreEntries z e) wh
       → HasType z (index_of e.items n) t
   amid_type u n t fits some count more h =
       let l = time_of z u t some h in
-      let last = made.come u h.leap_time fits l in
       sym (type_here u _ n fits l count) ∙ h.in_force.before_last (grind (arith, place_most))
 
   -- a change before the last transition comes with an entry
@@ -143,7 +145,6 @@ module _ (z : Zone) (e : Entries) (valid : IsValid z) (made : AreEntries z e) wh
       let m = count_at e u in
       let l = time_of z u _ (omega arith) is.before in
       let seg = come_at_time z u _ l in
-      let last = made.come u is.before.leap_time is.fits_before l in
       let rise = places_rise e.items u d.at made.rising (omega linear) in
       let amid : m < e.all = grind (arith, place_most) in
       elim (cases_lt m (count_at e d.at)) [
@@ -153,7 +154,7 @@ module _ (z : Zone) (e : Entries) (valid : IsValid z) (made : AreEntries z e) wh
         | inr b ↦
             let s = amid_type u m d.before is.fits_before (omega arith) refl amid is.before in
             let t = amid_type d.at m d.after is.fits (omega arith) (omega arith) amid is.after in
-            absurd (is.differ cc)
+            grind linear
       ]
 
   -- how many have come at an entry's second, and just before it
@@ -165,9 +166,8 @@ module _ (z : Zone) (e : Entries) (valid : IsValid z) (made : AreEntries z e) wh
 
   -- the change that an entry makes
   entry_change : (k : ℕ) (c : Change) → k < length e.items → k + 1 < e.all → IsEntryChange z.types e.items k (Some c) → IsChange (TypeAt z) c
-  entry_change k c h more (at, fits, not_least, before, after) =
-      let is = at any in
-      let (x, l) = made.leap_time k any h in
+  entry_change k c h more (is, fits, not_least, before, after) =
+      let (x, l) = made.leap_time k h in
       let l2 = rw (← is) at l in
       let (y, m) = earlier_time (c.at -ℤ pos 1) _ x (omega linear) l2 in
       record {
@@ -175,7 +175,7 @@ module _ (z : Zone) (e : Entries) (valid : IsValid z) (made : AreEntries z e) wh
         fits_before = omega linear;
         before = type_amid _ y k _ (omega linear) m (rw is (count_before k h)) (omega arith) before;
         after = type_amid _ x _ _ fits l2 (rw is (count_then k h)) more after;
-        differ = λ q. made.differ k h more cc;
+        differ = grind linear;
       }
 
   -- before an entry comes some transition has not
@@ -183,121 +183,69 @@ module _ (z : Zone) (e : Entries) (valid : IsValid z) (made : AreEntries z e) wh
   in_table k c h is at =
       let l = time_of z _ _ (omega arith) is.before in
       let n : count_at e (c.at -ℤ pos 1) ≡ k = rw at (count_before k h) in
-      let last = made.come (c.at -ℤ pos 1) is.before.leap_time is.fits_before l in
-      let seg = come_at_time z (c.at -ℤ pos 1) is.before.leap_time l in grind (arith, segment_most)
+      grind (linear, come_at_time, segment_most)
 
   -- ---- the nearest change of the table
   -- a change at an entry is the nearest one if no change at an entry ahead precedes it
   found : (w : Bool) (s : ℤ) (k : ℕ) (c : Change) → k < length e.items → IsChange (TypeAt z) c → c.at ≡ time_at e k → IsAhead w s c.at
       → ((j : ℕ) (d : Change) → j < length e.items → IsChange (TypeAt z) d → time_at e j ≡ d.at → IsAhead w s d.at → Precedes w c.at d.at)
       → IsNearestChange w (TypeAt z) (IsInTable z (IsAhead w s)) c
-  found w s k c h is at ahead near = record {
-    is = is;
-    inside = record { inside = ahead; table = in_table k c h is at };
-    nearest = λ d is_d inside. let (j, below, time) = table_change d is_d inside.table in near j d below is_d time inside.inside;
-  }
+  found w s k c h is at ahead near = grind (linear, in_table, table_change)
 
-  next_found : (after : ℤ) (c : Change) → count_at e after < length e.items → IsChange (TypeAt z) c → c.at ≡ time_at e (count_at e after)
-      → IsFirstChange (TypeAt z) (IsInTable z (λ u. after <ℤ u)) c
-  next_found after c some is at =
-      let n = count_at e after in
-      let first = come_by n after some in
-      found true after n c some is at (grind linear) (λ j d below is_d time later.
-      let a = come_by j after below in
-      let r = not_later e.items n j any made.rising (grind linear) below in omega linear)
+  pub with_entry : (k : ℕ) (r : Option Change) → k < length e.items → k + 1 < e.all → IsEntryChange z.types e.items k r
+      → IsChangeAt (TypeAt z) (time_at e k) r
+  with_entry k None h more least = grind linear
+  with_entry k (Some c) h more is = (entry_change k c h more is, is.0)
 
-  previous_found : (last : ℤ) (k : ℕ) (c : Change) → k < count_at e last → AreIdleBehind z e last (k + 1) → IsChange (TypeAt z) c → c.at ≡ time_at e k
-      → IsLastChange (TypeAt z) (IsInTable z (λ u. u ≤ℤ last)) c
-  previous_found last k c come idle is at =
-      let most = place_most e.items last made.rising in
-      let first = come_by k last (omega arith) in
-      found false last k c (omega arith) is at (grind linear) (λ j d below is_d time earlier.
-      let there = (come_by j last below).1 (omega linear) in
-      let r = not_later e.items j k any made.rising in
-      elim (cases_lt k j) [ inl b ↦ absurd (idle j (omega arith) there d is_d time) | inr m ↦ grind linear ])
+  -- the entries ahead of the second
+  ahead_by : (w : Bool) (s : ℤ) (j : ℕ) → j < length e.items
+      → IsAhead w s (time_at e j) ↔ IsLeftAt w (length e.items) (count_ahead w (length e.items) (count_at e s)) j
+  ahead_by true s j h = let r = come_by j s h in grind linear
+  ahead_by false s j h = let r = come_by j s h in grind linear
 
--- ---- the next change of the table
-module _ (z : Zone) (e : Entries) (after : ℤ) where
-  pub next_none : IsValid z → AreEntries z e → count_at e after ≡ length e.items → HasNoChange (TypeAt z) (IsInTable z (λ u. after <ℤ u))
-  next_none valid made all d is inside =
-      let (k, some, time) = table_change z e valid made d is inside.table in
-      let a = come_by z e valid made k after some in grind linear
+  pub left_first : (w : Bool) (s : ℤ) (left : ℕ) → left ≡ count_ahead w (length e.items) (count_at e s) → AreLeft z e w s left
+  left_first w s left is = record { most = omega arith; each = λ j d below is_d time ahead. rw is ((ahead_by w s j below).0 (rw time ahead)) }
 
-  pub next_by_entry : (r : Option Change) → IsValid z → AreEntries z e → count_at e after < length e.items
-      → count_at e after + 1 < e.all → SFits w64 after
-      → IsEntryChange z.types e.items (count_at e after) r → IsFirst (TypeAt z) (IsInTable z (λ u. after <ℤ u)) r
-  next_by_entry None valid made some more fits least =
-      let own = least any in
-      let r = come_by z e valid made _ after some in absurd (grind linear)
-  next_by_entry (Some c) valid made some more fits h =
-      next_found z e valid made after c some (entry_change z e valid made _ c some more h) (h.0 any)
+  pub left_none : (w : Bool) (s : ℤ) → AreLeft z e w s 0 → HasNoChange (TypeAt z) (IsInTable z (IsAhead w s))
+  left_none true s left = grind (linear, table_change)
+  left_none false s left = grind (linear, table_change)
 
-  pub next_by_last : (second : ℤ) (r : Option Change) → IsValid z → AreEntries z e → count_at e after < length e.items
-      → e.all ≤ count_at e after + 1
-      → ((d : Transition) → second ≡ (get_or e.items (count_at e after) d).unix_leap_time)
-      → MatchOption r (HasNoChange (TypeAt z) (λ u. u ≡ second)) (λ c. IsChange (TypeAt z) c × (c.at ≡ second))
-      → IsFirst (TypeAt z) (IsInTable z (λ u. after <ℤ u)) r
-  next_by_last second None valid made some last at none = λ d is inside.
-      let (k, below, time) = table_change z e valid made d is inside.table in
-      let r = come_by z e valid made k after below in
-      let same : k ≡ count_at e after = grind linear in none d is (cc (at any))
-  next_by_last second (Some c) valid made some last at h = next_found z e valid made after c some h.0 (h.1 ∙ at any)
+  pub left_less : (w : Bool) (s : ℤ) (left place : ℕ) → AreLeft z e w s left → place ≡ place_ahead w (length e.items) left
+      → HasNoChange (TypeAt z) (λ u. u ≡ time_at e place) → AreLeft z e w s (left - 1)
+  left_less true s left place l is none = grind linear
+  left_less false s left place l is none = grind linear
 
--- ---- the previous change of the table
--- a zone, its entries and the last second
-module _ (z : Zone) (e : Entries) (last : ℤ) where
-  pub previous_none : IsValid z → AreEntries z e → AreIdleBehind z e last 0 → HasNoChange (TypeAt z) (IsInTable z (λ u. u ≤ℤ last))
-  previous_none valid made idle d is inside =
-      let (k, below, time) = table_change z e valid made d is inside.table in
-      idle k (omega arith) ((come_by z e valid made k last below).1 (omega linear)) d is time
-
-  -- an entry at the least second makes none, nor do those before it
-  pub previous_by_entry : (k : ℕ) (r : Option Change) → IsValid z → AreEntries z e → k < count_at e last → k + 1 < e.all
-      → AreIdleBehind z e last (k + 1) → IsEntryChange z.types e.items k r → IsLast (TypeAt z) (IsInTable z (λ u. u ≤ℤ last)) r
-  previous_by_entry k None valid made come more idle least = previous_none valid made (λ j _ below d is time.
-      let most = place_most e.items last made.rising in
-      let own = least any in
-      let r = not_later e.items j k any made.rising in
-      elim (cases_lt k j) [ inl b ↦ idle j (omega arith) below d is time | inr m ↦ grind linear ])
-  previous_by_entry k (Some c) valid made come more idle h = let most = place_most e.items last made.rising in
-      previous_found z e valid made last k c come idle (entry_change z e valid made k c (omega arith) more h) (h.0 any)
-
-  pub none_behind : (k : ℕ) → count_at e last ≡ k → AreIdleBehind z e last k
-  none_behind k all j low high d is time = omega arith
-
-  -- if the last one that has come makes none
-  pub idle_more : (second : ℤ) (k : ℕ) → count_at e last ≡ k + 1 → ((d : Transition) → second ≡ (get_or e.items k d).unix_leap_time)
-      → HasNoChange (TypeAt z) (λ u. u ≡ second) → AreIdleBehind z e last k
-  idle_more second k all at none j low high d is time = let same : j ≡ k = omega arith in none d is (cc (at any))
-
-  pub previous_at : (second : ℤ) (k : ℕ) (c : Change) → IsValid z → AreEntries z e → count_at e last ≡ k + 1
-      → ((d : Transition) → second ≡ (get_or e.items k d).unix_leap_time) → IsChange (TypeAt z) c → c.at ≡ second
-      → IsLastChange (TypeAt z) (IsInTable z (λ u. u ≤ℤ last)) c
-  previous_at second k c valid made all at is there =
-      previous_found z e valid made last k c (omega arith) (none_behind (k + 1) all) is (there ∙ at any)
+  pub left_found : (w : Bool) (s : ℤ) (left place : ℕ) (c : Change) → AreLeft z e w s left → 0 < left → place ≡ place_ahead w (length e.items) left
+      → IsChange (TypeAt z) c → c.at ≡ time_at e place → IsNearestChange w (TypeAt z) (IsInTable z (IsAhead w s)) c
+  left_found true s left place c l some is change at =
+      let first = ahead_by true s place (omega arith) in
+      found true s place c (omega arith) change at (grind linear) (λ j d below is_d time ahead.
+      let r = not_later e.items place j any made.rising in
+      grind linear)
+  left_found false s left place c l some is change at =
+      let most = place_most e.items s made.rising in
+      let first = ahead_by false s place (omega arith) in
+      found false s place c (omega arith) change at (grind linear) (λ j d below is_d time ahead.
+      let r = not_later e.items j place any made.rising in
+      grind linear)
 
 -- ---- between two entries
 pub index_below : (z : Zone) (e : Entries) (k : ℕ) → IsValid z → AreEntries z e → k ≤ length e.items → index_of e.items k < length z.types
-index_below z e k valid made h = index_within _ e.items k valid.some made.indexes h
-
-pub index_between : (z : Zone) (e : Entries) (u : ℤ) (b : Between) → IsValid z → AreEntries z e → IsBetween e u b → b.index < length z.types
-index_between z e u b valid made h = grind (arith, index_below)
+index_below z e k valid made h = grind (linear, index_within)
 
 -- the second of which they are asked is one of them
 pub inside_between : (z : Zone) (e : Entries) (u : ℤ) (b : Between) → AreEntries z e → IsBetween e u b → SFits w64 u → (b.from ≤ℤ u) × (u <ℤ b.until)
 inside_between z e u b made h fits =
-    let end = h.until any in
     let c = come_by_time e.items u h.place any made.rising h.some in
-    let f = come_from e.items h.place u made.rising in (grind (linear, begin_first), grind linear)
+    grind (linear, come_from, begin_first)
 
 pub stretch_between : (z : Zone) (e : Entries) (u v : ℤ) (b : Between) (t : LocalType) → IsValid z → AreEntries z e → IsBetween e u b
     → SFits w64 b.from → SFits w64 b.until
     → HasType z b.index t → b.from ≤ℤ v → v <ℤ b.until → TypeAt z v t
 stretch_between z e u v b t valid made h low high has from until =
-    let end = h.until any in
     let c = come_by_time e.items v h.place any made.rising h.some in
     let f = come_from e.items h.place v made.rising in
-    let (x, l) = made.leap_time h.place any h.some in
+    let (x, l) = made.leap_time h.place h.some in
     let (y, m) = earlier_time z e valid made v _ x (omega linear) l in
     type_amid z e valid made v y h.place t (omega linear) m (grind linear) (omega arith) (rw h.index at has)
 
@@ -314,12 +262,12 @@ span_between z e u b t valid made h is fits low high has =
     let (s, has_s) = inside_listed _ _ (index_below z e (k + 1) valid made (omega arith)) in
     record {
       in_force_then = stretch_between z e u u b t valid made h low high has since before;
-      inside = record { fits = fits; since = since; until = before };
+      inside = grind linear;
       span = record {
-        some = (u, record { fits = fits; since = since; until = before });
+        some = grind linear;
         each = λ v i. stretch_between z e u v b t valid made h low high has i.since i.until;
         begins = out_before z (record { at = b.from; before = r; after = t }) (entry_change z e valid made (k - 1) _ (omega arith) (omega arith)
-            ((λ f. h.from ∙ sym (begin_at e.items k f some (omega arith))), low, (λ q. omega linear), has_r, rw same own));
+            (grind (linear, begin_at), low, (λ q. omega linear), has_r, rw same own));
         ends = out_from z (record { at = b.until; before = t; after = s }) (entry_change z e valid made k _ h.some more
             (h.until, high, (λ q. omega linear), own, has_s));
       };

@@ -5,10 +5,10 @@ use Rattle.tz_info.proofs.{
   LeapSearch.{own_leap_time},
   Prefixes.{index_within},
   SegmentLaws.{come_by_time, index_next, not_later, place_most},
-  Words.{All, All-push, AreLeapSeconds, AreRising, IsFromLast, IsLeapTime, IsLeapTimeRefused, IsValid, LeapSecond, List, None, Option, Some, Transition, Zone},
-  Words.{[], all_pairs_push, ap, append-nil, arith, by_lt_z, cases_lt, get_or, get_or_append_left, get_or_default, get_or_push, index_of, inl, inr, last_else},
-  Words.{le_false, le_true, length, length_push, linear, map, nat_tests, passed, pos, refl, slice_get, slice_get-get_or, suc, sym, take, take_all, take_more},
-  Words.{zero, ℕ, ℤ, ◌++◌, ◌+◌, ◌-◌, ◌<ℤ◌, ◌<◌, ◌==◌, ◌↔◌, ◌∙◌, ◌∷◌, ◌≡◌, ◌≢◌, ◌≤ℤ◌, ◌≤◌, ◌⊎◌},
+  Words.{All, All-push, AreLeapSeconds, AreRising, IsFromLast, IsLeapTime, IsLeapTimeRefused, IsValid, LeapSecond, List, None, Option, Some},
+  Words.{Transition, Zone, [], all_pairs_push, append-nil, arith, by_lt_z, cases_lt, get_or, get_or_append_left, get_or_default, get_or_push},
+  Words.{index_of, inr, last_else, le_false, le_true, length, length_push, linear, map, nat_tests, passed, pos, refl, slice_get, slice_get-get_or},
+  Words.{suc, take, take_all, take_more, zero, ℕ, ℤ, ◌++◌, ◌+◌, ◌-◌, ◌<ℤ◌, ◌<◌, ◌==◌, ◌↔◌, ◌∷◌, ◌≡◌, ◌≢◌, ◌≤ℤ◌, ◌≤◌, ◌⊎◌},
   ZoneChanges.{refused_on},
 }
 use Rattle.tz_info.specs.Transitions.{NameTypes}
@@ -20,10 +20,10 @@ last_more [] t i = refl
 last_more (s ∷ ts) t i = last_more ts t s.type_index
 
 passed_in : (ts : List Transition) (t : Transition) (x : ℤ) → t.unix_leap_time ≤ℤ x → passed (ts ++ t ∷ []) x ≡ passed ts x ++ t ∷ []
-passed_in ts t x h = rw (filter-append, le_true t.unix_leap_time x h) refl
+passed_in ts t x h = grind (linear, filter-append, le_true)
 
 passed_out : (ts : List Transition) (t : Transition) (x : ℤ) → x <ℤ t.unix_leap_time → passed (ts ++ t ∷ []) x ≡ passed ts x
-passed_out ts t x h = rw (filter-append, le_false t.unix_leap_time x h) (append-nil (passed ts x))
+passed_out ts t x h = grind (linear, filter-append, le_false, append-nil)
 
 passed_all : (ts : List Transition) (x : ℤ) → All (λ t. t.unix_leap_time ≤ℤ x) ts → passed ts x ≡ ts
 passed_all [] x h = refl
@@ -69,30 +69,24 @@ record AreKept (entries kept : List Transition) (s : ℤ) : Type 0 where
 
 -- the index after the first j of a list is that of a longer one
 index_left : (ts us : List Transition) (j : ℕ) → j ≤ length ts → index_of (ts ++ us) j ≡ index_of ts j
-index_left ts us j h = ap (λ s. last_index s) (take-append-le j ts us h)
+index_left ts us j h = grind (linear, take-append-le)
 
 kept_of : (entries kept : List Transition) (s : ℤ) → AreBefore entries s kept → AreKept entries kept s
-kept_of entries kept s (none_there e other) = rw e (record { few = omega arith; item = λ j d h. refl; index = λ j h. refl; same = λ u h. refl })
-kept_of entries kept s (one_there t e at) = rw e (record {
-  few = grind (arith, length_push);
-  item = λ j d h. sym (get_or_append_left kept _ d j h);
-  index = λ j h. sym (index_left kept _ j h);
-  same = λ u h. sym (passed_out kept t u (omega linear));
-})
+kept_of entries kept s (none_there e other) = grind linear
+kept_of entries kept s (one_there t e at) = grind (linear, length_push, get_or_append_left, index_left, passed_out)
 
 -- what holds of all holds of those
 pub kept_all : (P : Transition → Type 0) (entries kept : List Transition) (s : ℤ) → AreBefore entries s kept → All P entries → All P kept
 kept_all P entries kept s before all j d l =
     let keep = kept_of entries kept s before in
-    let few = keep.few in rw (keep.item j d l) (all j d (omega arith))
+    grind linear
 
 -- all of them come before it
 kept_earlier : (entries kept : List Transition) (s : ℤ) → AreRising entries → All (λ t. t.unix_leap_time ≤ℤ s) entries → AreBefore entries s kept
     → All (λ t. t.unix_leap_time <ℤ s) kept
 kept_earlier entries kept s rising until (none_there e other) = rw e (λ j d h.
-    let last = until (length entries - 1) d in
     let r = rising j (length entries - 1) d in
-    by_lt_z _ s (λ q. q) (λ q. absurd (other (get_or entries j d, grind (linear, slice_get-get_or), let here = until j d h in omega linear))))
+    grind (linear, by_lt_z, slice_get-get_or))
 kept_earlier entries kept s rising until (one_there t e at) = λ j d h.
     let r = rw e at rising j (length kept) d h in grind (linear, get_or_append_left, get_or_push, length_push)
 
@@ -119,7 +113,7 @@ module _ (z : Zone) (old kept entries : List Transition) (k : ℕ) (s : ℤ) (t 
   keep = kept_of old kept s h.before
 
   taken : take (k + 1) z.transitions ≡ take k z.transitions ++ t ∷ []
-  taken = rw (← h.item) at (take_more z.transitions k t h.more)
+  taken = grind (linear, take_more)
 
   -- before the second nothing is new
   named_before : (u x : ℤ) → IsLeapTime z.leaps u x → u <ℤ s
@@ -135,11 +129,10 @@ module _ (z : Zone) (old kept entries : List Transition) (k : ℕ) (s : ℤ) (t 
   pub turned : AreMadeOf z entries (k + 1)
   turned =
       let few = keep.few in
-      let most = h.made.few in
       let rising : AreRising kept = λ i j d a l. rw (keep.item i d (omega arith), keep.item j d l) (h.made.rising i j d a (omega arith)) in
       let indexes : NameTypes (length z.types) kept = kept_all (λ a. a.type_index < length z.types) old kept s h.before h.made.indexes in
       let own : All (IsOwn z (k + 1)) kept = kept_all (IsOwn z (k + 1)) old kept s h.before (λ j d l.
-      let (a, i, below, own, start) = h.made.own j d l in (a, i, omega arith, own, start)) in
+      let (a, i, below, own, start) = h.made.own j d l in grind linear) in
       let differ : (j : ℕ) → j < length kept → slice_get z.types (index_of kept (j + 1)) ≢ slice_get z.types (index_of kept j) = λ j l.
       rw (keep.index j (omega arith), keep.index (j + 1) (omega arith)) (h.made.differ j (omega arith) (inr h.more)) in
       elim h.change [
@@ -150,9 +143,9 @@ module _ (z : Zone) (old kept entries : List Transition) (k : ℕ) (s : ℤ) (t 
           named = λ u x l. by_lt_z u s (named_before u x l) (λ late.
               rw (named_from u x l late, passed_all kept u (λ j d m. let a = earlier j d m in omega linear)) same);
           own = own;
-          come = λ n. absurd (grind (arith, nat_tests));
-          some = λ _ n. absurd (grind (arith, nat_tests));
-          differ = λ j l _. differ j l;
+          come = grind (linear, nat_tests);
+          some = grind (linear, nat_tests);
+          differ = grind linear;
         })
         | added e why ↦
             let entry : Transition = record t { unix_leap_time = s } in
@@ -167,23 +160,15 @@ module _ (z : Zone) (old kept entries : List Transition) (k : ℕ) (s : ℤ) (t 
                   (rw (← h.item) at (h.valid.transitions.indexes k t h.more));
               few = omega arith;
               named = λ u x l. by_lt_z u s
-                  (λ early. rw (passed_out kept entry u early) (named_before u x l early))
+                  (λ early. grind (linear, passed_out, named_before))
                   (λ late. rw (named_from u x l late, passed_in kept entry u late, last_more (passed kept u) entry 0) refl);
               own = All-push (IsOwn z (k + 1)) kept entry own (t, k, omega arith, h.item, h.start);
               come = λ m u x l.
                   let first = last_come z.transitions k t x h.valid.transitions.rising m in
                   let last = last_come full (length kept) t u longer (omega arith) in
-                  let reach = h.start.reached u x l in let item = h.item in grind arith;
-              some = λ _ _. omega arith;
-              differ = λ j l m. elim (cases_lt j (length kept)) [
-                | inl b ↦ rw (index_left kept (entry ∷ []) j (omega arith), index_left kept (entry ∷ []) (j + 1) (omega arith)) (differ j b)
-                | inr over ↦
-                    let here : j ≡ length kept = omega arith in
-                    let one : index_of full (length kept) ≡ last_index kept = index_left kept (entry ∷ []) (length kept) (omega arith)
-                    ∙ ap (λ a. last_index a) (take_all (length kept) kept (omega arith)) in
-                    rw (here, one, index_next full (length kept) t (omega arith), own_last)
-                    (elim why [ inl ends ↦ absurd (grind (arith, nat_tests)) | inr other ↦ other ])
-              ];
+                  grind arith;
+              some = grind linear;
+              differ = grind (linear, cases_lt, index_left, take_all, index_next, nat_tests);
             })
       ]
 
@@ -191,8 +176,6 @@ module _ (z : Zone) (old kept entries : List Transition) (k : ℕ) (s : ℤ) (t 
 module _ (z : Zone) (entries : List Transition) (k all : ℕ) (valid : IsValid z) (made : AreMadeOf z entries k) where
   pub all_come : k ≡ length z.transitions → all ≡ length entries → AreEntries z (record { items = entries; all = all; transitions = z.transitions })
   all_come e a =
-      let few = made.few in
-      let some = made.some in
       record {
         listed = refl;
         rising = made.rising;
@@ -201,16 +184,15 @@ module _ (z : Zone) (entries : List Transition) (k all : ℕ) (valid : IsValid z
         more = omega arith;
         most = omega arith;
         some = grind arith;
-        named = λ u x f l. rw (take_all k z.transitions (omega arith)) at (made.named u x l);
-        come = λ u x f. rw a (made.come e u x);
-        leap_time = λ j d h. (made.own j d h).4.leap_time;
-        differ = λ j h m. made.differ j h (inl (omega arith));
+        named = grind (linear, take_all);
+        come = grind linear;
+        leap_time = λ j h. (made.own j _ h).4.leap_time;
+        differ = grind linear;
       }
 
   pub never_come : (t : Transition) → k < length z.transitions → t ≡ get_or z.transitions k t → NeverComes z.leaps t.unix_leap_time
       → all ≡ length entries + 1 → AreEntries z (record { items = entries; all = all; transitions = z.transitions })
   never_come t more item never a =
-      let few = made.few in
       record {
         listed = refl;
         rising = made.rising;
@@ -218,16 +200,16 @@ module _ (z : Zone) (entries : List Transition) (k all : ℕ) (valid : IsValid z
         few = omega arith;
         more = omega arith;
         most = omega arith;
-        some = (λ h. omega arith, λ h. omega arith);
+        some = grind linear;
         named = λ u x f l. rw (passed_first z.transitions k x (λ i d low h.
             let late = never u x f l in
             let n = not_later z.transitions k i d valid.transitions.rising low h in grind (linear, get_or_default))) (made.named u x l);
         come = λ u x f l.
             let late = never u x f l in
             let c = come_by_time z.transitions x k t valid.transitions.rising more in
-            let m = place_most entries u made.rising in grind linear;
-        leap_time = λ j d h. (made.own j d h).4.leap_time;
-        differ = λ j h m. made.differ j h (inr more);
+            grind (linear, place_most);
+        leap_time = λ j h. (made.own j _ h).4.leap_time;
+        differ = grind linear;
       }
 
 -- the transitions are the entries, if there is no leap second and each but the last changes the type
@@ -241,20 +223,7 @@ one_change z n some h last k below = grind linear
 pub own_entries : (z : Zone) → IsValid z → length z.leaps ≡ 0 → AreChanges z (length z.transitions)
     → AreEntries z (record { items = z.transitions; all = length z.transitions; transitions = z.transitions })
 own_entries z valid none differ =
-    let same : (u x : ℤ) → IsLeapTime z.leaps u x → x ≡ u = λ u x l. let s = l.sum in let t = (own_leap_time z.leaps u none).sum in omega linear in
-    record {
-      listed = refl;
-      rising = valid.transitions.rising;
-      indexes = valid.transitions.indexes;
-      few = omega arith;
-      more = omega arith;
-      most = omega arith;
-      some = (λ h. h, λ h. h);
-      named = λ u x f l. rw (same u x l) refl;
-      come = λ u x f l. rw (same u x l) (λ h. h, λ h. h);
-      leap_time = λ k d h. (_, own_leap_time z.leaps _ none);
-      differ = λ k h more. differ k more;
-    }
+    grind (linear, own_leap_time)
 
 -- ---- the second at which a transition comes
 -- a leap time comes at no second if its first one is too late, or has no leap time
@@ -277,8 +246,7 @@ popped entries kept (Some r) second (t, is, at) e value =
 pub last_item : (entries : List Transition) (t : Transition) → 0 < length entries → t ≡ get_or entries (length entries - 1) t
     → t.type_index ≡ last_index entries
 last_item entries t some item =
-    let n : length entries - 1 + 1 ≡ length entries = omega arith in
-    sym (rw (n, take_all (length entries) entries (omega arith), ← item) at (index_next entries (length entries - 1) t (omega arith)))
+    grind (linear, take_all, index_next)
 
 pub last_below : (entries : List Transition) (n : ℕ) → 0 < n
     → NameTypes n entries → last_index entries < n

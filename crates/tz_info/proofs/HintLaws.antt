@@ -2,10 +2,10 @@
 use Rattle.std.proofs.{Common.◌↔◌, lemmas.Nat.le-div}
 use Rattle.tz_info.proofs.{
   SearchSteps.not_before,
-  SearchWords.{AreEnds, AreHints, AreMarked, AreNonDecreasing, AreOrdered, AreRaised, AreRaisedUntil, AreStepsUntil, Ends, Hints, IsHinted, IsNarrowedTo, List},
-  SearchWords.{Near, RiseFromZero, arith, cases_eq, cases_lt, div-lt_iff_lt-mul, div-mul-le_self, get_or-set_at, get_or-set_other, inl, inr, item_time, length},
-  SearchWords.{length-set, linear, max, nat_abs, nat_cmp, negsuc, ord_max, pos, pow_pos, refl, set, slice_index, stretch_of, suc, ℕ, ℤ, ◌*◌, ◌+ℤ◌, ◌+◌, ◌-ℤ◌},
-  SearchWords.{◌-◌, ◌/◌, ◌<ℤ◌, ◌<◌, ◌^◌, ◌∙◌, ◌≡◌, ◌≢◌, ◌≤ℤ◌, ◌≤◌, ◌⊎◌},
+  SearchWords.{AreEnds, AreHints, AreMarked, AreNonDecreasing, AreOrdered, AreRaised, AreRaisedUntil, AreStepsUntil, Ends, Hints, IsHinted},
+  SearchWords.{IsNarrowedTo, List, Near, RiseFromZero, arith, cases_eq, cases_lt, div-lt_iff_lt-mul, div-mul-le_self, get_or-set_at},
+  SearchWords.{get_or-set_other, inl, inr, item_time, length, length-set, linear, max, nat_abs, nat_cmp, negsuc, ord_max, pos, pow_pos, refl, set},
+  SearchWords.{slice_index, stretch_of, suc, ℕ, ℤ, ◌*◌, ◌+ℤ◌, ◌+◌, ◌-ℤ◌, ◌-◌, ◌/◌, ◌<ℤ◌, ◌<◌, ◌^◌, ◌≡◌, ◌≢◌, ◌≤ℤ◌, ◌≤◌, ◌⊎◌},
 }
 
 -- the latest item is one of those of the hint
@@ -18,7 +18,7 @@ near_hinted times v hints ends seconds near ordered fits some are h from is posi
 -- how many seconds one time comes after another
 size_of : (z : ℤ) → pos 0 ≤ℤ z → pos (nat_abs z) ≡ z
 size_of (pos n) h = refl
-size_of (negsuc n) h = absurd (omega linear)
+size_of (negsuc n) h = grind linear
 
 size_of_rise : (first time : ℤ) → first ≤ℤ time → pos (nat_abs (time -ℤ first)) ≡ time -ℤ first
 size_of_rise first time h = grind (linear, size_of)
@@ -27,7 +27,7 @@ size_of_rise first time h = grind (linear, size_of)
 module _ (times : List ℤ) (first : ℤ) (ordered : AreOrdered times) (from : first ≡ item_time times 0) where
   -- no item comes before it, and none lies in a stretch after that of the last
   pub first_least : (k : ℕ) → k < length times → first ≤ℤ item_time times k
-  first_least k l = grind (linear, not_before times 0 k)
+  first_least k l = grind (linear, not_before)
 
   pub slots : (span shift k : ℕ) → pos span ≡ item_time times (length times - 1) -ℤ first → k < length times
       → stretch_of first (item_time times k) shift ≤ span / 2 ^ shift
@@ -35,7 +35,7 @@ module _ (times : List ℤ) (first : ℤ) (ordered : AreOrdered times) (from : f
 
 -- a time lies in a stretch before that one if it comes before its begin
 in_stretch : (first time : ℤ) (shift b : ℕ) → first ≤ℤ time → (stretch_of first time shift < b) ↔ (time <ℤ (first +ℤ pos (b * 2 ^ shift)))
-in_stretch first time shift b h = grind (linear, size_of_rise first time h, div-lt_iff_lt-mul, pow_pos shift)
+in_stretch first time shift b h = grind (linear, size_of_rise, div-lt_iff_lt-mul, pow_pos)
 
 -- one item more is noted
 pub marked_more : (times : List ℤ) (first : ℤ) (shift n stretch : ℕ) (places : List ℕ) → AreMarked times first shift n places
@@ -53,28 +53,24 @@ pub raising_more : (before after : List ℕ) (greatest n here : ℕ) → Raising
     → (slice_index after n ≡ 0 → here ≡ greatest) × (slice_index after n ≢ 0 → here ≡ slice_index after n)
     → Raising before (set after n here) here (n + 1)
 raising_more before after greatest n here r h rise is_here =
-    let same_here = r.rest n (omega arith) in
     let last = r.raised.some (n - 1) in
-    let e : here ≡ max greatest (slice_index before n) = elim (cases_eq (slice_index before n) 0) [ inl none ↦ grind arith | inr some ↦ grind arith ] in
+    let e : here ≡ max greatest (slice_index before n) = grind (linear, cases_eq) in
     let long = length-set after n here in
-    let at : (b : ℕ) → b ≡ n → slice_index (set after n here) b ≡ here = λ b same. get_or-set_at after n b here 0 same (omega arith) in
-    let other : (b : ℕ) → b ≢ n → slice_index (set after n here) b ≡ slice_index after b = λ b differs. get_or-set_other after n b here 0 differs in
+    let at : (b : ℕ) → b ≡ n → slice_index (set after n here) b ≡ here = grind (linear, get_or-set_at) in
+    let other : (b : ℕ) → b ≢ n → slice_index (set after n here) b ≡ slice_index after b = grind (linear, get_or-set_other) in
     record {
       raised = record {
         count = omega arith;
         above = grind arith;
         some = λ b l. elim (cases_eq b n) [
           | inl same ↦ let a = at b same in elim (cases_lt (slice_index before n) greatest) [
-            | inl k ↦ elim r.is [
-              | inl z ↦ absurd (grind arith)
-              | inr g ↦ let s = last (grind arith) in (s.0, grind arith, grind arith)
-            ]
-            | inr k ↦ (n, omega arith, omega arith)
+            | inl k ↦ grind linear
+            | inr k ↦ grind linear
           ]
-          | inr differs ↦ let s = r.raised.some b (omega arith) in (s.0, s.1, other b differs ∙ s.2)
+          | inr differs ↦ let s = r.raised.some b (omega arith) in grind linear
         ];
       };
-      rest = grind (arith, other, r.rest);
+      rest = grind linear;
       up_to = grind arith;
       is = grind arith;
     }
@@ -82,25 +78,12 @@ raising_more before after greatest n here r h rise is_here =
 -- a later time has no earlier stretch
 stretch_rise : (first x y : ℤ) (shift : ℕ) → first ≤ℤ x → x ≤ℤ y → stretch_of first x shift ≤ stretch_of first y shift
 stretch_rise first x y shift h le =
-    let a = size_of_rise first x h in
-    let b = size_of_rise first y (omega linear) in
-    le-div _ (nat_abs (y -ℤ first)) (2 ^ shift) (pow_pos shift) (grind (linear, div-mul-le_self (nat_abs (x -ℤ first)) (2 ^ shift)))
+    grind (linear, size_of_rise, le-div, pow_pos, div-mul-le_self)
 
 -- later stretches have later items
 pub marks_rise : (times : List ℤ) (first : ℤ) (shift : ℕ) (marked : List ℕ) → AreOrdered times → first ≡ item_time times 0
     → AreMarked times first shift (length times) marked → RiseFromZero marked
-marks_rise times first shift marked ordered from m b j h le some = elim (m.of_item b h) [
-  | inl z ↦ absurd (omega arith)
-  | inr here ↦ elim (m.of_item j (omega arith)) [
-    | inl z ↦ omega arith
-    | inr earlier ↦ grind (
-      linear,
-      not_before times (slice_index marked b) (slice_index marked j),
-      first_least times first ordered from (slice_index marked b),
-      stretch_rise first (item_time times (slice_index marked b)) (item_time times (slice_index marked j)) shift,
-    )
-  ]
-]
+marks_rise times first shift marked ordered from m b j h le some = grind (linear, not_before, first_least, stretch_rise)
 
 -- so none is less than the one before it
 pub raised_rising : (before after : List ℕ) → AreRaised before after → AreNonDecreasing after
@@ -117,16 +100,15 @@ pub hints_made : (times : List ℤ) (hints : Hints) (first : ℤ) (span most : �
     → length marked ≡ span / 2 ^ hints.shift + 2 → AreMarked times first hints.shift (length times) marked → AreRaised marked hints.places.items
     → AreStepsUntil hints.places.items most (length hints.places.items) → 2 * (most + 1) ≤ length times → AreHints times hints
 hints_made times hints first span most marked ordered many shift from is long m r steps narrow =
-    let c = r.count in
     record {
       shift = shift;
-      rising = raised_rising marked hints.places.items r;
+      rising = grind (linear, raised_rising);
       places = λ b h.
           let (j, j_le, same) = r.some b (omega arith) in
           let item = m.of_item j (omega arith) in
           let at = in_stretch first (item_time times (slice_index marked j)) hints.shift b in
           rw (← from, same) (record {
-            within = elim item [ inl z ↦ omega arith | inr i ↦ i.0 ];
+            within = grind linear;
             before = λ l. grind (arith, first_least times first ordered from);
             behind = λ k l n.
                 let in_k = in_stretch first (item_time times k) hints.shift b (first_least times first ordered from k n) in
@@ -136,5 +118,5 @@ hints_made times hints first span most marked ordered many shift from is long m 
                 ];
           });
       some = λ h. many;
-      narrow = λ b h. grind (arith, steps b h);
+      narrow = grind linear;
     }

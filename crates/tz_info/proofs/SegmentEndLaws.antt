@@ -5,9 +5,10 @@ use Rattle.tz_info.proofs.{
   LeapStarts.saturated,
   SegmentLaws.{begin_first, begins_rise, come_from, place_most, places_rise},
   WallSegments.{near_of, near_wide, offset_there},
-  Words.{AreRising, IsFirstAtOrAfter, IsNear, IsRuleOrNone, IsTable, IsUtOffset, IsValid, IsWide, IsWindowOf, List, LocalType, SFits, Some, Transition, TypeAt},
-  Words.{Zone, [], arith, begin_of, by_lt_z, cases_lt, get_or, get_or_append_left, get_or_push, index_of, inl, inr, length, length_push, linear, place_at, pos},
-  Words.{rises, saturate_signed, slice_get, suc, w64, zero, ℕ, ℤ, ◌++◌, ◌+ℤ◌, ◌-ℤ◌, ◌<ℤ◌, ◌<◌, ◌↔◌, ◌∷◌, ◌≡◌, ◌≤ℤ◌, ◌≤◌, ◌⊎◌},
+  Words.{AreRising, IsFirstAtOrAfter, IsNear, IsRuleOrNone, IsTable, IsUtOffset, IsValid, IsWide, IsWindowOf, List, LocalType, SFits, Some},
+  Words.{Transition, TypeAt, Zone, [], arith, begin_of, by_lt_z, cases_lt, get_or, get_or_append_left, get_or_push, index_of, inl, inr, length},
+  Words.{length_push, linear, place_at, pos, rises, saturate_signed, slice_get, suc, w64, zero, ℕ, ℤ, ◌++◌, ◌+ℤ◌, ◌-ℤ◌, ◌<ℤ◌, ◌<◌, ◌↔◌, ◌∷◌, ◌≡◌},
+  Words.{◌≤ℤ◌, ◌≤◌, ◌⊎◌},
 }
 use Rattle.tz_info.specs.Steps.SegmentEnds.{AreEndsRising, IsFirstOf, IsFirstSegment, IsReached, end_of}
 
@@ -18,8 +19,8 @@ end_at types ts j t has = grind arith
 
 ends_rise : (types : List LocalType) (ts : List Transition) (j k : ℕ) → AreEndsRising types ts → 0 < j → j ≤ k → k ≤ length ts
     → end_of types ts j ≤ℤ end_of types ts k
-ends_rise _ ts zero k rising some order within = absurd (omega arith)
-ends_rise types ts (suc j) zero rising some order within = absurd (omega arith)
+ends_rise _ ts zero k rising some order within = grind linear
+ends_rise types ts (suc j) zero rising some order within = grind linear
 ends_rise types ts (suc j) (suc k) rising some order within =
     grind (linear, rises (λ i. end_of types ts (suc i)) _ (λ i h. let r = rising (suc i) (omega arith) h in omega linear) j k)
 
@@ -52,13 +53,13 @@ pub shows_less : (z : Zone) (ts : List Transition) (top k : ℕ) (l v : ℤ) (s 
 shows_less z ts top k l v s table within near none fits before own here =
     let end = end_at _ ts (place_at ts v) s (table.listed v s fits own here) in
     let come = come_from ts (suc (place_at ts v)) v table.rising (omega arith) (omega arith) in
-    by_lt_z l (end_of z.types ts (suc (place_at ts v))) (λ more. absurd (none (grind arith))) (λ less. grind (linear, saturated))
+    by_lt_z l (end_of z.types ts (suc (place_at ts v))) (λ more. grind linear) (λ less. grind (linear, saturated))
 
 pub begun_by : (ts : List Transition) (k : ℕ) (v : ℤ) → AreRising ts → k ≤ length ts → k ≤ place_at ts v → SFits w64 v → begin_of ts k ≤ℤ v
-begun_by ts k v rising within come fits = grind (linear, begin_first ts, come_from ts k v)
+begun_by ts k v rising within come fits = grind (linear, begin_first, come_from)
 
 pub come_by : (ts : List Transition) (k : ℕ) (v : ℤ) → AreRising ts → k ≤ length ts → begin_of ts k ≤ℤ v → k ≤ place_at ts v
-come_by ts k v rising within begun = grind (linear, come_from ts k v)
+come_by ts k v rising within begun = grind (linear, come_from)
 
 -- the first segment that reaches a local time
 module _ (z : Zone) (ts : List Transition) (top k : ℕ) (l : ℤ) (table : IsTable z ts top) (wide : IsWide l) (first : IsFirstSegment z.types ts l k) where
@@ -72,11 +73,8 @@ module _ (z : Zone) (ts : List Transition) (top k : ℕ) (l : ℤ) (table : IsTa
   -- and the next one has not
   before_next : (at : ℤ) (t : LocalType) → IsFirstOf z.types ts k l at t → k < length ts → at <ℤ begin_of ts (suc k)
   before_next at t is inner =
-      let end = end_at _ ts k t is.listed in
-      let here = first.here inner in
-      let ends : l <ℤ (begin_of ts (suc k) +ℤ t.offset) = grind (linear, saturated (begin_of ts (suc k) +ℤ t.offset) l (near_wide l wide)) in
       let rise : begin_of ts k <ℤ begin_of ts (suc k) = elim (cases_lt 0 k) [
-        | inl some ↦ begins_rise ts k table.rising some inner
+        | inl some ↦ grind (linear, begins_rise)
         | inr none ↦ grind (linear, begin_first ts)
       ] in
       grind (linear, is.from (begin_of ts (suc k) -ℤ pos 1))
@@ -85,10 +83,9 @@ module _ (z : Zone) (ts : List Transition) (top k : ℕ) (l : ℤ) (table : IsTa
   pub first_there : (low high at : ℤ) (t : LocalType) → IsValid z → IsRuleOrNone z.rule → k < top → IsWindowOf z l l low high → IsFirstOf z.types ts k l at t
       → IsFirstAtOrAfter (TypeAt z) l at t
   first_there low high at t valid limits own reach is =
-      let near = near_of l _ wide is.offset in let b = near.1 in
-      let (since, from) = (is.from at).0 (omega linear) in
+      let near = near_of l _ wide is.offset in let (since, from) = (is.from at).0 (omega linear) in
       let begun = begun_near low high valid limits (omega (arith, own)) reach in
-      let most : at ≤ℤ pos 10_000_000_000_000 = (is.from (pos 10_000_000_000_000)).1 (begun, omega linear) in
+      let most : at ≤ℤ pos 10_000_000_000_000 = grind linear in
       let come = come_by ts k at table.rising first.within since in
       let within = place_most ts at table.rising in
       let here : place_at ts at ≡ k = elim (cases_lt k (place_at ts at)) [
@@ -96,11 +93,7 @@ module _ (z : Zone) (ts : List Transition) (top k : ℕ) (l : ℤ) (table : IsTa
         | inr not ↦ omega arith
       ] in
       record {
-        shown = record {
-          fits = omega linear;
-          type = table.in_force at t (omega linear, omega linear) (omega arith) (rw here is.listed);
-          reached = omega linear;
-        };
+        shown = grind linear;
         first = λ v s h. by_lt_z v at
             (λ earlier.
             let rise = places_rise ts v at table.rising (omega linear) in
@@ -123,8 +116,4 @@ maxima_more types ts k maxima out latest next made is e =
     let more : (l : ℤ) → SFits w64 l → (l <ℤ next) ↔ IsReached types ts (suc k) l = λ l fits.
     let r = reached_more types ts k l in let a = made.all l fits in let m = is l in
     ((λ h. r.1 (by_lt_z l latest (λ b. inl (a.0 b)) (λ b. grind linear))), (λ s. grind linear)) in
-    rw e (record {
-      count = grind (arith, length_push, made.count);
-      reached = λ i d l h fits. grind (arith, made, more l, get_or_append_left maxima (next ∷ []) d i, get_or_push maxima next d i);
-      all = more;
-    })
+    grind (linear, length_push, get_or_append_left, get_or_push)

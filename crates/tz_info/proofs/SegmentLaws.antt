@@ -4,9 +4,9 @@ use Rattle.tz_info.proofs.{
   PassedTransitions.no_items,
   Prefixes.last_taken,
   TableSearch.{Between, search_found},
-  Words.{AreLeapSeconds, AreRising, HasType, IsLeapTime, IsValid, List, LocalType, RuleOrType, Transition, TypeIn, Zone, [], ap, arith, begin_of, by_lt_z},
-  Words.{correction_at, get_or, index_of, least_time, length, length-take, linear, passed, pos, refl, segment_of, suc, sym, take, zero, ℕ, ℤ, ◌+ℤ◌, ◌+◌, ◌-ℤ◌},
-  Words.{◌<ℤ◌, ◌<◌, ◌↔◌, ◌∙◌, ◌∷◌, ◌≡◌, ◌≤ℤ◌, ◌≤◌},
+  Words.{AreLeapSeconds, AreRising, HasType, IsLeapTime, IsValid, List, LocalType, RuleOrType, Transition, TypeIn, Zone, [], ap, arith, begin_of},
+  Words.{by_lt_z, correction_at, get_or, index_of, least_time, length, length-take, linear, passed, pos, refl, segment_of, suc, sym, take, zero, ℕ},
+  Words.{ℤ, ◌+ℤ◌, ◌+◌, ◌-ℤ◌, ◌<ℤ◌, ◌<◌, ◌↔◌, ◌∙◌, ◌∷◌, ◌≡◌, ◌≤ℤ◌, ◌≤◌},
 }
 
 -- no transition comes later than one after it in the list
@@ -60,7 +60,7 @@ later_segment z u v valid h = grind (linear, segments_rise)
 
 -- ---- the begin of a segment
 begin_suc : (ts : List Transition) (i : ℕ) (d : Transition) → i < length ts → begin_of ts (suc i) ≡ (get_or ts i d).unix_leap_time
-begin_suc ts i d h = last_taken (λ (t : Transition). t.unix_leap_time) _ ts i d h
+begin_suc ts i d h = grind (linear, last_taken)
 
 pub begin_first : (ts : List Transition) → begin_of ts 0 ≡ least_time
 begin_first ts = grind arith
@@ -85,7 +85,7 @@ within_of ts i x h b = grind (linear, begun_before)
 
 come_by : (ts : List Transition) (x : ℤ) (i : ℕ) → AreRising ts → i ≤ length ts → begin_of ts i ≤ℤ x → (k : ℕ) (d : Transition) → k < i
     → (get_or ts k d).unix_leap_time ≤ℤ x
-come_by ts x zero r w h k d l = absurd (omega arith)
+come_by ts x zero r w h k d l = grind linear
 come_by ts x (suc i) r w h k d l = grind (linear, begin_suc ts i d, not_later ts k i d)
 
 pub between_of : (ts : List Transition) (i : ℕ) (x : ℤ) → AreRising ts → i ≤ length ts → IsWithin ts i x → Between ts x i i
@@ -119,11 +119,11 @@ module _ (z : Zone) (u : ℤ) (t : LocalType) (r : AreRising z.transitions) wher
 
   -- before the last transition the segment's type is in force
   pub type_before : (i : ℕ) → TypeIn z i u t → i < length z.transitions → HasType z (index_of z.transitions i) t
-  type_before i k h = let e = taken_in i k in grind (arith, length-take, k.type.in_force.before_last)
+  type_before i k h = grind (linear, taken_in, length-take)
 
   -- from the last transition on the rule's, or without a rule the segment's
   pub type_from : TypeIn z (length z.transitions) u t → RuleOrType z u (index_of z.transitions (length z.transitions)) t
-  type_from k = let e = taken_in _ k in grind (arith, length-take, k.type.in_force.from_last)
+  type_from k = grind (linear, taken_in, length-take)
 
 pub type_in_before : (z : Zone) (i : ℕ) (u x : ℤ) (t : LocalType) → IsLeapTime z.leaps u x → Between z.transitions x i i → i < length z.transitions
     → HasType z (index_of z.transitions i) t → TypeIn z i u t
@@ -145,11 +145,11 @@ place_most ts u rising = let (n, b) = split_at ts u rising in grind (arith, spli
 
 -- the first k have come from the begin of segment k on
 pub come_from : (ts : List Transition) (k : ℕ) (u : ℤ) → AreRising ts → 0 < k → k ≤ length ts → (k ≤ length (passed ts u)) ↔ (begin_of ts k ≤ℤ u)
-come_from ts zero u rising some within = absurd (omega arith)
+come_from ts zero u rising some within = grind linear
 come_from ts (suc k) u rising some within = grind (linear, come_by_time ts u k any, begin_suc ts k any)
 
 pub begins_rise : (ts : List Transition) (k : ℕ) → AreRising ts → 0 < k → k < length ts → begin_of ts k <ℤ begin_of ts (suc k)
-begins_rise ts zero rising some within = absurd (omega arith)
+begins_rise ts zero rising some within = grind linear
 begins_rise ts (suc k) rising some within = grind (linear, begin_suc ts k any, begin_suc ts (suc k) any, rising k (suc k) any)
 
 pub places_rise : (ts : List Transition) (u v : ℤ) → AreRising ts → u ≤ℤ v → length (passed ts u) ≤ length (passed ts v)

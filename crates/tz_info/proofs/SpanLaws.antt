@@ -7,11 +7,11 @@ use Rattle.tz_info.proofs.{
   RuleChanges.rule_second,
   RuleLaws.rule_year,
   SegmentLaws.{come_at_time, come_by_time, segment_most, segments_rise},
-  Words.{Alternate as AlternateRule, AreLeapSeconds, Change, HasNoChange, IfSome, IsAlternateRefused, IsBeginBy, IsChange, IsEndBy, IsFirst, IsFromLast},
-  Words.{IsInSpan, IsLast, IsLeapTime, IsOutOfForce, IsRefusedBy, IsRuleOrNone, IsRuleTime, IsSince, IsSpan, IsSpanAt, IsTypeRefused, IsTyped, IsUnixTime},
-  Words.{IsUntil, IsValid, LeapSecond, List, LocalType, None, Option, SFits, Some, Span, Transition, TransitionRule, TypeAt, Zone, ap, arith, by_leap_time},
-  Words.{by_lt_z, by_rule, cases_lt, correction_before, floor_div, inl, inr, last_transition, least_time, length, lies_in, linear, neg_ℤ, option_map, pos},
-  Words.{refl, segment_of, subst, sym, w64, year_of, ℤ, ◌-ℤ◌, ◌-◌, ◌<ℤ◌, ◌<◌, ◌∙◌, ◌≡◌, ◌≤ℤ◌, ◌⊎◌},
+  Words.{Alternate as AlternateRule, AreLeapSeconds, Change, HasNoChange, IfSome, IsAlternateRefused, IsBeginBy, IsChange, IsEndBy, IsFirst},
+  Words.{IsFromLast, IsInSpan, IsLast, IsLeapTime, IsOutOfForce, IsRefusedBy, IsRuleOrNone, IsRuleTime, IsSince, IsSpan, IsSpanAt, IsTypeRefused},
+  Words.{IsTyped, IsUnixTime, IsUntil, IsValid, LeapSecond, List, LocalType, None, Option, SFits, Some, Span, Transition, TransitionRule, TypeAt},
+  Words.{Zone, ap, arith, by_leap_time, by_lt_z, by_rule, cases_lt, correction_before, floor_div, inl, inr, last_transition, length, lies_in, linear},
+  Words.{neg_ℤ, option_map, pos, refl, segment_of, sym, w64, ℤ, ◌-ℤ◌, ◌-◌, ◌<ℤ◌, ◌<◌, ◌∙◌, ◌≡◌, ◌≤ℤ◌, ◌⊎◌},
   ZoneChanges.{out_before, out_from, refused_on, time_of, to_rule},
   ZoneLaws.{inside_listed, type_decided, type_once},
 }
@@ -21,14 +21,13 @@ use Rattle.tz_info.specs.declared.rule.transition_rule.TransitionRule.TheVariant
 -- before 1970 no entry has come
 early : (es : List LeapSecond) (v x : ℤ) → AreLeapSeconds es → v <ℤ pos 0 → IsLeapTime es v x → x ≡ v
 early es v x valid h l = let none = none_counted _ v es (follow es valid) (grind linear) in
-    let s = rw none at l.sum in
-    omega linear
+    grind linear
 
 early_unix : (es : List LeapSecond) (x u : ℤ) → AreLeapSeconds es → x <ℤ pos 0 → IsUnixTime es x u → u ≡ x
 early_unix es x u valid h is =
     let none : pos 0 ≡ correction_before es x = before_found es (record { unix_leap_time = pos 0; correction = pos 0 }) valid 0 x _ (omega arith)
     (grind linear)
-    (λ some. let f = (valid.first (record { unix_leap_time = pos 0; correction = pos 0 }) some).since_epoch in omega linear) in
+    (λ some. grind linear) in
     omega linear
 
 last_of : (ts : List Transition) → 0 < length ts → (t : Transition) × (last_transition ts ≡ Some t)
@@ -71,7 +70,7 @@ out_of_years u refused = by_lt_z u (neg_ℤ (pos 67_768_100_504_812_800))
     (λ from. by_lt_z (pos 67_767_976_170_460_799) u
     (λ high. inr high)
     (λ until. let lies = lies_in (floor_div u 86_400) in
-    absurd (refused (year_of (floor_div u 86_400)) lies (rule_year u _ lies (from, until)))))
+    grind (linear, rule_year)))
 
 -- all transitions have come by the leap time of the second
 pub all_come : (z : Zone) (v x : ℤ) → IsValid z → (0 < length z.transitions → IsLeapTime z.leaps v x) → IsFromLast z x → segment_of z v ≡ length z.transitions
@@ -138,45 +137,33 @@ record IsHigh (z : Zone) (u : ℤ) (t : LocalType) (next : Option Change) (until
 -- a second with its type in a valid zone
 module _ (z : Zone) (u : ℤ) (t : LocalType) (valid : IsValid z) (limits : IsRuleOrNone z.rule) (fits : SFits w64 u) (h : TypeAt z u t) where
   low_of : (last : Option Change) (from : Option ℤ) → IsLast (TypeAt z) (λ v. v ≤ℤ u) last → IsBeginBy z last from → IsLow z u t last from
-  low_of None None last k = record { low = least_time; typed = k; since = tt; later = λ v f since. (omega linear, tt); begins = tt }
+  low_of None None last k = grind linear
   low_of None (Some x) last k = record {
     low = x;
     typed = k.typed;
     since = by_lt_z u x (λ l. absurd (k.before (typed_between z u x _ t _ valid (omega linear) (omega linear) h k.typed.1 limits))) (λ m. m);
-    later = λ v f since. (since, tt);
-    begins = record { fits = k.fits; out = λ at. k.before (t, at) };
+    later = grind linear;
+    begins = grind linear;
   }
   low_of (Some c) from last k =
       let same = no_change z _ u _ t valid limits last.is.fits fits last.inside
-      (λ d is i. let l = last.nearest d is i.1 in omega linear) last.is.after h in
-      rw k (record {
-        low = c.at;
-        typed = (c.after, last.is.after);
-        since = last.inside;
-        later = λ v f since. (since, since);
-        begins = rw same at (out_before z c last.is);
-      })
+      (λ d is i. grind linear) last.is.after h in
+      grind (linear, out_before)
 
   high_of : (next : Option Change) (until : Option ℤ) → IsFirst (TypeAt z) (λ v. u <ℤ v) next → IsEndBy z next until → IsHigh z u t next until
   high_of None None next k =
-      record { high = pos 9_223_372_036_854_775_807; typed = k; before = tt; earlier = λ v f until. (omega linear, tt); ends = tt }
+      grind linear
   high_of None (Some x) next k = record {
     high = x -ℤ pos 1;
     typed = k.typed;
     before = by_lt_z u x (λ l. l) (λ m. absurd (k.after (typed_between z _ u x _ t valid (omega linear) m k.typed.1 h limits)));
-    earlier = λ v f until. (omega linear, tt);
-    ends = record { fits = k.fits; out = λ at. k.after (t, at) };
+    earlier = grind linear;
+    ends = grind linear;
   }
   high_of (Some c) until next k =
       let same = no_change z u _ t _ valid limits fits next.is.fits_before (omega linear)
-      (λ d is i. let l = next.nearest d is i.0 in omega linear) h next.is.before in
-      rw k (record {
-        high = c.at -ℤ pos 1;
-        typed = (c.before, next.is.before);
-        before = next.inside;
-        earlier = λ v f until. (omega linear, until);
-        ends = rw (← same) at (out_from z c next.is);
-      })
+      (λ d is i. grind linear) h next.is.before in
+      grind (linear, out_from)
 
 pub span_between : (z : Zone) (u : ℤ) (t : LocalType) (last next : Option Change) (from until : Option ℤ) → IsValid z → IsRuleOrNone z.rule → SFits w64 u
     → TypeAt z u t
@@ -186,7 +173,7 @@ span_between z u t _ _ from until valid limits fits h before after begin end =
     let low = low_of z u t valid limits fits h _ _ before begin in
     let high = high_of z u t valid limits fits h _ _ after end in
     let inside : IsInSpan (record { local_time_type = t; from = from; until = until }) u =
-    record { fits = fits; since = low.since; until = high.before } in record {
+    grind linear in record {
       in_force_then = h;
       inside = inside;
       span = record {
@@ -197,7 +184,7 @@ span_between z u t _ _ from until valid limits fits h before after begin end =
             let same = by_lt_z v u
             (λ l. no_change z v u s t valid limits i.fits fits (omega linear) (idle_since _ u v _ before since) k h)
             (λ m. sym (no_change z u v t s valid limits fits i.fits m (idle_until _ u v _ after until) h k)) in
-            subst (TypeAt z v) same k;
+            grind linear;
         begins = low.begins;
         ends = high.ends;
       };
@@ -223,36 +210,35 @@ module _ (z : Zone) (a b : Span) (u x : ℤ) (same : a.local_time_type ≡ b.loc
     (i : IsInSpan a u) (j : IsInSpan b u) where
   -- an end of one of two spans that share a second, and have one type, lies outside the other
   begin_outside : a.from ≡ Some x → IsSince b.from (x -ℤ pos 1) → ⊥
-  begin_outside is since = let end = rw is at h.begins in grind linear
+  begin_outside is since = grind linear
 
   end_outside : a.until ≡ Some x → IsUntil b.until x → ⊥
-  end_outside is until = let end = rw is at h.ends in grind linear
+  end_outside is until = grind linear
 
 same_begin : (p q : Option ℤ) → ((x : ℤ) → p ≡ Some x → IsSince q (x -ℤ pos 1) → ⊥) → ((x : ℤ) → q ≡ Some x → IsSince p (x -ℤ pos 1) → ⊥) → p ≡ q
 same_begin None None h k = refl
-same_begin None (Some y) h k = absurd (k y refl tt)
-same_begin (Some x) None h k = absurd (h x refl tt)
+same_begin None (Some y) h k = grind linear
+same_begin (Some x) None h k = grind linear
 same_begin (Some x) (Some y) h k = ap Some (by_lt_z y x (λ l. absurd (h x refl (omega linear)))
     (λ m. by_lt_z x y (λ l. absurd (k y refl (omega linear))) (λ n. omega linear)))
 
 same_end : (p q : Option ℤ) → ((x : ℤ) → p ≡ Some x → IsUntil q x → ⊥) → ((x : ℤ) → q ≡ Some x → IsUntil p x → ⊥) → p ≡ q
 same_end None None h k = refl
-same_end None (Some y) h k = absurd (k y refl tt)
-same_end (Some x) None h k = absurd (h x refl tt)
-same_end (Some x) (Some y) h k = ap Some (by_lt_z x y (λ l. absurd (h x refl l)) (λ m. by_lt_z y x (λ l. absurd (k y refl l)) (λ n. omega linear)))
+same_end None (Some y) h k = grind linear
+same_end (Some x) None h k = grind linear
+same_end (Some x) (Some y) h k = ap Some (by_lt_z x y (λ l. grind linear) (λ m. by_lt_z y x (λ l. grind linear) (λ n. omega linear)))
 
 pub span_once : (z : Zone) (a b : Span) (u : ℤ) → IsSpan (TypeAt z) a → IsSpan (TypeAt z) b → IsInSpan a u → IsInSpan b u → a ≡ b
 span_once z a b u h k i j =
     let same = type_once z u _ _ (h.each u i) (k.each u j) in
     let from = same_begin _ _ (λ x. begin_outside z a b u x same h k i j) (λ x. begin_outside z b a u x (sym same) k h j i) in
-    let until = same_end _ _ (λ x. end_outside z a b u x same h k i j) (λ x. end_outside z b a u x (sym same) k h j i) in
-    λ n. record { local_time_type = same n; from = from n; until = until n }
+    grind (linear, same_end, end_outside)
 
 -- ---- at an end of a span clocks change, if the zone has a type beyond it
 pub begin_changes : (z : Zone) (s : Span) (u : ℤ) (t : LocalType) → IsSpan (TypeAt z) s → s.from ≡ Some u → TypeAt z (u -ℤ pos 1) t
     → IsChange (TypeAt z) (record { at = u; before = t; after = s.local_time_type })
-begin_changes z s u t h is before = let (v, i) = h.some in grind linear
+begin_changes z s u t h is before = grind linear
 
 pub end_changes : (z : Zone) (s : Span) (u : ℤ) (t : LocalType) → IsSpan (TypeAt z) s → s.until ≡ Some u → TypeAt z u t
     → IsChange (TypeAt z) (record { at = u; before = s.local_time_type; after = t })
-end_changes z s u t h is after = let (v, i) = h.some in grind linear
+end_changes z s u t h is after = grind linear

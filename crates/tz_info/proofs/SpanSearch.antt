@@ -4,9 +4,9 @@ use Rattle.tz_info.proofs.{
   RuleChanges.rule_second,
   SegmentLaws.segments_rise,
   SpanLaws.span_between,
-  Words.{Alternate, AlternateAt, HasNoChange, IsAhead, IsBegin, IsInTable, IsRuleOrNone, IsSecondOfNearest, IsSpanAt, IsValid, LocalType, Option, SFits, Some},
-  Words.{TypeAt, Zone, false, length, linear, segment_of, sym, true, w64, ℤ, ◌<ℤ◌, ◌∙◌, ◌≡◌, ◌≤ℤ◌},
-  ZoneChanges.{begins, from_rule, rule_first, rule_found, rule_is_last},
+  Words.{Alternate, AlternateAt, HasNoChange, IsAhead, IsBegin, IsInTable, IsRuleOrNone, IsSecondOfNearest, IsSpanAt, IsValid, LocalType, Option},
+  Words.{SFits, Some, TypeAt, Zone, false, length, linear, segment_of, sym, true, w64, ℤ, ◌<ℤ◌, ◌∙◌, ◌≡◌, ◌≤ℤ◌},
+  ZoneChanges.{begins, farther_first, from_rule, nearer_first, rule_found},
 }
 use Rattle.tz_info.specs.declared.rule.transition_rule.TransitionRule.TheVariants.{Alternate as AlternateRule}
 
@@ -30,5 +30,5 @@ span_of_rule z a u begin from until t previous valid limits fits rule h at (Some
     let first = rule_found z a true u begin (Some d) valid rule h (nearest_moved true _ _ _ (λ v.
     (begin <ℤ v) × IsAhead true u v) (Some d) (λ d is_d l. (is_d, l.1)) (λ d is_d l. (is_d, (omega linear, l))) nearest) in
     span_between z u t (Some c) (Some d) (Some from) (Some until) valid limits fits (from_rule z a u t rule valid all at)
-    (rule_is_last z (λ v. v ≤ℤ u) c valid last) (rule_first z (λ v. u <ℤ v) (Some d) valid (table_over z u valid all) first) (sym same) ends
+    (nearer_first z (λ v. v ≤ℤ u) false c valid last) (farther_first z (λ v. u <ℤ v) true (Some d) valid (table_over z u valid all) first) (sym same) ends
 span_of_rule z a u begin from until t previous valid limits fits rule h at one after two = cc

@@ -8,11 +8,11 @@ use Rattle.tz_info.proofs.{
   SegmentLaws.{come_at_time, come_from, place_before, place_begin, place_most, segment_here, segment_most},
   TableSearch.search_found,
   WallSegments.{indexes_below, leap_time_of, near_fits, shown_inside, type_in_table, type_of_table, typed_answer},
-  Words.{AreBelow, AreExtremes, AreLess, AreListed, Change, Counts, Extremes, HasGap, HasReach, HasType, IsBegin, IsBegun, IsBegunNear, IsIndex, IsJump},
-  Words.{IsLeapTime, IsRuleOrNone, IsShownAmong, IsStart, IsTable, IsTableAnswer, IsTableLess, IsValid, IsWallAnswer, IsWide, IsWindowOf, LocalResult},
-  Words.{LocalType, MatchOption, None, Option, RoseWithin, SFits, Shown, ShownAmong, Some, TransitionRule, TypeAt, WallIndex, Zone, [], arith, begin_of},
-  Words.{cases_lt, index_of, inl, inr, least_time, length, linear, offsets, place_at, pos, refl, segment_of, shown_indexes, slice_get, suc, sym, table_count},
-  Words.{top_of, w32, w64, zero, ℕ, ℤ, ◌*◌, ◌+◌, ◌-ℤ◌, ◌<ℤ◌, ◌<◌, ◌↔◌, ◌∙◌, ◌≡◌, ◌≤ℤ◌, ◌≤◌},
+  Words.{AreBelow, AreExtremes, AreLess, AreListed, Change, Counts, Extremes, HasGap, HasReach, HasType, IsBegin, IsBegun, IsBegunNear, IsIndex},
+  Words.{IsJump, IsLeapTime, IsRuleOrNone, IsShownAmong, IsStart, IsTable, IsTableAnswer, IsTableLess, IsValid, IsWallAnswer, IsWide, IsWindowOf},
+  Words.{LocalResult, LocalType, MatchOption, None, Option, RoseWithin, SFits, Shown, ShownAmong, Some, TransitionRule, TypeAt, WallIndex, Zone, []},
+  Words.{arith, begin_of, cases_lt, index_of, inl, inr, least_time, length, linear, offsets, place_at, pos, refl, segment_of, shown_indexes},
+  Words.{slice_get, suc, sym, table_count, top_of, w32, w64, zero, ℕ, ℤ, ◌*◌, ◌-ℤ◌, ◌<ℤ◌, ◌<◌, ◌↔◌, ◌∙◌, ◌≡◌, ◌≤ℤ◌, ◌≤◌},
   ZoneChanges.time_of,
 }
 use Rattle.tz_info.specs.{
@@ -39,7 +39,7 @@ module _ (z : Zone) (e : Entries) (valid : IsValid z) (made : AreEntries z e) wh
     pub same_table : (segment_of z u < table_count z) ↔ (place_at e.items u < top_of z.rule e)
     same_table = elim (cases_lt 0 (length z.transitions)) [
       | inl some ↦ let (x, l) = time some in grind (linear, segment_most z u, place_most e.items u, come_at_time z u x, made.come u x fits)
-      | inr none ↦ grind (linear, segment_most, place_most, made.some, made.few)
+      | inr none ↦ grind (linear, segment_most, place_most)
     ]
 
     -- and there the entries name its type
@@ -49,7 +49,7 @@ module _ (z : Zone) (e : Entries) (valid : IsValid z) (made : AreEntries z e) wh
           let (x, l) = time some in
           let come = search_found z.transitions x (segment_of z u) _ (omega arith) (rw (← l.sum) at (segment_here z u valid.transitions.rising)) in
           cc (made.named u x fits l, index_there e u made.rising)
-      | inr none ↦ grind (arith, made.few, no_items, index_of_none)
+      | inr none ↦ grind (linear, no_items, index_of_none)
     ]
 
   pub table_of : IsTable z e.items (top_of z.rule e)
@@ -75,11 +75,7 @@ table_below z l s h = grind (arith, indexes_below)
 pub table_typed : (z : Zone) (l : ℤ) (s : Shown) (answer : LocalResult LocalType) → IsValid z → AreListed z.types (shown_indexes s) answer → IsTableAnswer z l s
     → IsWallAnswer (ShownAmong z 0 (table_count z) l) answer
 table_typed z l s answer valid listed (e, made, wall) =
-    grind (
-      arith,
-      typed_answer z e.items (top_of z.rule e) l (table_of z e valid made)
-          (λ u t fits k. same_table z e valid made u fits (time_then z u t k)),
-    )
+    grind (linear, typed_answer, table_of, same_table, time_then)
 
 -- the rule is asked from the last transition on
 pub start_begun : (z : Zone) (e : Entries) (s : ℤ) → IsValid z → AreEntries z e → IsBegunNear e s → IsStart z.transitions z.leaps (length z.transitions) s
@@ -87,7 +83,7 @@ start_begun z e s valid made begun u x near l = grind (linear, come_at_time z u 
 
 pub begin_by : (z : Zone) (e : Entries) (s : ℤ) → IsValid z → AreEntries z e → least_time ≤ℤ s → IsBegun e s → IsBegin z s
 begin_by z e s valid made low begun = record {
-  comes = grind (linear, made.come, begun);
+  comes = grind linear;
   alone = grind (linear, made.some, made.few, place_most, begun least_time);
 }
 
@@ -97,17 +93,14 @@ pub gap_by_index : (z : Zone) (e : Entries) (l low high : ℤ) (s : Shown) (c : 
     → IsNever z l → IsWindowOf z l l low high
     → IsShownAmong z e.items 0 (top_of z.rule e) l s → IsJump z.types e.items s c
     → MatchOption c (IsTableLess z l) (λ d. HasGap (TypeAt z) l d.before d.after d.at)
-gap_by_index z e l low high Less None valid limits made never reach shown jump = λ u t near inside k.
-    grind (arith, same_table z e valid made u (near_fits u near) (time_then z u t k))
+gap_by_index z e l low high Less None valid limits made never reach shown jump = grind (linear, same_table, near_fits, time_then)
 gap_by_index z e l low high (Skipped (suc k)) (Some c) valid limits made never reach shown (at, has_before, has) =
     let jump = shown.side in
     let start : ℤ = begin_of e.items (suc k) in
     let table = table_of z e valid made in
-    let bound = table.within in
     let come = λ (u : ℤ). come_from e.items (suc k) u made.rising (omega arith) (omega arith) in
-    let less : AreLess z l (start -ℤ pos 1) = λ u near h f here. jump.less u f near (omega arith) (grind (linear, come u)) here in
-    let earlier : jump.seen <ℤ start = grind (linear, come jump.seen) in
-    let near_seen = jump.near in let near_high = reach.near_high in
+    let less : AreLess z l (start -ℤ pos 1) = grind linear in
+    let earlier : jump.seen <ℤ start = grind linear in
     let most : start ≤ℤ high = grind (linear, not_less z l low high (start -ℤ pos 1) valid limits reach less) in
     let here = place_begin e.items (suc k) made.rising (omega arith) (omega arith) in
     let before = place_before e.items k made.rising (omega arith) in
@@ -123,7 +116,7 @@ reach_of z l x wide fg fl found = (_, _, window_made z l l x.greatest x.least (g
 -- piece probes, and then questions to the rule
 pub rose_by_wall : (z : Zone) (a b c : Counts) (n : ℕ) → n ≤ 2 * length z.transitions → RoseByPieces a b (most_looks n) 0
     → (0 < length z.transitions → a.piece_reads < b.piece_reads) → RoseWithin b c 0 2 → RoseByWallClock z a c
-rose_by_wall z a b c n few pieces looked rule = let most = looks_most n (2 * length z.transitions + 1) (omega arith) (omega arith) in grind arith
+rose_by_wall z a b c n few pieces looked rule = grind (linear, looks_most)
 
 -- ---- the index
 -- without entries
@@ -143,6 +136,5 @@ module _ (z : Zone) (e : Entries) (s : ℤ) (none : length e.items ≡ 0) (begun
       → IsIndex z e (plain (Once (index_of e.items 0)))
   one_segment t valid made some has offset =
       let table = table_of z e valid made in
-      let w = table.within in
       let top : top_of z.rule e ≡ 1 = omega arith in
       is_plain _ (rw top (grind (arith, shown_inside z e.items (top_of z.rule e) 0 t table some has offset)))

@@ -1,8 +1,9 @@
 -- The end of a search in transitions whose times rise.
 use Rattle.tz_info.proofs.{
-  Words.{AreOrdered, AreRising, List, Stands, Transition, arith, filter_first, get_or, length, linear, map, passed, pos, take, times_ordered, ℕ, ℤ, ◌+◌, ◌-◌},
-  Words.{◌<ℤ◌, ◌<◌, ◌≡◌, ◌≤ℤ◌, ◌≤◌},
+  Words.{AreOrdered, AreRising, List, Stands, Transition, arith, filter_first, get_or, get_or_default, length, linear, map, passed, pos, take},
+  Words.{times_ordered, ℕ, ℤ, ◌+◌, ◌-◌, ◌<ℤ◌, ◌<◌, ◌≡◌, ◌≤ℤ◌, ◌≤◌},
 }
+use Rattle.tz_info.specs.Steps.Entries.{entry_time}
 
 -- the transitions below `low` come at or before v, those from `high` on after it
 pub record Between (xs : List Transition) (v : ℤ) (low high : ℕ) : Type 0 where
@@ -10,6 +11,9 @@ pub record Between (xs : List Transition) (v : ℤ) (low high : ℕ) : Type 0 wh
   pub within : high ≤ length xs
   pub below : (k : ℕ) (d : Transition) → k < low → (get_or xs k d).unix_leap_time ≤ℤ v
   pub above : (k : ℕ) (d : Transition) → high ≤ k → k < length xs → v <ℤ (get_or xs k d).unix_leap_time
+
+pub time_of_entry : (xs : List Transition) (k : ℕ) (t : Transition) → k < length xs → t ≡ get_or xs k t → t.unix_leap_time ≡ entry_time xs k
+time_of_entry xs k t below is = grind (arith, get_or_default)
 
 pub search_found : (xs : List Transition) (v : ℤ) (low high : ℕ) → high ≤ low → Between xs v low high → passed xs v ≡ take low xs
 search_found xs v low high h b = grind (arith, filter_first)

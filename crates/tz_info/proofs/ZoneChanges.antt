@@ -6,10 +6,10 @@ use Rattle.tz_info.proofs.{
   LeapOrder.{passed_bounded},
   RuleChanges.{rule_second},
   SegmentLaws.{come_at_time, later_segment, segment_at, segment_most, segments_rise, type_from, type_in_from},
-  Words.{Alternate as AlternateRule, AlternateAt, AreLeapSeconds, Bool, Change, HasNoChange, IsAhead, IsBegin, IsChange, IsChangeByRule, IsFirst},
-  Words.{IsFirstChange, IsInTable, IsLast, IsLastChange, IsLeapTime, IsLeapTimeRefused, IsNearest, IsOutOfForce, IsRuleTime, IsValid, LeapSecond, List},
-  Words.{LocalType, Option, SFits, Some, TypeAt, Zone, arith, cases_lt, cond, inl, inr, int_le, length, linear, passed_count, pos, refl, segment_of, sym},
-  Words.{thresholds, w64, ℤ, ◌-ℤ◌, ◌<ℤ◌, ◌<◌, ◌↔◌, ◌∙◌, ◌≡◌, ◌≤ℤ◌, ◌≤◌, ◌⊎◌},
+  Words.{Alternate as AlternateRule, AlternateAt, AreLeapSeconds, Bool, Change, HasNoChange, IsAhead, IsBegin, IsChange, IsChangeByRule, IsInTable},
+  Words.{IsLeapTime, IsLeapTimeRefused, IsNearest, IsNearestChange, IsOutOfForce, IsRuleTime, IsValid, LeapSecond, List, LocalType, None, Option},
+  Words.{SFits, Some, TypeAt, Zone, arith, cases_lt, cond, inl, inr, int_le, length, linear, not, passed_count, pos, refl, segment_of, sym},
+  Words.{thresholds, true, false, w64, ℤ, ◌-ℤ◌, ◌<ℤ◌, ◌<◌, ◌↔◌, ◌∙◌, ◌≡◌, ◌≤ℤ◌, ◌≤◌, ◌⊎◌},
   ZoneLaws.{leap_time_decided, type_once},
 }
 use Rattle.tz_info.specs.declared.rule.transition_rule.TransitionRule.TheVariants.{Alternate}
@@ -98,6 +98,11 @@ none_begun z _ _ valid h most d is inside =
     let b = begun z _ _ _ valid h is.fits_before is.before inside.by_rule in grind arith
 
 -- ---- the table's changes come before the rule's
+-- of the seconds that `within` takes those at which the changes of the table come, or of the rule: first those that come first in that direction
+abbrev IsNearer : Bool → Zone → (ℤ → Type 0) → ℤ → Type 0
+IsNearer true z within = IsInTable z within
+IsNearer false z within = IsChangeByRule z within
+
 module _ (z : Zone) (within : ℤ → Type 0) where
   in_either : (u : ℤ) → IsValid z → within u → IsInTable z within u ⊎ IsChangeByRule z within u
   in_either u valid inside = grind (arith, segment_most)
@@ -105,33 +110,16 @@ module _ (z : Zone) (within : ℤ → Type 0) where
   table_sooner : (u v : ℤ) → IsValid z → IsInTable z within u → IsChangeByRule z within v → u ≤ℤ v
   table_sooner u v valid t r = let k = later_segment z (u -ℤ pos 1) (v -ℤ pos 1) valid (omega arith) in omega linear
 
-  pub table_first : (c : Change) → IsValid z → IsFirstChange (TypeAt z) (IsInTable z within) c → IsFirstChange (TypeAt z) within c
-  table_first c valid h = record {
-    is = h.is;
-    inside = h.inside.inside;
-    nearest = λ d is inside. elim (in_either _ valid inside) [ inl t ↦ h.nearest d is t | inr r ↦ table_sooner _ _ valid h.inside r ];
-  }
+  pub nearer_first : (w : Bool) (c : Change) → IsValid z → IsNearestChange w (TypeAt z) (IsNearer w z within) c → IsNearestChange w (TypeAt z) within c
+  nearer_first true c valid h = grind (linear, in_either, table_sooner)
+  nearer_first false c valid h = grind (linear, in_either, table_sooner)
 
-  pub rule_first : (found : Option Change) → IsValid z → HasNoChange (TypeAt z) (IsInTable z within)
-      → IsFirst (TypeAt z) (IsChangeByRule z within) found → IsFirst (TypeAt z) within found
-  rule_first _ valid none =
-      nearest_moved _ _ _ _ _ _
-      (λ d is inside. elim (in_either _ valid inside) [ inl t ↦ absurd (none d is t) | inr r ↦ (is, r) ])
-      (λ d is inside. (is, inside.inside))
-
-  pub rule_is_last : (c : Change) → IsValid z → IsLastChange (TypeAt z) (IsChangeByRule z within) c → IsLastChange (TypeAt z) within c
-  rule_is_last c valid h = record {
-    is = h.is;
-    inside = h.inside.inside;
-    nearest = λ d is inside. elim (in_either _ valid inside) [ inl t ↦ table_sooner _ _ valid t h.inside | inr r ↦ h.nearest d is r ];
-  }
-
-  pub table_is_last : (found : Option Change) → IsValid z → HasNoChange (TypeAt z) (IsChangeByRule z within)
-      → IsLast (TypeAt z) (IsInTable z within) found → IsLast (TypeAt z) within found
-  table_is_last _ valid none =
-      nearest_moved _ _ _ _ _ _
-      (λ d is inside. elim (in_either _ valid inside) [ inl t ↦ (is, t) | inr r ↦ absurd (none d is r) ])
-      (λ d is inside. (is, inside.inside))
+  pub farther_first : (w : Bool) (found : Option Change) → IsValid z → HasNoChange (TypeAt z) (IsNearer w z within)
+      → IsNearest w (TypeAt z) (IsNearer (not w) z within) found → IsNearest w (TypeAt z) within found
+  farther_first true None valid none h = grind (linear, in_either)
+  farther_first false None valid none h = grind (linear, in_either)
+  farther_first true (Some c) valid none h = grind (linear, in_either)
+  farther_first false (Some c) valid none h = grind (linear, in_either)
 
 -- ---- at the ends of a span
 pub out_before : (z : Zone) (c : Change) → IsChange (TypeAt z) c → IsOutOfForce (TypeAt z) c.after (c.at -ℤ pos 1)

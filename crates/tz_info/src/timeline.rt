@@ -94,8 +94,8 @@ impl<T: Timed> Timeline<T> {
         requires { AreOrdered (map T.time items.items) }
         ensures { MatchResult result (λ t. t ≡ items.items) (λ _. ⊤) }
     {
-        let hints = Hints::new(alloc, &items)?;
         let ends = ends_of(&items);
+        let hints = Hints::new(alloc, &items, ends)?;
         Ok(Timeline { items, ends, hints })
     }
 

@@ -1,7 +1,7 @@
 -- What a rule says of a second: the type in force, and the seconds on both sides at which clocks change.
-use Rattle.std.specs.Prelude.{◌≡◌, Bool, true, false, ℤ, MatchOption, Option, option_map}
+use Rattle.std.specs.Prelude.{◌≡◌, Bool, true, false, ℤ, Option, option_map}
 use Rattle.tz_base.specs.{LocalTypes.{LocalType}, declared.change.Change.{Change}}
-use Rattle.tz_info.specs.{Changes.{HasNoChange, IsChange, IsNearest}, Moments.{AlternateAt, type_when}, Rules.{Alternate}, Steps.Changes.{IsAhead}}
+use Rattle.tz_info.specs.{Changes.{IsNearest}, Moments.{AlternateAt, type_when}, Rules.{Alternate}, Steps.Changes.{IsAhead, IsChangeAt}}
 use Rattle.tz_info.specs.{Steps.Gaps.{moment_change}, declared.rule.{beside.Beside.{Beside}, moments.Moment.{Moment}}}
 
 -- the change at the moment that was found, if one was
@@ -14,8 +14,7 @@ IsNearestMomentOf forward a within found = IsNearest forward (AlternateAt a) wit
 
 -- the change at the second, if there is one
 abbrev pub IsMomentAt : Alternate → ℤ → Option Moment → Type 0
-IsMomentAt a second found = MatchOption (change_found a found) (HasNoChange (AlternateAt a) (λ u. u ≡ second)) (λ c. IsChange (AlternateAt a) c ×
-    (c.at ≡ second))
+IsMomentAt a second found = IsChangeAt (AlternateAt a) second (change_found a found)
 
 -- the second of that change
 abbrev pub IsSecondOfNearest : Bool → (ℤ → LocalType → Type 0) → (ℤ → Type 0) → Option ℤ → Type 0

@@ -1,9 +1,33 @@
 -- The way to the next and to the previous change.
-use Rattle.std.specs.Prelude.{ℕ, ◌<◌, length, neg_ℤ, List, [], ◌∷◌, slice_index_or, ℤ, pos, ◌+ℤ◌, ◌-ℤ◌, ◌*ℤ◌, ◌≤ℤ◌, ◌<ℤ◌, ◌↔◌, ◌≡◌, Option, Some, None, Bool}
+use Rattle.std.specs.Prelude.{
+  ℕ,
+  ◌<◌,
+  length,
+  neg_ℤ,
+  List,
+  [],
+  ◌∷◌,
+  slice_index_or,
+  ℤ,
+  pos,
+  ◌+ℤ◌,
+  ◌-ℤ◌,
+  ◌*ℤ◌,
+  ◌≤ℤ◌,
+  ◌<ℤ◌,
+  ◌↔◌,
+  ◌≡◌,
+  ◌-◌,
+  MatchOption,
+  Option,
+  Some,
+  None,
+  Bool,
+}
 use Rattle.std.specs.{Prelude.{true, false, FitsSigned, if◌then◌else◌, int_lt}, Int.{w64}}
 use Rattle.naive_base.specs.Year.{year_start}
 use Rattle.tz_base.specs.{LocalTypes.{LocalType}, declared.change.Change.{Change}}
-use Rattle.tz_info.specs.{Changes.{IsChange}, Leaps.{IsLeapTime}, Moments.{IsRuleTime, IsYearOf, start_in, end_in}, Rules.{Alternate}}
+use Rattle.tz_info.specs.{Changes.{HasNoChange, IsChange}, Leaps.{IsLeapTime}, Moments.{IsRuleTime, IsYearOf, start_in, end_in}, Rules.{Alternate}}
 use Rattle.tz_info.specs.{Steps.Segments.{segment_of}, Zones.{Zone, IsFromLast}}
 
 -- the first second of the year
@@ -56,6 +80,19 @@ IsAhead false s u = u ≤ℤ s
 abbrev pub IsStretchAhead : Bool → ℤ → ℤ → ℤ → ℤ → Type 0
 IsStretchAhead true begin s after last = IsLaterOf begin s after × (last ≡ pos 9_223_372_036_854_775_807)
 IsStretchAhead false begin s after last = (after ≡ begin) × (last ≡ s)
+
+-- how many of the places below `len` are ahead in that direction, if `count` of them are not ahead forward, and the first place if `left` are
+abbrev pub count_ahead : Bool → ℕ → ℕ → ℕ
+count_ahead true len count = len - count
+count_ahead false len count = count
+
+abbrev pub place_ahead : Bool → ℕ → ℕ → ℕ
+place_ahead true len left = len - left
+place_ahead false len left = left - 1
+
+-- the change at the second, if one comes there
+abbrev pub IsChangeAt : (ℤ → LocalType → Type 0) → ℤ → Option Change → Type 0
+IsChangeAt in_force second found = MatchOption found (HasNoChange in_force (λ u. u ≡ second)) (λ c. IsChange in_force c × (c.at ≡ second))
 
 -- the end of the stretch at which it begins in that direction
 abbrev pub near_end : Bool → ℤ → ℤ → ℤ

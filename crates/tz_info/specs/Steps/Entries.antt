@@ -1,10 +1,38 @@
 -- A zone's transitions as one list of clock changes by Unix time: its entries, each a Unix second and the index of a type.
-use Rattle.std.specs.Prelude.{ℕ, ℤ, ◌≡◌, ◌≢◌, ◌⊎◌, ◌+◌, ◌-◌, ◌<◌, ◌≤◌, Some, ◌≤ℤ◌, ◌<ℤ◌, ◌↔◌, ◌++◌, [], ◌∷◌, List, length, map, Bool, true, false, FitsSigned}
+use Rattle.std.specs.Prelude.{
+  ℕ,
+  ℤ,
+  ◌≡◌,
+  ◌≢◌,
+  ◌⊎◌,
+  ◌+◌,
+  ◌-◌,
+  ◌<◌,
+  ◌≤◌,
+  Some,
+  ◌≤ℤ◌,
+  ◌<ℤ◌,
+  ◌↔◌,
+  ◌++◌,
+  [],
+  ◌∷◌,
+  List,
+  length,
+  map,
+  Bool,
+  true,
+  false,
+  FitsSigned,
+  pos,
+}
 use Rattle.std.specs.{Prelude.{slice_index_or, IsTrue, Option, None, zero, suc}, Int.{w64}, List.{slice_get}}
 use Rattle.tz_base.specs.{LocalTypes.{LocalType}, declared.change.Change.{Change}}
 use Rattle.tz_info.specs.{Leaps.{IsLeapTime, least_time}, Lists.{last_else}, Steps.{Segments.{begin_of, index_of}, Starts.{leap_time_at}}}
 use Rattle.tz_info.specs.{Transitions.{AreRising, NameTypes, passed}, Zones.{Zone, IsFromLast, index_at}, Digits.{digits}}
-use Rattle.tz_info.specs.declared.zone.{made.change_table.{Between.{Between}, Come.{Come}}, lists.{leap_second.LeapSecond.{LeapSecond}, table.Entry.{Entry}}}
+use Rattle.tz_info.specs.declared.zone.{
+  made.change_table.{Between.{Between}, Come.{Come}},
+  lists.{leap_second.LeapSecond.{LeapSecond}, table.Entry.{Entry}},
+}
 use Rattle.tz_info.specs.declared.zone.lists.transition.Transition.{Transition}
 
 -- a list of entries, how many of them have come once all transitions have, and the transitions as listed
@@ -16,6 +44,10 @@ pub record Entries : Type 0 where
 -- the type index of the last entry, or 0 if the list is empty
 abbrev pub last_index : List Transition → ℕ
 last_index entries = last_else 0 (map (λ t. t.type_index) entries)
+
+-- when the entry at that place comes
+abbrev pub entry_time : List Transition → ℕ → ℤ
+entry_time items place = (slice_index_or items place (record { unix_leap_time = pos 0; type_index = 0 })).unix_leap_time
 
 -- the entry at that place
 pub record IsEntryAt (entries : List Transition) (place : ℕ) (e : Entry) : Type 0 where
@@ -36,7 +68,7 @@ pub record AreEntries (z : Zone) (e : Entries) : Type 0 where
   pub some : (0 < length z.transitions) ↔ (0 < e.all)
   pub named : (u x : ℤ) → FitsSigned w64 u → IsLeapTime z.leaps u x → slice_get z.types (index_at z x) ≡ slice_get z.types (last_index (passed e.items u))
   pub come : (u x : ℤ) → FitsSigned w64 u → IsLeapTime z.leaps u x → IsFromLast z x ↔ (length (passed e.items u) ≡ e.all)
-  pub leap_time : (k : ℕ) (d : Transition) → k < length e.items → (x : ℤ) × IsLeapTime z.leaps (slice_index_or e.items k d).unix_leap_time x
+  pub leap_time : (k : ℕ) → k < length e.items → (x : ℤ) × IsLeapTime z.leaps (entry_time e.items k) x
   pub differ : (k : ℕ) → k < length e.items → k + 1 < e.all → slice_get z.types (index_of e.items (k + 1)) ≢ slice_get z.types (index_of e.items k)
 
 -- the second s has a leap time, and is the first at which the leap time x has come
@@ -82,9 +114,9 @@ most_looks (suc n) = digits (suc n)
 
 -- the change that the entry at that place makes, or none if it comes at the least second
 abbrev pub IsEntryChange : List LocalType → List Transition → ℕ → Option Change → Type 0
-IsEntryChange types items place None = (d : Transition) → (slice_index_or items place d).unix_leap_time ≡ least_time
+IsEntryChange types items place None = entry_time items place ≡ least_time
 IsEntryChange types items place (Some c) =
-    ((d : Transition) → c.at ≡ (slice_index_or items place d).unix_leap_time) × FitsSigned w64 c.at × (c.at ≢ least_time)
+    (c.at ≡ entry_time items place) × FitsSigned w64 c.at × (c.at ≢ least_time)
     × (slice_get types (index_of items place) ≡ Some c.before) × (slice_get types (index_of items (place + 1)) ≡ Some c.after)
 
 -- the entries on both sides of the second u
@@ -93,6 +125,6 @@ pub record IsBetween (e : Entries) (u : ℤ) (b : Between) : Type 0 where
   pub some : place < length e.items
   pub come : place ≡ length (passed e.items u)
   pub from : b.from ≡ begin_of e.items place
-  pub until : (d : Transition) → b.until ≡ (slice_index_or e.items place d).unix_leap_time
+  pub until : b.until ≡ entry_time e.items place
   pub index : b.index ≡ index_of e.items place
   pub span : IsTrue b.is_span → (0 < place) × (least_time <ℤ b.from) × (place + 1 < e.all)

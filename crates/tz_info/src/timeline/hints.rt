@@ -8,8 +8,9 @@
 ghost use Rattle.std.specs.Prelude.{◌≡◌, ◌<◌, ◌≤◌, ◌+◌, ◌/◌, ◌^◌, ◌≤ℤ◌, ◌-ℤ◌, length, map, pos, slice_index, suc, ⊤};
 ghost use Rattle.std.specs.Prelude.{List, MatchOption, MatchResult, ℕ, ℤ};
 ghost use Rattle.tz_info.specs.Steps.Hints.{stretch_of, AreHints, AreMarked, AreNonDecreasing, AreRaised, AreStepsUntil};
-ghost use Rattle.tz_info.specs.Steps.{Hints.{IsHinted, RiseFromZero}, Search.{item_time, AreOrdered}};
+ghost use Rattle.tz_info.specs.Steps.{Hints.{IsHinted, RiseFromZero}, Search.{item_time, AreEnds, AreOrdered}};
 
+use crate::timeline::Ends;
 use crate::timeline::timed::Timed;
 use std::alloc::{AllocError, Global};
 use std::cmp::max;
@@ -45,23 +46,25 @@ impl Hints {
         }
     }
 
-    // Hints at those items. It is not inlined, so that its loops have the registers.
+    // Hints at those items, which have those ends. It is not inlined, so that its loops have the registers.
     #[inline(never)]
-    pub(crate) fn new<T: Timed>(alloc: Global, items: &[T]) -> Result<Hints, AllocError>
-        requires { AreOrdered (map T.time items.now) }
+    #[tactic(auto, using(crate::proofs::HintLaws::raised_rising))]
+    pub(super) fn new<T: Timed>(alloc: Global, items: &[T], ends: Ends) -> Result<Hints, AllocError>
+        requires ordered { AreOrdered (map T.time items.now) }
+        requires ends { AreEnds (map T.time items.now) ends }
         ensures { MatchResult result (λ h. AreHints (map T.time items.now) h) (λ _. ⊤) }
     {
         let count = items.len();
         if count < 5 || count > 0xffff_ffff {
             return Ok(Hints::none(alloc));
         }
-        let first = items[0].second();
-        let span = seconds_between(first, items[count - 1].second());
+        let span = seconds_between(ends.first, ends.last);
         let shift = shift_for(span, most_stretches(count));
         let mut places = vec![in alloc; 0; (span >> shift) as usize + 2]?;
-        mark(&mut places, items, first, shift);
-        raise(&mut places);
-        let most = most_between(&places);
+        let numbers: &mut [u32] = &mut places;
+        mark(numbers, items, ends.first, shift);
+        raise(numbers);
+        let most = most_between(numbers);
         if 2 * (most as usize + 1) > count {
             return Ok(Hints::none(alloc));
         }

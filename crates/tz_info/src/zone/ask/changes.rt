@@ -3,15 +3,16 @@
 //! Before the last transition only an entry of the change table can change the type, and each does.
 //! After it only the rule can. What the last transition itself changes is asked.
 
-ghost use Rattle.std.specs.Prelude.{◌≡◌, ◌≢◌, ◌<◌, ◌<ℤ◌, ◌≤ℤ◌, length, neg_ℤ, option_map, pos, MatchOption};
-ghost use Rattle.tz_info.specs.{Changes.{HasNoChange, IsChange, IsFirst, IsLast, IsNearest}, HeldChanges.{change_held}};
-ghost use Rattle.tz_info.specs.Rules.{Alternate as AlternateRule};
-ghost use Rattle.tz_info.specs.{Steps.Changes.{IsAhead, IsBegin, IsChangeByRule, IsInTable}, Zones.{HasType, TypeAt}};
+ghost use Rattle.std.specs.Prelude.{◌≡◌, ◌≢◌, ◌<◌, ◌≤◌, ◌<ℤ◌, ◌≤ℤ◌, length, neg_ℤ, option_map, pos, MatchOption};
+ghost use Rattle.tz_info.specs.{Changes.{IsFirst, IsLast, IsNearest}, HeldChanges.{change_held}, Rules.{Alternate as AlternateRule}};
+ghost use Rattle.tz_info.specs.Steps.{Changes.{count_ahead, place_ahead, IsAhead, IsBegin, IsChangeAt, IsChangeByRule, IsInTable}};
+ghost use Rattle.tz_info.specs.{Steps.Entries.{entry_time, AreEntries}, Zones.{HasType, IsValid, TypeAt}};
 
 use crate::change::{HeldChange, change_between, change_copied, held};
 use crate::rule::{AlternateTime, TransitionRule};
 use crate::timeline::Probes;
 use crate::zone::TimeZone;
+use crate::zone::made::change_table::ChangeTable;
 use tz_base::{Change, LocalTimeType};
 
 impl TimeZone {
@@ -51,27 +52,58 @@ impl TimeZone {
         if self.last_span.has_begun(after) {
             return None;
         }
-        match self.next_in_table(after, near) {
+        match self.nearest_in_table(after, true, near) {
             Some(change) => Some(change),
             None => self.change_by_rule(after, true),
         }
     }
 
-    // The first change with an entry after the second.
+    // The nearest change ahead of the second in that direction, of those that come with an entry: that of
+    // the first entry or of the second one.
     #[inline(always)]
-    fn next_in_table(&self, after: i64, near: &mut usize) -> Option<HeldChange<'_>>
-        ensures { IsFirst (TypeAt self.now) (IsInTable self.now (λ u. after <ℤ u))
+    fn nearest_in_table(
+        &self,
+        second: i64,
+        forward: bool,
+        near: &mut usize,
+    ) -> Option<HeldChange<'_>>
+        ensures { IsNearest forward (TypeAt self.now) (IsInTable self.now (IsAhead forward second))
             (option_map change_held result) }
     {
-        let _ = &self.changes;
-        let place = self.changes.count_near(after, near);
-        if place == self.changes.len() {
-            return None;
+        let changes = self.change_table();
+        let count = changes.count_near(second, near);
+        let mut left = count_ahead(changes.len(), count, forward);
+        while left > 0 {
+            let place = place_ahead(changes.len(), left, forward);
+            if let Some(change) = self.change_with(changes, place) {
+                return Some(change);
+            }
+            left -= 1;
         }
-        if self.changes.is_last(place) {
-            return self.change_at(self.changes.second(place));
+        None
+    }
+
+    // The change that comes with the entry at that place, if one does. That of the last transition is asked.
+    #[inline(always)]
+    fn change_with<'a>(&'a self, changes: &'a ChangeTable, place: usize) -> Option<HeldChange<'a>>
+        requires list { AreEntries self.now changes.now }
+        requires place { place < length changes.now.items }
+        ensures { IsChangeAt (TypeAt self.now) (entry_time changes.now.items place)
+            (option_map change_held result) }
+    {
+        if changes.is_last(place) {
+            return self.change_at(changes.second(place));
         }
-        self.changes.change_at(&self.local_types, place)
+        changes.change_at(self.local_time_types(), place)
+    }
+
+    // The zone's change table.
+    #[inline(always)]
+    pub(super) fn change_table(&self) -> &ChangeTable
+        ensures list { AreEntries self.now result.now }
+        ensures valid { IsValid self.now }
+    {
+        &self.changes
     }
 
     // The nearest change ahead of the second in that direction, of those that come after all
@@ -128,31 +160,8 @@ impl TimeZone {
         }
         match self.change_by_rule(before_or_at, false) {
             Some(change) => Some(change),
-            None => self.previous_in_table(before_or_at, near),
+            None => self.nearest_in_table(before_or_at, false, near),
         }
-    }
-
-    // The last change with an entry at the second or before it.
-    #[inline(always)]
-    fn previous_in_table(&self, last: i64, near: &mut usize) -> Option<HeldChange<'_>>
-        ensures { IsLast (TypeAt self.now) (IsInTable self.now (λ u. u ≤ℤ last))
-            (option_map change_held result) }
-    {
-        let _ = &self.changes;
-        let count = self.changes.count_near(last, near);
-        if count == 0 {
-            return None;
-        }
-        if !self.changes.is_last(count - 1) {
-            return self.changes.change_at(&self.local_types, count - 1);
-        }
-        if let Some(change) = self.change_at(self.changes.second(count - 1)) {
-            return Some(change);
-        }
-        if count == 1 {
-            return None;
-        }
-        self.changes.change_at(&self.local_types, count - 2)
     }
 
     // The rule, if it has two types.
@@ -175,9 +184,7 @@ impl TimeZone {
 
     // The change at that second, if there is one.
     fn change_at(&self, second: i64) -> Option<HeldChange<'_>>
-        ensures { MatchOption (option_map change_held result)
-            (HasNoChange (TypeAt self.now) (λ u. u ≡ second))
-            (λ c. IsChange (TypeAt self.now) c × (c.at ≡ second)) }
+        ensures { IsChangeAt (TypeAt self.now) second (option_map change_held result) }
     {
         let second_before = second.checked_sub(1)?;
         let Ok(before) = self.find_local_time_type(second_before) else {
@@ -195,7 +202,25 @@ impl TimeZone {
         ensures begin { IsBegin self.now result }
         ensures bound { neg_ℤ (pos 9_223_372_036_854_775_808) ≤ℤ result }
     {
-        let _ = &self.changes;
-        self.changes.rule_begin()
+        self.change_table().rule_begin()
     }
+}
+
+// How many of the entries are ahead in that direction, if `count` of them have come.
+#[inline(always)]
+fn count_ahead(len: usize, count: usize, forward: bool) -> usize
+    requires { count ≤ len }
+    ensures { result ≡ count_ahead forward len count }
+{
+    if forward { len - count } else { count }
+}
+
+// The place of the nearest entry ahead, if `left` of them are.
+#[inline(always)]
+fn place_ahead(len: usize, left: usize, forward: bool) -> usize
+    requires some { 0 < left }
+    requires within { left ≤ len }
+    ensures { result ≡ place_ahead forward len left }
+{
+    if forward { len - left } else { left - 1 }
 }

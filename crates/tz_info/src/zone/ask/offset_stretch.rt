@@ -31,14 +31,12 @@ impl TimeZone {
             (IsTypeRefused self.now unix_time ⊎ (unix_time ≡ pos 9_223_372_036_854_775_807))
             (λ s. (s.from ≤ℤ unix_time) × (unix_time <ℤ s.until)) }
     {
-        match self
-            .changes
-            .between(&self.local_types, unix_time, &mut usize::MAX)
-        {
+        let changes = self.change_table();
+        match changes.between(self.local_time_types(), unix_time, &mut usize::MAX) {
             Some(between) => Some(OffsetStretch {
                 from: between.from,
                 until: between.until,
-                offset: self.local_types[between.index].offset(),
+                offset: self.listed(between.index).offset(),
             }),
             None => self.offset_stretch_of_span(unix_time),
         }

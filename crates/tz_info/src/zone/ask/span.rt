@@ -68,14 +68,15 @@ impl TimeZone {
         ensures { MatchResult result (λ s. IsSpanAt (TypeAt self.now) unix_time (span_held s))
             (IsTypeError self.now unix_time) }
     {
-        let Some(between) = self.changes.between(&self.local_types, unix_time, near) else {
+        let changes = self.change_table();
+        let Some(between) = changes.between(self.local_time_types(), unix_time, near) else {
             return self.span_from_last(unix_time);
         };
         if !between.is_span {
             return self.span_by_changes(unix_time);
         }
         Ok(HeldSpan {
-            local_time_type: &self.local_types[between.index],
+            local_time_type: self.listed(between.index),
             from: Some(between.from),
             until: Some(between.until),
         })

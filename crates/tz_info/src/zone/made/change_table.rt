@@ -1,9 +1,9 @@
 //! The list of clock changes for lookups, which counts each probe.
 
 ghost use Rattle.std.specs.Prelude.{◌≡◌, ◌↔◌, ◌<◌, ◌≤◌, ◌+◌, ◌-◌, ◌^◌, ◌<ℤ◌, ◌≤ℤ◌, [], length, neg_ℤ, option_map};
-ghost use Rattle.std.specs.Prelude.{pos, slice_index_or, IfSome, IsTrue, MatchOption, MatchResult};
+ghost use Rattle.std.specs.Prelude.{pos, IfSome, IsTrue, MatchOption, MatchResult};
 ghost use Rattle.tz_info.specs.{Counts.{HasRoom, HasRoomFor, RoseWithin}, Digits.{digits}, HeldChanges.{change_held}};
-ghost use Rattle.tz_info.specs.Steps.{Entries.{most_looks, IsBetween, IsCome, IsEntryAt, IsEntryChange}, Segments.{index_of}};
+ghost use Rattle.tz_info.specs.Steps.{Entries.{entry_time, most_looks, IsBetween, IsCome, IsEntryAt, IsEntryChange}, Segments.{index_of}};
 ghost use Rattle.tz_info.specs.{Steps.{Pieces.{IsJump, IsPlaced}, WallPieces.{top_of, IsBegun}}, Transitions.{passed, AreRising, NameTypes}};
 
 use crate::change::HeldChange;
@@ -168,8 +168,7 @@ impl ChangeTable {
     #[inline(always)]
     fn is_since(&self, count: usize, second: i64) -> bool
         requires { count ≤ length self.now.items }
-        ensures { IsTrue result → (d : Transition) → 0 < count
-            → (slice_index_or self.now.items (count - 1) d).unix_leap_time ≤ℤ second }
+        ensures { IsTrue result → 0 < count → entry_time self.now.items (count - 1) ≤ℤ second }
     {
         count == 0 || self.second(count - 1) <= second
     }
@@ -178,8 +177,8 @@ impl ChangeTable {
     #[inline(always)]
     fn is_until(&self, count: usize, second: i64) -> bool
         requires { count ≤ length self.now.items }
-        ensures { IsTrue result → (d : Transition) → count < length self.now.items
-            → second <ℤ (slice_index_or self.now.items count d).unix_leap_time }
+        ensures { IsTrue result → count < length self.now.items
+            → second <ℤ entry_time self.now.items count }
     {
         count == self.len() || second < self.second(count)
     }
@@ -283,9 +282,10 @@ impl ChangeTable {
 
     // When the entry at that place comes.
     #[inline(always)]
+    #[tactic(auto, using(crate::proofs::TableSearch::time_of_entry))]
     pub(in crate::zone) fn second(&self, place: usize) -> i64
         requires { place < length self.now.items }
-        ensures { (d : Transition) → result ≡ (slice_index_or self.now.items place d).unix_leap_time }
+        ensures { result ≡ entry_time self.now.items place }
     {
         self.entries.read(place, &mut Probes::new()).unix_leap_time
     }
@@ -352,7 +352,8 @@ impl ChangeTable {
     ) -> Option<Between>
         requires some { 0 < length types.now }
         requires named { NameTypes (length types.now) self.now.items }
-        ensures { IfSome result (IsBetween self.now second) }
+        ensures between { IfSome result (IsBetween self.now second) }
+        ensures below { IfSome result (λ b. b.index < length types.now) }
     {
         let place = self.count_near(second, near);
         if place == self.len() {

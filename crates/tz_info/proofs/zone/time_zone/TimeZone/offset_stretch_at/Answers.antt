@@ -1,29 +1,15 @@
-use Rattle.tz_info.proofs.{
-  EntryChanges.{index_between, inside_between, stretch_between},
-  Fits.fits,
-  Words.{SFits, Some, arith, length, rules, slice_get, slice_get_read, vec_len, w64, ◌≡◌},
-}
+use Rattle.tz_info.proofs.{EntryChanges.{inside_between, stretch_between}, Fits.fits, Words.{SFits, rules, w64}}
 use Rattle.tz_info.proofs.zone.time_zone.TimeZone.offset_stretch_at.Goals as goal
-
-pub index-requires : goal.index-requires
-index-requires c =
-    let n : vec_len c.self.inside.local_types ≡ length _ = search rules in
-    rw n (index_between _ _ _ _ c.self.invariant.valid c.self.invariant.list
-    c.in-Some.ensures)
 
 pub returns-in-Some : goal.returns-in-Some
 returns-in-Some c =
     let fu = c.ranges.unix_time in
-    let e = c.self.inside.changes in
-    let valid = rw c.self.view_is at c.self.invariant.valid in
-    let list = rw c.self.view_is at c.self.invariant.list in
+    let table = c.change_table-changes.ensures in
     let low : SFits w64 c.in-Some.between.from = search rules in
     let high : SFits w64 c.in-Some.between.until = search rules in
-    let h = simp fits at c.in-Some.ensures in
-    let has : slice_get c.args.self.now.types c.in-Some.between.index ≡ Some c.index.result.now =
-    let below = index_between _ e _ _ valid list h in grind (arith, slice_get_read) in
+    let h = simp fits at c.in-Some.ensures.between in
     let offset = c.offset.type_inv in
     simp fits (record {
-      each = λ v since before. (c.index.result.now, stretch_between _ e _ v _ _ valid list h low high has since before, c.offset.ensures.value);
-      at = inside_between _ e _ _ list h fu;
+      each = λ v since before. (c.listed.result.now, stretch_between _ _ _ v _ _ table.valid table.list h low high c.listed.ensures since before, c.offset.ensures.value);
+      at = inside_between _ _ _ _ table.list h fu;
     })

@@ -1,8 +1,8 @@
-use Rattle.tz_info.proofs.{EntryChanges.begin_at, Fits.fits, Prefixes.any, Words.{arith, ints, ◌∙◌}}
+use Rattle.tz_info.proofs.{EntryChanges.begin_at, Fits.fits, Words.{arith, linear, ◌∙◌}}
 use Rattle.tz_info.proofs.zone.made.change_table.ChangeTable.between.Goals as goal
 
-pub returns-then-from-gtminus9223372036854775808 : goal.returns-then-from-gtminus9223372036854775808
-returns-then-from-gtminus9223372036854775808 c =
+pub returns-then-from-gtminus9223372036854775808-clause-between : goal.returns-then-from-gtminus9223372036854775808-clause-between
+returns-then-from-gtminus9223372036854775808-clause-between c =
     let ff = c.second-from.type_inv in
     let fu = c.second-until.type_inv in
     let fs = c.ranges.second in
@@ -10,23 +10,11 @@ returns-then-from-gtminus9223372036854775808 c =
       place = c.count_near-place.result;
       some = grind arith;
       come = simp fits at c.count_near-place.ensures.count;
-      from = c.second-from.ensures any ∙ begin_at _ _ any (grind arith) c.count_near-place.ensures.within;
+      from = c.second-from.ensures ∙ begin_at _ _ _ (grind arith) c.count_near-place.ensures.within;
       until = c.second-until.ensures;
       index = c.index_after-index.ensures.index;
-      span = λ t. (grind arith, omega (arith, ints), grind arith);
+      span = λ t. (grind arith, omega linear, grind arith);
     })
 
-pub returns-else-from-gtminus9223372036854775808 : goal.returns-else-from-gtminus9223372036854775808
-returns-else-from-gtminus9223372036854775808 c =
-    let ff = c.second-from.type_inv in
-    let fu = c.second-until.type_inv in
-    let fs = c.ranges.second in
-    simp fits (record {
-      place = c.count_near-place.result;
-      some = grind arith;
-      come = simp fits at c.count_near-place.ensures.count;
-      from = c.second-from.ensures any ∙ begin_at _ _ any (grind arith) c.count_near-place.ensures.within;
-      until = c.second-until.ensures;
-      index = c.index_after-index.ensures.index;
-      span = λ t. absurd (grind (arith, ints));
-    })
+pub returns-else-from-gtminus9223372036854775808-clause-between : goal.returns-else-from-gtminus9223372036854775808-clause-between
+returns-else-from-gtminus9223372036854775808-clause-between c = grind (linear, fits, begin_at)

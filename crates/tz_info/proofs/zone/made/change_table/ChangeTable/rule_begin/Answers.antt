@@ -1,4 +1,4 @@
-use Rattle.tz_info.proofs.{EntryChanges.begin_at, Fits.fits, Prefixes.any, SegmentLaws.{come_from, place_most}}
+use Rattle.tz_info.proofs.{EntryChanges.begin_at, Fits.fits, SegmentLaws.{come_from, place_most}}
 use Rattle.tz_info.proofs.Words.{SFits, ap, arith, ints, w128, ◌∙◌, ◌≡◌}
 use Rattle.tz_info.proofs.zone.made.change_table.ChangeTable.rule_begin.Goals as goal
 
@@ -14,4 +14,4 @@ returns-clause-begun c = λ u near.
     let same : k ≡ c.args.self.now.all = ap (λ e. e.all) c.self.view_is in
     let from = come_from ts k u c.requires.rising (omega arith) (omega arith) in
     let most = place_most ts u c.requires.rising in
-    simp fits (rw (c.second.ensures any ∙ begin_at ts k any (omega arith) (omega arith)) (grind arith))
+    simp fits (rw (c.second.ensures ∙ begin_at ts k _ (omega arith) (omega arith)) (grind arith))
