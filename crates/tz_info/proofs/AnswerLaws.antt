@@ -5,9 +5,7 @@ use Rattle.tz_info.proofs.Words.{IsWallAnswer, LocalResult, arith, joined, linea
 -- p and q take the same seconds
 pub same_answer : {T : Type 0} (p q : ℤ → T → Type 0) (a : LocalResult T) → ((u : ℤ) (t : T) → p u t → q u t) → ((u : ℤ) (t : T) → q u t → p u t)
     → IsWallAnswer p a → IsWallAnswer q a
-same_answer p q None to from h = grind linear
-same_answer p q (Single a) to from h = grind arith
-same_answer p q (Ambiguous a b) to from h = grind arith
+same_answer p q a to from h = grind linear
 
 -- r takes what p takes and what q takes, and p's seconds come before q's
 pub record Parts {T : Type 0} (p q r : ℤ → T → Type 0) : Type 0 where

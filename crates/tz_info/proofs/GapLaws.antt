@@ -16,8 +16,7 @@ IsNever z l = IsNeverShown (Shows (TypeAt z) l)
 
 -- ---- each near second has a type
 near_rule : (rule : Option TransitionRule) (u : ℤ) → IsNear u → IsRefusedBy rule u → ⊥
-near_rule (Some (Alternate a)) u near h =
-    let lies = lies_in (floor_div u 86_400) in h _ lies (rule_year u _ lies (omega linear, omega linear))
+near_rule (Some (Alternate a)) u near h = grind (linear, lies_in (floor_div u 86_400), rule_year u)
 near_rule None u near h = h
 near_rule (Some (Fixed t)) u near h = h
 
@@ -76,12 +75,9 @@ gap_found z l low _ c s t never reach far all here more before = record {
 pub first_near : (z : Zone) (l low high u : ℤ) (t : LocalType) → IsValid z → IsRuleOrNone z.rule → IsWindowOf z l l low high → IsFirstAtOrAfter (TypeAt z) l u t
     → (low ≤ℤ u) × (u ≤ℤ high)
 first_near z l low high u t valid limits reach first =
-    let near = reach.near_high in
-    let (s, type) = near_type z _ valid limits near in
-    let least = at_least_least z _ _ s reach.least type in
-    let most = at_most_greatest z u _ t reach.greatest first.shown.type in
+    let (s, type) = near_type z _ valid limits reach.near_high in
     let reached = first.shown.reached in
-    (omega linear, grind (linear, first.first high s))
+    grind (linear, first.first high s, at_least_least z _ _ s reach.least type, at_most_greatest z u _ t reach.greatest first.shown.type)
 
 pub gap_at_first : (z : Zone) (l low high u : ℤ) (t before : LocalType) → IsNever z l → IsWindowOf z l l low high → low ≤ℤ u → u ≤ℤ high
     → IsFirstAtOrAfter (TypeAt z) l u t → TypeAt z (u -ℤ pos 1) before → HasGap (TypeAt z) l before t u

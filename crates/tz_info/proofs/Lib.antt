@@ -37,7 +37,6 @@ pub mod AnswerLaws
 pub mod LeapStarts
 pub mod LeapSearch
 pub mod WallPieces
-pub mod ShownLaws
 pub mod WallSegments
 pub mod OnePass
 pub mod ExtremeLaws
@@ -45,9 +44,7 @@ pub mod LastType
 pub mod WalkLaws
 pub mod QuestionLaws
 pub mod SeasonAnswers
-pub mod WindowLaws
 pub mod GapLaws
-pub mod AroundLaws
 pub mod ZoneChanges
 pub mod OffsetChanges
 pub mod SpanLaws

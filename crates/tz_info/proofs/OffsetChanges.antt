@@ -3,17 +3,15 @@ use Rattle.tz_info.proofs.{
   ChangeLaws.{one_change},
   SegmentLaws.{come_at_time, segment_most},
   Words.{Alternate as AlternateRule, AlternateAt, Bool, Change, IsBegin, IsChange, IsFirstChange, IsLastChange, IsNearestOffsetChange, IsOffsetChange, IsValid},
-  Words.{KeepsOffset, LocalType, SFits, Some, TypeAt, Zone, ap, by_lt_z, false, length, linear, pos, refl, segment_of, sym, true, type_when, w64, ℤ, ◌-ℤ◌},
-  Words.{◌<ℤ◌, ◌∙◌, ◌≡◌, ◌≤ℤ◌},
+  Words.{KeepsOffset, LocalType, SFits, Some, TypeAt, Zone, false, length, linear, pos, segment_of, true, type_when, w64, ℤ, ◌-ℤ◌},
+  Words.{◌<ℤ◌, ◌≡◌, ◌≤ℤ◌},
   ZoneChanges.{last_too, time_of, to_rule},
 }
 use Rattle.tz_info.specs.declared.rule.transition_rule.TransitionRule.TheVariants.{Alternate}
 
 -- a change that keeps the offset is no change of the offset
 kept_one : (z : Zone) (c d : Change) → IsOffsetChange (TypeAt z) d → IsChange (TypeAt z) c → d.at ≡ c.at → c.before.offset ≡ c.after.offset → ⊥
-kept_one z c d h is same kept =
-    let one = one_change z d c h.is is same in
-    h.other (ap (λ x. x.before.offset) one ∙ kept ∙ sym (ap (λ x. x.after.offset) one))
+kept_one z c d h is same kept = let one = one_change z d c h.is is same in grind linear
 
 -- ---- a rule whose two types have one offset
 -- all transitions have come at a second with a type from `begin` on
@@ -22,8 +20,7 @@ has_begun : (z : Zone) (begin u : ℤ) (t : LocalType) → IsValid z → IsBegin
 has_begun z _ u t valid h fits k from = grind (linear, time_of, come_at_time, segment_most)
 
 of_two : (a : AlternateRule) (dst : Bool) → a.std.offset ≡ a.dst.offset → (type_when a dst).offset ≡ a.std.offset
-of_two a true same = sym same
-of_two a false same = refl
+of_two a dst same = grind linear
 
 offset_by_rule : (a : AlternateRule) (u : ℤ) (t : LocalType) → a.std.offset ≡ a.dst.offset → AlternateAt a u t → t.offset ≡ a.std.offset
 offset_by_rule a u t same k = grind (linear, of_two)
@@ -35,7 +32,7 @@ rule_keeps z a _ valid rule h same d is later =
     let all = has_begun z _ _ _ valid h change.fits_before change.before (omega linear) in
     let before = to_rule z a _ _ rule valid all change.before in
     let after = to_rule z a _ _ rule valid (last_too z _ valid all) change.after in
-    is.other (offset_by_rule a _ _ same before ∙ sym (offset_by_rule a _ _ same after))
+    grind (linear, offset_by_rule)
 
 -- ---- walks
 module _ (z : Zone) (after reached : ℤ) (order : after ≤ℤ reached) (kept : KeepsOffset (TypeAt z) (λ u. (after <ℤ u) × (u ≤ℤ reached))) where
@@ -46,9 +43,7 @@ module _ (z : Zone) (after reached : ℤ) (order : after ≤ℤ reached) (kept :
 
   pub goes_on : (c : Change) → IsFirstChange (TypeAt z) (λ u. reached <ℤ u) c → c.before.offset ≡ c.after.offset
       → KeepsOffset (TypeAt z) (λ u. (after <ℤ u) × (u ≤ℤ c.at))
-  goes_on c next same d is inside = by_lt_z reached d.at
-      (λ l. let least = next.nearest d is.is l in kept_one z c d is next.is (grind linear) same)
-      (λ m. kept d is (inside.0, m))
+  goes_on c next same d is inside = grind (linear, kept_one z c d is next.is)
 
 module _ (z : Zone) (last reached : ℤ) (order : reached ≤ℤ last) (kept : KeepsOffset (TypeAt z) (λ u. (reached <ℤ u) × (u ≤ℤ last))) where
   -- ---- back from the second `last`
@@ -58,6 +53,4 @@ module _ (z : Zone) (last reached : ℤ) (order : reached ≤ℤ last) (kept : K
 
   pub goes_back : (c : Change) → IsLastChange (TypeAt z) (λ u. u ≤ℤ reached) c → c.before.offset ≡ c.after.offset
       → KeepsOffset (TypeAt z) (λ u. ((c.at -ℤ pos 1) <ℤ u) × (u ≤ℤ last))
-  goes_back c next same d is inside = by_lt_z reached d.at
-      (λ l. kept d is (l, inside.1))
-      (λ m. let most = next.nearest d is.is m in kept_one z c d is next.is (grind linear) same)
+  goes_back c next same d is inside = grind (linear, kept_one z c d is next.is)

@@ -4,7 +4,7 @@ use Rattle.tz_info.proofs.{
   GapLaws.near_type,
   LeapStarts.saturated,
   SegmentLaws.{begin_first, begins_rise, come_from, place_most, places_rise},
-  WallSegments.{near_of, near_wide, offset_there},
+  WallSegments.{near_of, near_wide, type_there},
   Words.{AreRising, IsFirstAtOrAfter, IsNear, IsRuleOrNone, IsTable, IsUtOffset, IsValid, IsWide, IsWindowOf, List, LocalType, SFits, Some},
   Words.{Transition, TypeAt, Zone, [], arith, begin_of, by_lt_z, cases_lt, get_or, get_or_append_left, get_or_push, index_of, inl, inr, length},
   Words.{length_push, linear, place_at, pos, rises, saturate_signed, slice_get, suc, w64, zero, ℕ, ℤ, ◌++◌, ◌+ℤ◌, ◌-ℤ◌, ◌<ℤ◌, ◌<◌, ◌↔◌, ◌∷◌, ◌≡◌},
@@ -98,7 +98,7 @@ module _ (z : Zone) (ts : List Transition) (top k : ℕ) (l : ℤ) (table : IsTa
             (λ earlier.
             let rise = places_rise ts v at table.rising (omega linear) in
             let less = shows_less z ts top k l v s table first.within (near_wide l wide) first.before h.fits in
-            let one = offset_there z ts top k t table own is.listed is.offset v s h.fits in
+            let one = type_there z ts top k v s t table own h.fits is.listed in
             grind (linear, less, one, is.from v, begun_by ts k v table.rising first.within))
             (λ m. m);
       }

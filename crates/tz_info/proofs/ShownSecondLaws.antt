@@ -3,7 +3,7 @@ use Rattle.std.specs.Prelude.{if◌then◌else◌}
 use Rattle.tz_info.proofs.{
   ExtremeLaws.{at_least_least, at_most_greatest},
   Words.{AreEndsWithin, AreShownWithin, AreWithin, Bool, HaveOneTypeFrom, IsEndWithin, IsFirstAtOrAfter, IsGreatest, IsLeast, IsNeverWithin, IsNextRun},
-  Words.{IsWindowOf, IsWithinRun, LocalType, None, Option, Precedes, SFits, ShownSeconds, ShowsWithin, Some, TypeAt, Zone, arith, by_lt_z, false, linear},
+  Words.{IsWindowOf, IsWithinRun, LocalType, None, Option, Precedes, SFits, ShownSeconds, ShowsWithin, Some, TypeAt, Zone, arith, false, linear},
   Words.{offsets, pos, refl, subst, true, unsigned_abs, w64, ℤ, ◌+ℤ◌, ◌-ℤ◌, ◌<ℤ◌, ◌<◌, ◌≡◌, ◌≤ℤ◌},
   ZoneLaws.type_once,
 }
@@ -14,9 +14,7 @@ pub all_within : (z : Zone) (from until low high : ℤ) → IsWindowOf z from un
 all_within z _ _ low _ w = record {
   near_low = w.near_low;
   near_high = w.near_high;
-  within = λ u t h.
-      let most = at_most_greatest z u _ t w.greatest h.type in let fewest = at_least_least z u _ t w.least h.type in
-      grind linear;
+  within = λ u t h. grind (linear, at_most_greatest z u _ t w.greatest h.type, at_least_least z u _ t w.least h.type);
 }
 
 pub none_left : (z : Zone) (from until low high : ℤ) → AreWithin z from until low high → high ≤ℤ low → IsNeverWithin (TypeAt z) from until
@@ -28,8 +26,7 @@ module _ (z : Zone) (from until low high start end : ℤ) (t : LocalType) (all :
   -- in the run a second shows a local time of the stretch if and only if it lies between two seconds
   in_run : (u : ℤ) (s : LocalType) → start ≤ℤ u → u <ℤ end → ShowsWithin (TypeAt z) from until u s
       → IsWithinRun start end (from -ℤ t.offset) (until -ℤ t.offset) u
-  in_run u s low high h =
-      let k = subst (ShowsWithin (TypeAt z) from until u) (type_once z u s t h.type (type u low high)) h in grind linear
+  in_run u s low high h = grind (linear, type_once)
 
   to_run : (u : ℤ) → SFits w64 u → IsWithinRun start end (from -ℤ t.offset) (until -ℤ t.offset) u → ShowsWithin (TypeAt z) from until u t
   to_run u fits is = grind linear
@@ -37,40 +34,18 @@ module _ (z : Zone) (from until low high start end : ℤ) (t : LocalType) (all :
   -- what the next run leaves, if it has none
   pub goes_on : (w : Bool) → IsNextRun w low high start end → ((u : ℤ) → IsWithinRun start end (from -ℤ t.offset) (until -ℤ t.offset) u → ⊥)
       → AreWithin z from until (if w then end else low) (if w then high else start)
-  goes_on true run none = record {
-    near_low = (omega linear, omega linear);
-    near_high = all.near_high;
-    within = λ u s h. let (since, before) = all.within u s h in
-        (by_lt_z u end (λ l. absurd (none u (in_run u s (omega linear) l h))) (λ m. m), before);
-  }
-  goes_on false run none = record {
-    near_low = all.near_low;
-    near_high = (omega linear, omega linear);
-    within = λ u s h. let (since, before) = all.within u s h in
-        (since, by_lt_z u start (λ l. l) (λ m. absurd (none u (in_run u s m (omega linear) h))));
-  }
+  goes_on w run none = grind (linear, in_run)
 
   -- the first such second of the next run is the first of all, or the last one the last of all
   pub found_in_run : (w : Bool) (u : ℤ) → SFits w64 u → IsNextRun w low high start end → IsWithinRun start end (from -ℤ t.offset) (until -ℤ t.offset) u
       → ((v : ℤ) → IsWithinRun start end (from -ℤ t.offset) (until -ℤ t.offset) v → Precedes w u v) → IsEndWithin w (TypeAt z) from until u t
-  found_in_run true u fits run is least = record {
-    shown = to_run u fits is;
-    first = λ v s h. let (since, before) = all.within v s h in by_lt_z v end
-        (λ l. least v (in_run v s (omega linear) l h))
-        (λ m. omega linear);
-  }
-  found_in_run false u fits run is greatest = record {
-    shown = to_run u fits is;
-    last = λ v s h. let (since, before) = all.within v s h in by_lt_z v start
-        (λ l. omega linear)
-        (λ m. greatest v (in_run v s m (omega linear) h));
-  }
+  found_in_run true u fits run is least = record { shown = to_run u fits is; first = λ v s h. grind (linear, all.within v s h, in_run v s, least v) }
+  found_in_run false u fits run is greatest = record { shown = to_run u fits is; last = λ v s h. grind (linear, all.within v s h, in_run v s, greatest v) }
 
 -- it leaves less
 pub leaves_less : (w : Bool) (low high start end : ℤ) → low <ℤ high → IsNextRun w low high start end
     → unsigned_abs ((if w then high else start) -ℤ (if w then end else low)) < unsigned_abs (high -ℤ low)
-leaves_less true low _ _ end h run = omega linear
-leaves_less false low high start end h run = omega linear
+leaves_less w low high start end h run = grind linear
 
 -- ---- there is no other answer
 -- of two seconds none comes before the other
@@ -116,4 +91,4 @@ one_first z local u v s t h k = grind (linear, one_end)
 
 pub first_rises : (z : Zone) (local later u v : ℤ) (s t : LocalType) → local ≤ℤ later → IsFirstAtOrAfter (TypeAt z) local u s
     → IsFirstAtOrAfter (TypeAt z) later v t → u ≤ℤ v
-first_rises z _ _ u v s t rise h k = h.first v t (grind linear)
+first_rises z l m u v s t rise h k = grind linear

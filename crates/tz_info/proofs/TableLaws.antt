@@ -1,5 +1,4 @@
 -- What a zone's entries say of its table: the seconds before the last transition, or without a rule all, by the segments between entries.
-use Rattle.tz_base.specs.LocalTypes.{IsUtOffset}
 use Rattle.tz_info.proofs.{
   EntryChanges.{index_there, looks_most},
   ExtremeLaws.window_made,
@@ -8,11 +7,11 @@ use Rattle.tz_info.proofs.{
   SegmentLaws.{come_at_time, come_from, place_before, place_begin, place_most, segment_here, segment_most},
   TableSearch.search_found,
   WallSegments.{indexes_below, leap_time_of, near_fits, shown_inside, type_in_table, type_of_table, typed_answer},
-  Words.{AreBelow, AreExtremes, AreLess, AreListed, Change, Counts, Extremes, HasGap, HasReach, HasType, IsBegin, IsBegun, IsBegunNear, IsIndex},
-  Words.{IsJump, IsLeapTime, IsRuleOrNone, IsShownAmong, IsStart, IsTable, IsTableAnswer, IsTableLess, IsValid, IsWallAnswer, IsWide, IsWindowOf},
+  Words.{AreBelow, AreExtremes, AreLess, AreListed, Change, Counts, Extremes, HasGap, HasReach, IsBegin, IsBegun, IsBegunNear, IsIndex, IsJump},
+  Words.{IsLeapTime, IsRuleOrNone, IsShownAmong, IsStart, IsTable, IsTableAnswer, IsTableLess, IsValid, IsWallAnswer, IsWide, IsWindowOf},
   Words.{LocalResult, LocalType, MatchOption, None, Option, RoseWithin, SFits, Shown, ShownAmong, Some, TransitionRule, TypeAt, WallIndex, Zone, []},
   Words.{arith, begin_of, cases_lt, index_of, inl, inr, least_time, length, linear, offsets, place_at, pos, refl, segment_of, shown_indexes},
-  Words.{slice_get, suc, sym, table_count, top_of, w32, w64, zero, ℕ, ℤ, ◌*◌, ◌-ℤ◌, ◌<ℤ◌, ◌<◌, ◌↔◌, ◌∙◌, ◌≡◌, ◌≤ℤ◌, ◌≤◌},
+  Words.{slice_get, suc, sym, table_count, top_of, w32, w64, zero, ℕ, ℤ, ◌*◌, ◌-ℤ◌, ◌<ℤ◌, ◌<◌, ◌↔◌, ◌∙◌, ◌≡◌, ◌≤ℤ◌, ◌≤◌, IsSegment, Segment},
   ZoneChanges.time_of,
 }
 use Rattle.tz_info.specs.{
@@ -132,9 +131,8 @@ module _ (z : Zone) (e : Entries) (s : ℤ) (none : length e.items ≡ 0) (begun
   pub no_segments : top_of z.rule e ≡ 0 → IsIndex z e (plain Less)
   no_segments top = is_plain Less (grind arith)
 
-  pub one_segment : (t : LocalType) → IsValid z → AreEntries z e → 0 < top_of z.rule e → HasType z (index_of e.items 0) t → IsUtOffset t.offset
-      → IsIndex z e (plain (Once (index_of e.items 0)))
-  one_segment t valid made some has offset =
+  pub one_segment : (a : Segment) → IsValid z → AreEntries z e → 0 < top_of z.rule e → IsSegment z.types e.items 0 a → IsIndex z e (plain (Once a.index))
+  one_segment a valid made some is =
       let table = table_of z e valid made in
       let top : top_of z.rule e ≡ 1 = omega arith in
-      is_plain _ (rw top (grind (arith, shown_inside z e.items (top_of z.rule e) 0 t table some has offset)))
+      is_plain _ (rw top (grind (arith, shown_inside z e.items (top_of z.rule e) 0 a table some is)))

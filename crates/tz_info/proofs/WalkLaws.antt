@@ -6,11 +6,11 @@ use Rattle.tz_info.proofs.{
   ExtremeLaws.{at_least_least, at_most_greatest},
   SegmentLaws.{between_of, later_segment, segment_at, segment_here, segment_is, segments_rise, type_from, type_in_from, within_of},
   TableSearch.Between,
-  WallSegments.{leap_time_of, near_of, offset_here, rule_begun, type_of_table},
+  WallSegments.{leap_time_of, near_of, offset_in_table, rule_begun, type_of_table},
   Words.{AreRising, AreUtOffsets, Bool, Counts, IsNear, IsShownIn, IsStart, IsTried, IsValid, IsWallAnswer, IsWide, IsWindow, List, LocalResult, LocalType},
-  Words.{None, Option, RoseByWalk, RoseWithin, RuleAt, Shows, Some, Transition, TransitionRule, TypeAt, TypeFrom, Zone, [], ap, arith, begin_of, cases_lt},
+  Words.{None, Option, RoseByWalk, RoseWithin, RuleAt, Shows, Some, Transition, TransitionRule, TypeAt, TypeFrom, Zone, [], arith, begin_of, cases_lt},
   Words.{come_between, digits, digits-le, filter, get_or, get_or_default, index_of, inl, inr, least_time, length, linear, reads_more, segment_of, suc, sym},
-  Words.{table_count, true, zero, ℕ, ℤ, ⊎_elim, ◌+ℤ◌, ◌+◌, ◌-ℤ◌, ◌<ℤ◌, ◌<◌, ◌∙◌, ◌∷◌, ◌≡◌, ◌≤ℤ◌, ◌≤◌, ◌⊎◌},
+  Words.{table_count, true, zero, ℕ, ℤ, ⊎_elim, ◌+ℤ◌, ◌+◌, ◌-ℤ◌, ◌<ℤ◌, ◌<◌, ◌∷◌, ◌≡◌, ◌≤ℤ◌, ◌≤◌, ◌⊎◌},
 }
 use Rattle.tz_info.specs.Steps.Walk.{IsTimeWithin}
 
@@ -27,12 +27,7 @@ IsNextAt z i until = ((d : Transition) × (i < length z.transitions) × (until �
 tested : (z : Zone) (i : ℕ) (since x : ℤ) (until : Option ℤ) → AreRising z.transitions → i ≤ length z.transitions
     → since ≡ begin_of z.transitions i → IsNextAt z i until
     → (IsTimeWithin since until x → Between z.transitions x i i) × (least_time ≤ℤ x → Between z.transitions x i i → IsTimeWithin since until x)
-tested z i _ x _ r w b (inl (d, h, e)) = (
-  λ t. between_of _ i x r w (record { since = rw b at t.from; until = λ f l. rw (get_or_default z.transitions i f d l) (t.before _ e) }),
-  λ f t. let k = within_of _ i x f t in
-      grind linear,
-)
-tested z i since x until r w b (inr (h, e)) = grind (arith, between_of, within_of)
+tested z i since x until r w b n = grind (linear, between_of, within_of, get_or_default)
 
 -- one segment more of the table was tried, of whose seconds at most one shows the local time
 pub tried_segment : (z : Zone) (l : ℤ) (i : ℕ) (since : ℤ) (until : Option ℤ) (before after : LocalResult LocalType) → IsValid z → i ≤ length z.transitions
@@ -49,7 +44,7 @@ tried_segment z l i _ _ _ _ valid inside own begin next k s =
     (λ m. inl (grind arith))
     (λ m.
     let e : segment_of z u ≡ i = omega arith in
-    let o = offset_here z i u f _ valid own k.candidate.listed e h.shows.type in grind linear)
+    let o = offset_in_table z i u f _ valid own k.candidate.listed e h.shows.type in grind linear)
     (cases_lt (segment_of z u) i) in
     ⊎_elim
     (λ h.
@@ -66,14 +61,13 @@ tried_segment z l i _ _ _ _ valid inside own begin next k s =
 pub with_rule : (z : Zone) (rule : TransitionRule) (start l : ℤ) → IsValid z → z.rule ≡ Some rule → IsStart z.transitions z.leaps (length z.transitions) start
     → IsWide l → AreUtOffsets rule
     → Parts (IsShownIn z l (length z.transitions)) (Shows (TypeFrom rule start) l) (IsShownIn z l (length z.transitions + 1))
-with_rule z rule _ l valid is begun wide offsets = record {
+with_rule z rule start l valid is begun wide offsets = record {
   first = λ u t k. grind arith;
   last = λ u t k.
       let near = near u t k.type.type k.shown in
       let there = (rule_begun z u _ valid near begun).1 k.type.since in
       let time = leap_time_of z u valid near in
-      let b =
-      rw (sym time.1.sum) at (segment_at z u _ valid.transitions.rising there) in
+      let b = rw (sym time.1.sum) at (segment_at z u _ valid.transitions.rising there) in
       let type = type_in_from z u _ t time.1 b (rw is k.type.type) in
       grind linear;
   all = λ u t k. elim (cases_lt (segment_of z u) (length z.transitions)) [
@@ -81,54 +75,36 @@ with_rule z rule _ l valid is begun wide offsets = record {
     | inr h ↦
         let there : segment_of z u ≡ length z.transitions = let b = k.below in omega arith in
         let type = rw is at (type_from z u t valid.transitions.rising (record { type = k.shows.type; segment = there })) in
-        inr
-        (record {
-          fits = k.shows.fits;
-          type = record { type = type; since = (rule_begun z u _ valid (near u t type k.shows.shown) begun).0 there };
-          shown =
-              k.shows.shown;
-        })
+        let n = rule_begun z u start valid (near u t type k.shows.shown) begun in grind linear
   ];
-  order = λ u v s t a b. later_segment z u v valid (
-      let there = (rule_begun z v _ valid (near v t b.type.type b.shown) begun).1 b.type.since in omega arith);
+  order = λ u v s t a b. let n = rule_begun z v start valid (near v t b.type.type b.shown) begun in later_segment z u v valid (grind linear);
 } where
   near : (u : ℤ) (t : LocalType) → RuleAt rule u t → u +ℤ t.offset ≡ l → IsNear u
-  near u t k e = let n = near_of l _ wide (offsets _ (offset_of_rule _ u t k)) in let g : l -ℤ t.offset ≡ u = omega linear in rw g at n
+  near u t k e = grind (linear, near_of l t.offset wide, offsets t.offset, offset_of_rule _ u t k)
 
 -- ---- nothing lies outside
 -- a local time's window
 module _ (z : Zone) (l low high : ℤ) (n : ℕ) (valid : IsValid z) (w : IsWindow z l low high) where
   pub none_before : Between z.transitions low n n → IsWallAnswer (IsShownIn z l n) Never
-  none_before b = λ u t k.
-      let o = at_most_greatest z u _ t w.is_greatest k.shows.type in
-      let g : (l -ℤ w.greatest) ≤ℤ u = omega linear in
-      let r = segments_rise z _ u valid.transitions.rising valid.leaps g in
-      let e = segment_is z _ n (rw w.is_low.sum at b) in grind arith
+  none_before b = λ u t k. let e = segment_is z _ n (rw w.is_low.sum at b) in
+      grind (linear, segments_rise z (l -ℤ w.greatest) u valid.transitions.rising valid.leaps, at_most_greatest z u _ t w.is_greatest k.shows.type)
 
   -- a transition that comes after the window
   module _ (d : Transition) (within : n < length z.transitions) (later : high <ℤ (get_or z.transitions n d).unix_leap_time) where
     -- a second that shows the local time by the least offset or a greater one lies at or before its segment
     pub window_most : (u o : ℤ) → w.least ≤ℤ o → u +ℤ o ≡ l → segment_of z u ≤ n
-    window_most u o least e =
-        let r = segments_rise z u (l -ℤ w.least) valid.transitions.rising valid.leaps (omega linear) in grind (arith, segment_here)
+    window_most u o least e = grind (linear, segments_rise z u (l -ℤ w.least), segment_here)
 
     pub none_behind : (answer : LocalResult LocalType) → IsWallAnswer (IsShownIn z l (n + 1)) answer → IsWallAnswer (Shows (TypeAt z) l) answer
-    none_behind _ s = same_answer _ _ _ (λ u t k. k.shows)
-        (λ u t k. record {
-          shows = k;
-          from = omega arith;
-          below = let most = window_most u _ (at_least_least z u _ t w.is_least k.type) k.shown in omega arith;
-        }) s
+    none_behind answer s = grind (linear, same_answer, window_most, at_least_least)
 
 window_least : {X : Type 0} (p : X → Bool) (xs : List X) (a b : ℕ) → b ≤ length xs → ((k : ℕ) (d : X) → a ≤ k → k < b → p (get_or xs k d) ≡ true)
     → b ≤ a + length (filter p xs)
 window_least p [] a b h all = omega arith
 window_least p (x ∷ xs) a zero h all = omega arith
-window_least p (x ∷ xs) zero (suc b) h all =
-    let r = window_least p xs zero b (omega arith) (λ k d l m. all (suc k) d (omega arith) (omega arith)) in
-    rw (all 0 x (omega arith) (omega arith)) (omega arith)
+window_least p (x ∷ xs) zero (suc b) h all = grind (arith, all 0 x, window_least p xs zero b (omega arith) (λ k d l m. all (suc k) d (omega arith) (omega arith)))
 window_least p (x ∷ xs) (suc a) (suc b) h all =
-    let r = window_least p xs a b (omega arith) (λ k d l m. all (suc k) d (omega arith) (omega arith)) in grind arith
+    grind (arith, window_least p xs a b (omega arith) (λ k d l m. all (suc k) d (omega arith) (omega arith)))
 
 -- the transitions walked through lie in the window
 pub walked_most : (ts : List Transition) (low high : ℤ) (first place : ℕ) → Between ts low first first → place ≤ length ts
@@ -146,31 +122,13 @@ pub record Walked (z : Zone) (high : ℤ) (first place : ℕ) (a b : Counts) : T
 
 pub walked_more : (z : Zone) (high : ℤ) (first place : ℕ) (x : Transition) (a b c : Counts) → place < length z.transitions → Walked z high first place a b
     → x ≡ get_or z.transitions place x → x.unix_leap_time ≤ℤ high → c ≡ reads_more b 1 → Walked z high first (place + 1) a c
-walked_more z _ _ place x a b c within w item le cost = rw cost (record {
-  inside = λ k d l m. elim (cases_lt k place) [
-    | inl i ↦ w.inside k d l i
-    | inr i ↦
-        let same : k ≡ place = omega arith in
-        let g = ap (λ (t : Transition). t.unix_leap_time) (get_or_default z.transitions place d x within ∙ sym item) in
-        rw same (omega linear)
-  ];
-  kept = omega arith;
-  most = omega arith;
-  questions = w.questions;
-  pieces = w.pieces;
-  looked = λ h. omega arith;
-})
+walked_more z h first place x a b c within w item le cost = grind (linear, get_or_default)
 
 pub one_look : (b c : Counts) → c ≡ reads_more b 1 → RoseWithin b c 1 2
 one_look b c cost = grind linear
 
 pub rose_by_walk : (z : Zone) (l low high : ℤ) (first place n : ℕ) (a b c : Counts) → IsWindow z l low high → Between z.transitions low first first
     → place ≤ length z.transitions → Walked z high first place a b → n ≤ 1 → RoseWithin b c n 2 → RoseByWalk z l a c
-rose_by_walk z l low high _ _ n a b c window split within w one r =
+rose_by_walk z l low high first place n a b c window split within w one r =
     let walked = walked_most _ low _ _ _ split within w.inside in
-    record {
-      window = length (come_between z.transitions low high);
-      counted = grind linear;
-      most = grind linear;
-      least = λ h. omega arith;
-    }
+    record { window = length (come_between z.transitions low high); counted = grind linear; most = grind linear; least = grind arith }

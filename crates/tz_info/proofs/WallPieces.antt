@@ -69,15 +69,12 @@ module _ (join : Join) (bx : Shown) (xs : List Piece) (by : Shown) (ys out : Lis
         in_y = m.in_y;
         ordered = all_pairs_push (λ (a b : Piece). a.start ≤ℤ b.start) out p m.ordered (grind linear);
         count = grind (arith, length_push);
-        ahead_x = λ d l. start_by_push out p _ (grind (linear, m.ahead_x d inside, order i (i + 1) d)) (grind (linear, order i (i + 1) d, starts d));
-        ahead_y = λ d l. start_by_push out p _ (m.ahead_y d l) (grind (linear, starts d, next.least d));
-        started = λ l h. let s = start_by_pushed out p l h in let t = m.started l s.0 in (rw more (start_by_push _ x l t.0 (omega linear)), t.1);
+        ahead_x = λ d l. grind (linear, start_by_push out p, m.ahead_x d inside, order i (i + 1) d, starts d);
+        ahead_y = λ d l. grind (linear, start_by_push out p, m.ahead_y d, starts d, next.least d);
+        started = λ l h. let s = start_by_pushed out p l h in rw more (grind (linear, m.started l s.0, start_by_push (take i xs) x l));
         answers = λ l. by_lt_z l p.start
             (λ before. let a = m.answers l in rw more (grind (linear, at_earlier)))
-            (λ from.
-            let all = at_all by _ l ((m.started l (grind linear)).1) in
-            let b = before_pushed bx (take i xs) x in
-            rw more (grind (linear, at_later, rw more at is)));
+            (λ from. rw more (grind (linear, at_later, at_all, m.started l, rw more at is, before_pushed bx (take i xs) x)));
       }
 
 -- the piece that comes next is added
@@ -105,15 +102,14 @@ module _ (b : Shown) (ps : List Piece) (l : ℤ) (n : ℕ) (passed : ArePassed (
   started = ap (answer_before b) (first_come (λ (p : Piece). p.start) ps l n passed)
 
   pub none_answers : IsLastOf ps n none → b ≡ answer_at b ps l
-  none_answers latest = let s = started in grind (arith, latest)
+  none_answers latest = grind (arith, started)
 
   pub latest_answers : (p : Piece) → IsLastOf ps n (some p) → p.answer ≡ answer_at b ps l
   latest_answers p latest = elim (cases_lt 0 n) [
     | inl h ↦
         let (x, is, at) = latest.some h in
-        let same = length-map ps (λ (p : Piece). p.start) in
         let e : n ≡ suc (n - 1) = omega arith in
-        let taken = last_taken (λ (q : Piece). q.answer) b ps (n - 1) x (grind (arith, passed.within)) in
-        let begun = rw e at started in grind arith
+        let taken = last_taken (λ (q : Piece). q.answer) b ps (n - 1) x in
+        let begun = rw e at started in grind (arith, length-map, passed.within)
     | inr g ↦ grind (arith, latest.none)
   ]

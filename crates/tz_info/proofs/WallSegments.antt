@@ -6,12 +6,11 @@ use Rattle.tz_info.proofs.{
   LeapOrder.leap_times_answer,
   LeapStarts.{saturated, saturated_rise},
   SegmentLaws.{begins_rise, come_at_time, come_from, place_most, places_rise, segment_most, type_before, type_from, type_in_before, type_in_from},
-  ShownLaws.{side_together, wall_together},
   TableSearch.Between,
-  Words.{AreBelow, AreListed, ArePieces, AreRising, HasType, IsLeapTime, IsMerged, IsNear, IsShownAmong, IsShownIn, IsStart, IsTable, IsUtOffset, IsValid},
-  Words.{IsWallAnswer, IsWide, List, ListedAmong, LocalResult, LocalType, None as none, Option, Piece, SFits, Shown, ShownAmong, Shows, Some as some},
-  Words.{Transition, TransitionRule, TypeAt, TypeIn, Zone, [], ap, arith, begin_of, by_lt_z, cases_lt, cut_of, index_of, inl, inr, le_false, le_true, length},
-  Words.{linear, place_at, refl, segment_of, suc, table_count, table_count_by, together, w64, zero, ℕ, ℤ, ⊎_elim, ◌+ℤ◌, ◌+◌, ◌-ℤ◌, ◌<ℤ◌, ◌<◌, ◌↔◌, ◌∷◌, ◌≡◌},
+  Words.{AreBelow, AreListed, ArePieces, AreRising, HasType, IsLeapTime, IsMerged, IsNear, IsSegment, IsShownAmong, IsShownIn, IsSideAmong, IsStart, IsTable, IsUtOffset, IsValid},
+  Words.{IsWallAnswer, IsWide, List, ListedAmong, LocalResult, LocalType, None as none, Option, Piece, SFits, Segment, Shown, ShownAmong, Shows, Some as some},
+  Words.{Transition, TransitionRule, TypeAt, TypeIn, Zone, [], arith, begin_of, by_lt_z, cases_lt, cut_of, index_of, inl, inr, joined, le_false, le_true, length},
+  Words.{linear, place_at, refl, segment_of, shown_indexes, suc, table_count, table_count_by, together, w64, zero, ℕ, ℤ, ⊎_elim, ◌+ℤ◌, ◌+◌, ◌-ℤ◌, ◌<ℤ◌, ◌<◌, ◌↔◌, ◌∷◌, ◌≡◌},
   Words.{◌≤ℤ◌, ◌≤◌, ◌⊎◌},
   ZoneLaws.leap_time_decided,
 }
@@ -42,8 +41,8 @@ type_of_table z k u x t own time b has = elim (own_segment z.rule k _ own) [
 -- a second of the segment k, which has the type t
 module _ (z : Zone) (k : ℕ) (u : ℤ) (f t : LocalType) (valid : IsValid z) (own : k < table_count z) (has : HasType z (index_of z.transitions k) t)
     (e : segment_of z u ≡ k) (h : TypeAt z u f) where
-  pub offset_here : f.offset ≡ t.offset
-  offset_here = let a = type_in_table z k u f valid.transitions.rising own (record { type = h; segment = e }) in cc
+  pub offset_in_table : f.offset ≡ t.offset
+  offset_in_table = let a = type_in_table z k u f valid.transitions.rising own (record { type = h; segment = e }) in cc
 
 pub leap_time_of : (z : Zone) (u : ℤ) → IsValid z → IsNear u → (x : ℤ) × IsLeapTime z.leaps u x
 leap_time_of z u valid near = ⊎_elim (λ x. x) (λ r. absurd (leap_times_answer _ u valid.leaps near.0 near.1 r)) (leap_time_decided _ u)
@@ -63,7 +62,14 @@ module _ (z : Zone) (k : ℕ) (s u : ℤ) (valid : IsValid z) (start : IsStart z
 
 -- ---- two neighbouring sets of segments between entries
 
-shown_joined : (z : Zone) (ts : List Transition) (low middle high : ℕ) (l : ℤ) (a b : Shown) → AreRising ts → low ≤ middle → middle ≤ high
+wall_together : (a b : Shown) → shown_indexes (together a b) ≡ joined (shown_indexes a) (shown_indexes b)
+wall_together a b = grind arith
+
+side_together : (z : Zone) (ts : List Transition) (low : ℕ) (l : ℤ) (middle high : ℕ) (a b : Shown) → middle ≤ high
+    → IsSideAmong z ts low middle l a → IsSideAmong z ts middle high l b → IsSideAmong z ts low high l (together a b)
+side_together z ts low l middle high a b h c d = grind arith
+
+pub shown_joined : (z : Zone) (ts : List Transition) (low middle high : ℕ) (l : ℤ) (a b : Shown) → AreRising ts → low ≤ middle → middle ≤ high
     → IsShownAmong z ts low middle l a → IsShownAmong z ts middle high l b → IsShownAmong z ts low high l (together a b)
 shown_joined z ts low middle high l a b rising h k x y = record {
   wall = rw (wall_together a b) (joined_answer (ListedAmong z ts low middle l) (ListedAmong z ts middle high l) _ _ _ (record {
@@ -99,31 +105,33 @@ opening_none : (k : ℕ) → 0 < k → opening k ≡ 0
 opening_none zero h = absurd (omega arith)
 opening_none (suc k) h = refl
 
--- a segment of a table, and its type
-module _ (z : Zone) (ts : List Transition) (top k : ℕ) (t : LocalType) (table : IsTable z ts top) (own : k < top) (has : HasType z (index_of ts k) t)
-    (offset : IsUtOffset t.offset) where
-  pub offset_there : (u : ℤ) (f : LocalType) → SFits w64 u → place_at ts u ≡ k → TypeAt z u f → f.offset ≡ t.offset
-  offset_there u f fits e h = ap (λ (x : LocalType). x.offset) (type_there z ts top k u f t table own fits has e h)
+-- a segment of a table
+module _ (z : Zone) (ts : List Transition) (top k : ℕ) (s : Segment) (table : IsTable z ts top) (own : k < top) (is : IsSegment z.types ts k s) where
+  offset_here : (u : ℤ) (f : LocalType) → SFits w64 u → place_at ts u ≡ k → TypeAt z u f → f.offset ≡ s.offset
+  offset_here u f fits e h = let a = table.listed u f fits (omega arith) h in cc
 
   module _ (l : ℤ) (wide : IsWide l) where
+    near_here : IsNear (l -ℤ s.offset)
+    near_here = near_of l _ wide (rw is.offset is.is_offset)
+
     -- the one second that could show the local time by that type lies in or after a segment if and only if the cut has come
-    cut_begun : (j : ℕ) → 0 < j → j ≤ length ts → (j ≤ place_at ts (l -ℤ t.offset)) ↔ (cut_of ts j t.offset ≤ℤ l)
+    cut_begun : (j : ℕ) → 0 < j → j ≤ length ts → (j ≤ place_at ts (l -ℤ s.offset)) ↔ (cut_of ts j s.offset ≤ℤ l)
     cut_begun j inner within = grind (linear, saturated, come_from ts j, near_wide l)
 
-    second_of : (v : ℤ) (j : ℕ) → ListedAmong z ts k (suc k) l v j → v ≡ l -ℤ t.offset
-    second_of v j a = grind (linear, offset_there v a.local_type)
+    second_of : (v : ℤ) (j : ℕ) → ListedAmong z ts k (suc k) l v j → v ≡ l -ℤ s.offset
+    second_of v j a = grind (linear, offset_here v a.local_type)
 
     -- if it comes after the segment's end, its clocks show less
-    shown_behind : k < length ts → cut_of ts (suc k) t.offset ≤ℤ l → IsShownAmong z ts k (suc k) l Less
+    pub shown_behind : k < length ts → cut_of ts (suc k) s.offset ≤ℤ l → IsShownAmong z ts k (suc k) l Less
     shown_behind inner h =
         let passed = (cut_begun (suc k) (omega arith) (omega arith)).1 h in
         record {
           wall = λ v j m. grind (linear, second_of v j m);
-          side = λ u f near from below here. grind (linear, offset_there u f (near_fits u near), places_rise ts (l -ℤ t.offset) u);
+          side = λ u f near from below here. grind (linear, offset_here u f (near_fits u near), places_rise ts (l -ℤ s.offset) u);
         }
 
     -- if it comes before its beginning, clocks jump over it there
-    shown_before : 0 < k → l <ℤ cut_of ts k t.offset → IsShownAmong z ts k (suc k) l (Skipped k)
+    pub shown_before : 0 < k → l <ℤ cut_of ts k s.offset → IsShownAmong z ts k (suc k) l (Skipped k)
     shown_before inner h =
         let cut = cut_begun k inner (omega arith) in
         record {
@@ -132,26 +140,27 @@ module _ (z : Zone) (ts : List Transition) (top k : ℕ) (t : LocalType) (table 
             some = inner;
             inside = omega arith;
             less = grind arith;
-            seen = l -ℤ t.offset;
-            near = near_of l _ wide offset;
+            seen = l -ℤ s.offset;
+            near = near_here;
             later = grind linear;
-            more = λ f is. let e : f.offset ≡ t.offset = cc in grind (linear, saturated (begin_of ts k +ℤ t.offset) l (near_wide l wide));
+            more = λ f has. let e : f.offset ≡ s.offset = cc in grind (linear, saturated (begin_of ts k +ℤ s.offset) l (near_wide l wide));
           };
         }
 
     -- if it lies between the segment's cuts, the segment shows it once
-    pub shown_inside : (0 < k → k ≤ length ts → cut_of ts k t.offset ≤ℤ l) → (k < length ts → l <ℤ cut_of ts (suc k) t.offset)
-        → IsShownAmong z ts k (suc k) l (Once (index_of ts k))
+    pub shown_inside : (0 < k → k ≤ length ts → cut_of ts k s.offset ≤ℤ l) → (k < length ts → l <ℤ cut_of ts (suc k) s.offset)
+        → IsShownAmong z ts k (suc k) l (Once s.index)
     shown_inside from until =
-        let u = l -ℤ t.offset in
-        let near = near_of l _ wide offset in
+        let u = l -ℤ s.offset in
+        let near = near_here in
         let most = place_most ts u table.rising in
         let here : place_at ts u ≡ k = grind (linear, cut_begun k, cut_begun (suc k)) in
-        let type = table.in_force u t near (omega arith) (rw here has) in
+        let type = table.in_force u is.type near (omega arith) (rw here is.listed) in
+        let index = is.index in let offset = is.offset in
         record { wall = record { second = u; shown = grind linear; only = second_of }; side = tt }
 
   -- the pieces of the first segment, which has no start
-  pub first_pieces : k ≡ 0 → 0 < length ts → ArePieces z ts k (suc k) (Once (index_of ts k)) (piece (cut_of ts (suc k) t.offset) Less ∷ [])
+  pub first_pieces : k ≡ 0 → 0 < length ts → ArePieces z ts k (suc k) (Once s.index) (piece (cut_of ts (suc k) s.offset) Less ∷ [])
   first_pieces first n = record {
     ordered = search arith;
     most = rw first (grind arith);
@@ -160,7 +169,7 @@ module _ (z : Zone) (ts : List Transition) (top k : ℕ) (t : LocalType) (table 
   }
 
   -- of the last one, which has no end
-  pub last_pieces : 0 < k → k ≡ length ts → ArePieces z ts k (suc k) (Skipped k) (piece (cut_of ts k t.offset) (Once (index_of ts k)) ∷ [])
+  pub last_pieces : 0 < k → k ≡ length ts → ArePieces z ts k (suc k) (Skipped k) (piece (cut_of ts k s.offset) (Once s.index) ∷ [])
   last_pieces later n = record {
     ordered = search arith;
     most = grind (arith, opening_none);
@@ -170,15 +179,15 @@ module _ (z : Zone) (ts : List Transition) (top k : ℕ) (t : LocalType) (table 
 
   -- and of one between two entries
   pub inner_pieces : 0 < k → k < length ts
-      → ArePieces z ts k (suc k) (Skipped k) (piece (cut_of ts k t.offset) (Once (index_of ts k)) ∷ piece (cut_of ts (suc k) t.offset) Less ∷ [])
+      → ArePieces z ts k (suc k) (Skipped k) (piece (cut_of ts k s.offset) (Once s.index) ∷ piece (cut_of ts (suc k) s.offset) Less ∷ [])
   inner_pieces later n =
       let rise = begins_rise ts _ table.rising later n in
-      let order : cut_of ts k t.offset ≤ℤ cut_of ts (suc k) t.offset = saturated_rise _ _ (omega linear) in
+      let order : cut_of ts k s.offset ≤ℤ cut_of ts (suc k) s.offset = saturated_rise _ _ (omega linear) in
       record {
         ordered = grind linear;
         most = grind (arith, opening_none);
         some = grind arith;
-        answers = λ l wide. by_lt_z l (cut_of ts k t.offset)
+        answers = λ l wide. by_lt_z l (cut_of ts k s.offset)
             (λ before. grind (linear, le_false, shown_before l wide))
             (λ from. grind (linear, le_false, le_true, shown_inside l wide, shown_behind l wide));
       }

@@ -57,8 +57,9 @@ pub record ArePieces (z : Zone) (entries : List Transition) (low high : ℕ) (be
 -- the index and the offset are those of the type in the segment at that place
 pub record IsSegment (types : List LocalType) (entries : List Transition) (place : ℕ) (segment : Segment) : Type 0 where
   pub index : segment.index ≡ index_of entries place
+  pub below : segment.index < length types
   pub type : LocalType
-  pub listed : slice_get types segment.index ≡ some type
+  pub listed : slice_get types (index_of entries place) ≡ some type
   pub is_offset : IsUtOffset type.offset
   pub offset : segment.offset ≡ type.offset
 
@@ -79,21 +80,16 @@ pub record IsFold (end start : ℤ) (index_before index : ℕ) (first last : Pie
   pub next : last ≡ record { start = end; answer = Once index }
 
 -- the two pieces that begin when the segment at that place starts and the one before it ends
-pub record ArePiecesAt (types : List LocalType) (entries : List Transition) (place : ℕ) (first last : Piece) : Type 0 where
-  pub before : LocalType
-  pub type : LocalType
-  pub listed_before : slice_get types (index_of entries (place - 1)) ≡ some before
-  pub listed : slice_get types (index_of entries place) ≡ some type
-  pub offset_before : IsUtOffset before.offset
-  pub offset : IsUtOffset type.offset
-  pub pieces : IsGap place (cut_of entries place before.offset) (cut_of entries place type.offset) (index_of entries place) first last
-      ⊎ IsFold (cut_of entries place before.offset) (cut_of entries place type.offset) (index_of entries (place - 1)) (index_of entries place) first last
+abbrev pub ArePiecesAt : List Transition → ℕ → Segment → Segment → Piece → Piece → Type 0
+ArePiecesAt entries place before segment first last =
+    IsGap place (cut_of entries place before.offset) (cut_of entries place segment.offset) segment.index first last
+    ⊎ IsFold (cut_of entries place before.offset) (cut_of entries place segment.offset) before.index segment.index first last
 
 -- `cut` is a local time at which the segment before that place ends, or the one at that place starts
 pub record IsCutAt (types : List LocalType) (entries : List Transition) (place : ℕ) (cut : ℤ) : Type 0 where
-  pub type : LocalType
-  pub listed : (slice_get types (index_of entries (place - 1)) ≡ some type) ⊎ (slice_get types (index_of entries place) ≡ some type)
-  pub is_cut : cut ≡ cut_of entries place type.offset
+  pub segment : Segment
+  pub beside : IsSegment types entries (place - 1) segment ⊎ IsSegment types entries place segment
+  pub is_cut : cut ≡ cut_of entries place segment.offset
 
 -- the later of two neighbouring entries cuts the axis at or before a cut of the earlier one
 pub record AreCutsCrossed (types : List LocalType) (entries : List Transition) : Type 0 where

@@ -40,7 +40,7 @@ pub fn one_wall_clock_law()
 {}
 
 /// And it has one answer with both sides of its gap.
-#[tactic(auto, using(crate::proofs::AroundLaws::one_answer_around))]
+#[tactic(auto, using(crate::proofs::WallLaws::one_answer_around))]
 pub fn one_answer_around_law()
     ensures { (z : Zone) (local : ℤ) (a b : Around LocalType Change)
         → AreTypesAround (TypeAt z) local a → AreTypesAround (TypeAt z) local b → a ≡ b }

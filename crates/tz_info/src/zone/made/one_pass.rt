@@ -1,8 +1,8 @@
 //! The pieces of a zone's table in one pass over its entries, where their cuts come in order.
 
-ghost use Rattle.std.specs.Prelude.{◌≡◌, ◌<◌, ◌≤◌, ◌-◌, ◌<ℤ◌, ◌≤ℤ◌, length, ⊤, IsFalse, IsTrue, MatchOption};
+ghost use Rattle.std.specs.Prelude.{◌≡◌, ◌<◌, ◌≤◌, ◌<ℤ◌, ◌≤ℤ◌, length, ⊤, IsFalse, IsTrue, MatchOption};
 ghost use Rattle.std.specs.Prelude.{MatchResult};
-ghost use Rattle.tz_info.specs.Steps.Pieces.{zone_in, AreCutsCrossed, ArePieces, ArePiecesAt, IsSegment};
+ghost use Rattle.tz_info.specs.Steps.Pieces.{zone_in, AreCutsCrossed, ArePieces, ArePiecesAt};
 ghost use Rattle.tz_info.specs.Steps.{SegmentEnds.{AreEndsRising}, WallPieces.{IsTable}};
 
 use crate::zone::lists::kept::Kept;
@@ -37,7 +37,7 @@ pub(super) fn pieces_in_one_pass(
     let mut before = segment_at(lists.types, entries, 0);
     for place in 1..count {
         let behind = segment_at(lists.types, entries, place);
-        let (first, last) = pieces_at(lists, entries, place, before, behind);
+        let (first, last) = pieces_at(entries, place, before, behind);
         if is_crossed(place, latest, first.start) {
             return Ok(None);
         }
@@ -72,20 +72,13 @@ fn is_crossed(place: usize, latest: i64, cut: i64) -> bool
 // The pieces at the entry between the segment at that place and the one before: in a gap neither
 // shows the local time, in a fold both do.
 #[inline(always)]
-fn pieces_at(
-    lists: ZoneLists,
-    entries: &[Kept],
-    place: usize,
-    before: Segment,
-    behind: Segment,
-) -> (Piece, Piece)
+fn pieces_at(entries: &[Kept], place: usize, before: Segment, behind: Segment) -> (Piece, Piece)
     requires some { 0 < place }
     requires place { place ≤ length entries.now }
-    requires before { IsSegment lists.types.now entries.now (place - 1) before }
-    requires behind { IsSegment lists.types.now entries.now place behind }
     requires entries { length entries.now < 1_073_741_824 }
-    requires types { length lists.types.now < 1_073_741_824 }
-    ensures { ArePiecesAt lists.entry.types.now entries.now place result.0 result.1 }
+    requires before { before.index < 1_073_741_824 }
+    requires behind { behind.index < 1_073_741_824 }
+    ensures { ArePiecesAt entries.now place before behind result.0 result.1 }
 {
     let end = cut_of(entries, place, before.offset);
     let start = cut_of(entries, place, behind.offset);

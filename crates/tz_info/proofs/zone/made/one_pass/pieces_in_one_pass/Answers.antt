@@ -1,15 +1,15 @@
 use Rattle.tz_info.proofs.{
-  OnePass.{crossed_by, cuts_of, end_before, ends_rise, open_first, open_more},
-  Words.{SFits, add-one, arith, inl, linear, rules, suc, to_z-of_z, w64, zone_in, ◌-◌, ◌≡◌},
+  Fits.fits,
+  OnePass.{closed, crossed_by, cuts_of, ends_rise, open_first, open_more, whole},
+  Words.{SFits, add-one, arith, inl, linear, rules, w64, zone_in, ◌≡◌},
   zone.made.one_pass.pieces_in_one_pass.Goals.{else-count-entries, then-count-entries+else-is_crossed-2},
 }
 use Rattle.tz_info.proofs.zone.made.one_pass.pieces_in_one_pass.Goals as goal
 
 pub loop-place-init : goal.loop-place-init
 loop-place-init c = record {
-  pieces = rw c.in_ok-pieces.ensures.items (open_first (zone_in c.args.lists) c.args.entries.now c.args.count _ c.requires.table (grind arith) c.requires.some);
-  before = c.segment_at-before.ensures;
-  count = grind arith;
+  pieces = rw c.in_ok-pieces.ensures.items
+      (open_first (zone_in c.args.lists) c.args.entries.now c.args.count _ _ c.requires.table (grind arith) c.requires.some c.segment_at-before.ensures);
   room = grind arith;
 }
 
@@ -17,12 +17,11 @@ pub loop-place-preserved : goal.loop-place-preserved
 loop-place-preserved c =
     let ff : SFits w64 c.pieces_at-first.result.0.start = search rules in
     let fl : SFits w64 c.pieces_at-first.result.1.start = search rules in
-    let strict = simp to_z-of_z at (c.is_crossed.ensures.behind c.if-is_crossed.false) in
+    let strict = simp fits at (c.is_crossed.ensures.behind c.if-is_crossed.false) in
     rw add-one (record {
-      pieces = simp to_z-of_z (open_more (zone_in c.args.lists) c.args.entries.now c.loop-place.place _ _ c.pieces_at-first.ensures _ c.loop-place.pieces.items
-          _ c.loop-place.invariant.pieces strict c.args.count _ c.requires.table (omega arith) (omega arith) (grind arith));
-      before = let one : suc c.loop-place.place - 1 ≡ c.loop-place.place = omega arith in rw one c.segment_at-behind.ensures;
-      count = grind arith;
+      pieces = simp fits (open_more (zone_in c.args.lists) c.args.entries.now c.loop-place.place _ _ c.loop-place.pieces.items
+          _ c.loop-place.invariant.pieces _ _ _ c.pieces_at-first.ensures c.segment_at-behind.ensures c.args.count _ strict c.requires.table
+          (omega arith) (omega arith) (grind arith));
       room = grind arith;
     })
 
@@ -30,25 +29,21 @@ pub returns-then-is_crossed : goal.returns-then-is_crossed
 returns-then-is_crossed c =
     let ff : SFits w64 c.pieces_at-first.result.0.start = search rules in
     let within = c.requires.table.within in
-    let crossed = simp to_z-of_z at (c.is_crossed.ensures.crossed c.if-is_crossed.true) in
-    crossed_by (zone_in c.args.lists) _ c.loop-place.place _ _ _ _ (omega arith) crossed.0 c.loop-place.invariant.pieces
-    (cuts_of (zone_in c.args.lists) _ _ _ _ c.pieces_at-first.ensures).0 crossed.1
+    let crossed = simp fits at (c.is_crossed.ensures.crossed c.if-is_crossed.true) in
+    crossed_by (zone_in c.args.lists) _ c.loop-place.place _ _ _ _ c.loop-place.invariant.pieces _ (omega arith) crossed.0
+    (cuts_of (zone_in c.args.lists) _ _ _ _ _ _ c.loop-place.invariant.pieces _ _ _ c.pieces_at-first.ensures c.segment_at-behind.ensures).0 crossed.1
 
 pub returns-then-is_crossed-2 : goal.returns-then-is_crossed-2
 returns-then-is_crossed-2 c =
-    let fe : SFits w64 c.cut_of-end.result = search rules in
+    let fe = c.cut_of-end.type_inv in
     let fo : SFits w64 c.loop-place.before.offset = search rules in
     let until = c.loop-place.auto.place-end (omega arith) in
     let here : c.args.count ≡ c.loop-place.place = omega (arith, c.loop-place-test.false) in
-    let seg = c.loop-place.invariant.before in
-    let crossed = rw here at (simp to_z-of_z at (c.is_crossed-then-count-entries.ensures.crossed c.if-is_crossed-2.true)) in
+    let crossed = rw here at (simp fits at (c.is_crossed-then-count-entries.ensures.crossed c.if-is_crossed-2.true)) in
     let last = c.if-count-entries.true in
-    crossed_by (zone_in c.args.lists) _ c.loop-place.place _ _ _ _ (omega arith) crossed.0 c.loop-place.invariant.pieces
-    (record {
-      type = seg.type;
-      listed = inl (rw seg.index at seg.listed);
-      is_cut = rw (here, seg.offset) at (simp to_z-of_z at c.cut_of-end.ensures);
-    }) crossed.1
+    let o = c.loop-place.invariant.pieces in
+    crossed_by (zone_in c.args.lists) _ c.loop-place.place _ _ _ _ o _ (omega arith) crossed.0
+    (record { segment = _; beside = inl o.segment; is_cut = rw here at (simp fits at c.cut_of-end.ensures) }) crossed.1
 
 pub returns : goal.returns
 returns c =
@@ -57,23 +52,22 @@ returns c =
     let count = c.requires.count in
     let until = c.loop-place.auto.place-end (omega arith) in
     let here : c.args.count ≡ c.loop-place.place = omega (arith, c.loop-place-test.false) in
-    let seg = c.loop-place.invariant.before in
     let inv = c.loop-place.invariant.pieces in
     let fo : SFits w64 c.loop-place.before.offset = search rules in
     elim c.if-count-entries.branch [
       | then-count-entries+else-is_crossed-2 w ↦
-          let fe : SFits w64 w.cut_of-end.result = search rules in
+          let fe = w.cut_of-end.type_inv in
           let last = w.if-count-entries.true in
-          let cut = rw (here, seg.offset) at (simp to_z-of_z at w.cut_of-end.ensures) in
-          let strict = rw (here, cut) at (simp to_z-of_z at (w.is_crossed-then-count-entries.ensures.behind w.if-is_crossed-2.false)) in
-          let listed = rw seg.index at seg.listed in (
-            rw (w.pieces-is, w.push_reserved-then-count-entries.ensures.items, simp to_z-of_z at w.small-piece.ensures, cut, here, c.segment_at.ensures.index)
-                (inv.closed (omega arith) seg.type listed seg.is_offset strict),
-            λ k first below. ends_rise (zone_in c.args.lists) _ c.loop-place.place _ _ _ inv
-                (rw (← end_before _ _ c.loop-place.place seg.type listed) at strict) k first (omega arith),
+          let cut = rw here at (simp fits at w.cut_of-end.ensures) in
+          let strict = rw (here, cut) at (simp fits at (w.is_crossed-then-count-entries.ensures.behind w.if-is_crossed-2.false)) in (
+            rw (w.pieces-is, w.push_reserved-then-count-entries.ensures.items, simp fits at w.small-piece.ensures, cut, here, c.segment_at.ensures.index)
+                (closed (zone_in c.args.lists) _ _ _ _ _ _ inv (omega arith) strict (omega arith)),
+            λ k first below. ends_rise (zone_in c.args.lists) _ c.loop-place.place _ _ _ _ inv (omega arith) strict k first (omega arith),
           )
-      | else-count-entries w ↦ let more = w.if-count-entries.false in
-          (rw (w.pieces-is, here, c.segment_at.ensures.index) (inv.whole (omega arith)), λ k first below. inv.rising k first (omega arith))
+      | else-count-entries w ↦ let more = w.if-count-entries.false in (
+        rw (w.pieces-is, here, c.segment_at.ensures.index) (whole (zone_in c.args.lists) _ _ _ _ _ _ inv some (omega arith)),
+        λ k first below. inv.rising k first (omega arith),
+      )
     ]
 
 pub push_reserved-requires-then-count-entries : goal.push_reserved-requires-then-count-entries

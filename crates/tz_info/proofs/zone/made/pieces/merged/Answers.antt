@@ -1,4 +1,4 @@
-use Rattle.tz_info.proofs.{WallPieces.{merging_more, step_count}, Words.{SFits, ap, rules, to_z-of_z, w64, ◌+◌, ◌∙◌}}
+use Rattle.tz_info.proofs.{WallPieces.{merging_more, step_count}, Words.{SFits, arith, rules, to_z-of_z, w64}}
 use Rattle.tz_info.proofs.zone.made.pieces.merged.Goals as goal
 
 pub loop-step-preserved : goal.loop-step-preserved
@@ -9,5 +9,5 @@ loop-step-preserved c =
           c.requires.first c.requires.last c.loop-step.invariant.merging c.next_start-start.ensures
           (rw (c.answer_before.ensures, c.answer_before-in-loop-step.ensures) at c.together-answer.ensures)
           (rw (simp to_z-of_z at c.in_ok-piece.ensures) at c.in_ok-push.ensures.items);
-      step = step_count _ _ _ _ _ _ _ c.next_start-start.ensures ∙ ap (λ n. n + 1) c.loop-step.invariant.step;
+      step = grind (arith, step_count);
     }

@@ -5,32 +5,28 @@ pub returns-then-place-eq0 : goal.returns-then-place-eq0
 returns-then-place-eq0 c =
     let fc = c.cut_of.type_inv in
     let fo : SFits w64 c.segment_at-segment.result.offset = search rules in
-    let s = c.segment_at-segment.ensures in
     let zero = c.if-place-eq0.true in
-    rw (c.in_ok-pieces.ensures.items, simp fits at c.in_ok-end.ensures, rw s.offset at (simp fits at c.cut_of.ensures), s.index, zero)
-    (first_pieces _ _ 1 0 s.type (rw zero at c.requires.table) (omega arith) (rw (s.index, zero) at s.listed) s.is_offset refl c.requires.some)
+    rw (c.in_ok-pieces.ensures.items, simp fits at c.in_ok-end.ensures, simp fits at c.cut_of.ensures, zero)
+    (first_pieces _ _ 1 0 _ (rw zero at c.requires.table) (omega arith) (rw zero at c.segment_at-segment.ensures) refl c.requires.some)
 
 pub returns-then-place-entries : goal.returns-then-place-entries
 returns-then-place-entries c =
     let fc = c.cut_of-2.type_inv in
     let fo : SFits w64 c.segment_at-segment.result.offset = search rules in
-    let s = c.segment_at-segment.ensures in
-    rw (c.in_ok-pieces-2.ensures.items, simp fits at c.in_ok-start.ensures, rw s.offset at (simp fits at c.cut_of-2.ensures), s.index, add-one)
-    (last_pieces _ _ _ _ s.type (rw add-one at c.requires.table) (omega arith) (rw s.index at s.listed) s.is_offset (omega arith) c.if-place-entries.true)
+    rw (c.in_ok-pieces-2.ensures.items, simp fits at c.in_ok-start.ensures, simp fits at c.cut_of-2.ensures, add-one)
+    (last_pieces _ _ _ _ _ (rw add-one at c.requires.table) (omega arith) c.segment_at-segment.ensures (omega arith) c.if-place-entries.true)
 
 pub returns : goal.returns
 returns c =
     let fc = c.cut_of-2.type_inv in
     let fe = c.cut_of-3.type_inv in
     let fo : SFits w64 c.segment_at-segment.result.offset = search rules in
-    let s = c.segment_at-segment.ensures in
     rw (
       c.in_ok-pieces-3.ensures.items,
       simp fits at c.in_ok-start.ensures,
       simp fits at c.in_ok-end-2.ensures,
-      rw s.offset at (simp fits at c.cut_of-2.ensures),
-      rw s.offset at (simp fits at c.cut_of-3.ensures),
-      s.index,
+      simp fits at c.cut_of-2.ensures,
+      simp fits at c.cut_of-3.ensures,
       add-one,
     )
-    (inner_pieces _ _ _ _ s.type (rw add-one at c.requires.table) (omega arith) (rw s.index at s.listed) s.is_offset (omega arith) (omega arith))
+    (inner_pieces _ _ _ _ _ (rw add-one at c.requires.table) (omega arith) c.segment_at-segment.ensures (omega arith) (omega arith))
