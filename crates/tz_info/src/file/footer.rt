@@ -3,11 +3,12 @@
 ghost use Rattle.std.specs.{List.{list_any}, Prelude.{◌≡◌}, Str.{is_utf8}};
 ghost use Rattle.tz_base.specs.Fronts.{Gives};
 ghost use Rattle.tz_info.specs.Steps.ContentReading.{is_zero};
-ghost use Rattle.tz_info.specs.Steps.FooterReading.{footer_at, is_between_newlines, is_no_text, text_or_none, trimmed};
+ghost use Rattle.tz_info.specs.Steps.FooterReading.{footer_at, is_between_newlines, is_no_text, text_or_none};
 
 use crate::file::contents::byte_or_zero;
 use crate::rule::TransitionRule;
 use crate::rule::reader::read_all;
+use crate::trims::trimmed;
 use tz_base::{Error, Expected};
 
 /// Returns the rule of a footer, the TZ string between two newlines, or `None` if that is empty.
@@ -53,13 +54,6 @@ pub fn is_between_newlines(bytes: &[u8]) -> bool
     ensures { result ≡ is_between_newlines bytes.now }
 {
     bytes.starts_with(b"\n") && bytes.ends_with(b"\n")
-}
-
-// Without the ASCII white space at both ends.
-fn trimmed(bytes: &[u8]) -> &[u8]
-    ensures { result.now ≡ trimmed bytes.now }
-{
-    bytes.trim_ascii()
 }
 
 // A colon in front would name a file, and a 0 byte is in no TZ string.
