@@ -3,7 +3,7 @@
 ghost use Rattle.std.specs.{Prelude.{◌≡◌, ◌⊎◌, MatchResult, OnErr}, Result.{IsErrAnd}};
 ghost use Rattle.tz_base.specs.{Fronts.{Gives}, Grammar.{from_fault, IsRead}};
 ghost use Rattle.tz_info.specs.{FileBlocks.{parts_of}, FileHeaders.{HasOtherMagic}, FilePieces.{file}};
-ghost use Rattle.tz_info.specs.FilePieces.{after_first_block, first_version, is_extended, later_version};
+ghost use Rattle.tz_info.specs.FilePieces.{after_first_block, is_extended, later_version};
 ghost use Rattle.tz_info.specs.Steps.{ContentReading.{GivesInMemory}, FileLists.{HasLengths, Reads}};
 ghost use Rattle.tz_info.specs.Steps.FileLists.{lists_in, pieces_at, pieces_of, zone_of_lists};
 ghost use Rattle.tz_info.specs.Zones.{IsValid, ListFault};
@@ -82,7 +82,8 @@ pub fn read_pieces<'a>(cursor: &mut Cursor<'a>) -> Result<Pieces<'a>, Error>
     after_first_block(cursor, header, block)
 }
 
-#[tactic(auto, unfolding(crate::specs::FilePieces::after_first_block))]
+// In version 1 the first block says all, and nothing follows it.
+#[tactic(auto, unfolding(crate::specs::FilePieces::after_first_block, crate::specs::FilePieces::first_version))]
 fn after_first_block<'a>(
     cursor: &mut Cursor<'a>,
     header: Header,
@@ -92,31 +93,20 @@ fn after_first_block<'a>(
         cursor.old pieces_of result cursor.new }
 {
     match header.version {
-        Version::One => first_version(cursor, header.counts, block),
+        Version::One => {
+            if !cursor.is_empty() {
+                return Err(Error::InvalidTzFile(Expected::NothingAfterBlockOfVersion1));
+            }
+            Ok(Pieces {
+                extended: false,
+                time_size: 4,
+                counts: header.counts,
+                block,
+                footer: None,
+            })
+        }
         Version::Two | Version::Three => later_version(cursor),
     }
-}
-
-// In version 1 the first block says all, and nothing follows it.
-#[tactic(auto, unfolding(crate::specs::FilePieces::first_version))]
-fn first_version<'a>(
-    cursor: &Cursor<'a>,
-    counts: Counts,
-    block: Block<'a>,
-) -> Result<Pieces<'a>, Error>
-    ensures { IsRead (first_version counts (parts_of block.entry)) cursor.now pieces_of result
-        cursor.now }
-{
-    if !cursor.is_empty() {
-        return Err(Error::InvalidTzFile(Expected::NothingAfterBlockOfVersion1));
-    }
-    Ok(Pieces {
-        extended: false,
-        time_size: 4,
-        counts,
-        block,
-        footer: None,
-    })
 }
 
 // From version 2 on the second block says all, with the footer, which is the rest.
