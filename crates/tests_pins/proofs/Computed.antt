@@ -2,8 +2,8 @@
 use Rattle.tz_info.specs.TzGrammar.{checked_day, hours_minutes_seconds, minutes_seconds, more, name, numbered_day, optional_minutes, quoted, sign, time_sign}
 use Rattle.tz_info.specs.Digits.{digits as binary_digits}
 use Rattle.tz_info.proofs.Words.{alternate, date, day, days, designation_at, dst_offset, duration, end, file_at, fixed, given_offset, indicators_of}
-use Rattle.tz_info.proofs.Words.{julian_date, lists_in, month_date, named, next_hour, offset, optional_time, pieces_at, rule_in, text_before_zero, time}
-use Rattle.tz_info.proofs.{Words.{trimmed, type_of, type_of_record, with_rule, with_types}, PosixLaws.{zone_in}}
+use Rattle.tz_info.proofs.Words.{julian_date, lists_in, month_date, named, next_hour, offset, optional_time, pieces_at, rule_in, time}
+use Rattle.tz_info.proofs.{Words.{trimmed, type_of, type_of_record}, PosixLaws.{zone_in}}
 use Rattle.zoneq_lib.specs.Questions.{calendar_day, fold, gap, text_query, unix_seconds}
 use Rattle.zoneq_lib.proofs.CitedWords.{Begins, Word, at_query, data_query, int_at, integer, local_time, next, question, resolve_query, show_query, tag_at}
 use Rattle.zoneq_lib.proofs.CitedWords.{wall_query}
@@ -45,7 +45,7 @@ texts = 0
 -- files, read and written
 unfoldable pub files : ℕ
 unfolding texts file header version version_1 six_counts tzif block be_u32 signed after_first_block first_version later_version exact_at optional_tag_at
-    designation_at indicators_of text_before_zero type_of type_of_record file_at lists_in pieces_at with_rule with_types
+    designation_at indicators_of type_of type_of_record file_at lists_in pieces_at
 files = 0
 
 unfoldable pub written : ℕ

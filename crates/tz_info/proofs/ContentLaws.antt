@@ -2,10 +2,11 @@
 use Rattle.tz_base.specs.{declared.error.Error.TheVariants.{InvalidTzFile}, declared.error.Expected.TheVariants.{StandardTimeWhereTimeIsUt}}
 use Rattle.tz_info.proofs.{
   ListLaws.{one_true},
-  Words.{AreRecords, Bool, Decided, Error, HasRecordFault, IndicatorsAgree, LeapSecond, List, Ok, Result, SpellLeapSeconds, SpellTransitions, SpellsLeapSecond},
-  Words.{Transition, [], all_below, ap, append_assoc, arith, bind, cases_lt, done, drop, drop-drop, exact_cut, file_time, get_or-eq_default, indicators_of},
-  Words.{inl, inr, leap_second_in, leap_second_of, length, length-append, length-drop, length-take, like, made, nil_from_length, pair_agrees, record_at, refl},
-  Words.{said, slice_index, subst, suc, sym, take, take-append-drop, transition_in, true, values_below, zero, ℕ, ◌*◌, ◌++◌, ◌+◌, ◌<◌, ◌>>=◌, ◌∷◌, ◌≡◌, ◌⊎◌},
+  Words.{AreRecords, Bool, Decided, Error, HasRecordFault, IndicatorsAgree, LeapSecond, List, Ok, Result, SpellLeapSeconds, SpellTransitions},
+  Words.{SpellsLeapSecond, Transition, [], all_below, ap, append_assoc, arith, bind, cases_lt, done, drop, drop-drop, exact_cut, file_time},
+  Words.{get_or-eq_default, indicators_of, inl, inr, leap_second_in, leap_second_of, length, length-append, length-drop, length-take, like, made},
+  Words.{nil_from_length, pair_agrees, record_at, refl, said, slice_index, subst, suc, sym, take, take-append-drop, transition_in, true},
+  Words.{values_below, zero, ℕ, ◌*◌, ◌++◌, ◌+◌, ◌<◌, ◌>>=◌, ◌∷◌, ◌≡◌, ◌⊎◌},
 }
 
 -- ---- values at places, from the first one on
@@ -37,8 +38,7 @@ first_record size part = grind arith
 
 next_record : (size : ℕ) (part : List ℕ) (k : ℕ) → record_at size part (suc k) ≡ record_at size (drop size part) k
 next_record size part k =
-    let e : suc k * size ≡ size + k * size = omega arith in
-    rw (e, drop-drop (k * size) size part)
+    grind (arith, drop-drop)
 
 -- the first record and the others of a part
 behind_first : (n size : ℕ) (part : List ℕ) → length part ≡ suc n * size → (length (take size part) ≡ size) × (length (drop size part) ≡ n * size)
@@ -62,11 +62,7 @@ module _ {X : Type 0} (size : ℕ) (Spells : List ℕ → X → Type 0) where
   first_fault F part m f [] none = let cut = exact_cut size part f.faulty f.after (rw none at f.whole) f.size_is in inl (rw cut.0 f.fault)
   first_fault F part m f (x ∷ xs) h =
       let cut = exact_cut size part h.0 _ (rw (h.2, append_assoc) at f.whole) h.3 in
-      inr (
-        x,
-        rw cut.0 h.4,
-        record { before = h.1; faulty = f.faulty; after = f.after; whole = cut.1; earlier = xs; spelled = h.5; size_is = f.size_is; fault = f.fault },
-      )
+      grind arith
 
 -- each record is read by that law
 pub records : {X : Type 0} {read : List ℕ → Result X Error} {Spells : List ℕ → X → Type 0} {F : List ℕ → Error → Type 0} (n size : ℕ) (part : List ℕ) → 0 < size

@@ -2,9 +2,9 @@
 use Rattle.std.proofs.lemmas.Option.{same_Some}
 use Rattle.tz_base.specs.Grammar.{At, Byte, Check, Ended, Grammar, Here, Marked, Nothing, Number, Refused, Rest, Run, Then}
 use Rattle.tz_info.proofs.{
-  Words.{Decided, Err, Error, Exact, FileCounts, FilePieces, HasCounts, HasLengths, HasPieces, List, Ok, Parts, PieceFault, Some, Spells, Version, []},
-  Words.{after_first_block, ap, append-nil, append_assoc, block, file, first_version, inl, inr, later_version, lawful, linear, made, pieces_at, refl, said},
-  Words.{subst, sym, value_once, ℕ, ◌++◌, ◌↔◌, ◌∙◌, ◌∷◌, ◌≡◌, ◌⊎◌},
+  Words.{Decided, Err, Error, Exact, FileCounts, FilePieces, HasCounts, HasLengths, HasPieces, List, Ok, Parts, PieceFault, Some, Spells, Version},
+  Words.{[], after_first_block, ap, append-nil, append_assoc, block, file, first_version, inl, inr, later_version, lawful, linear, made, pieces_at},
+  Words.{refl, said, subst, sym, value_once, ℕ, ◌++◌, ◌↔◌, ◌∙◌, ◌∷◌, ◌≡◌, ◌⊎◌},
 }
 use Rattle.tz_info.specs.{
   FileHeaders.{header},
@@ -66,6 +66,12 @@ unfolding pieces_at
 pieces_law bytes = said (made (λ p. p.0) (lawful file bytes))
     (λ p h. rw h.2 at (rw (file_ends _ _ _ h.1).5 at h.1))
     (λ p h. ((p, []), h, refl))
+
+pub pieces_read : (bytes : List ℕ) (p : FilePieces) → pieces_at bytes ≡ Ok p → HasPieces bytes p
+pieces_read bytes = (pieces_law bytes).takes
+
+pub piece_fault : (bytes : List ℕ) (e : Error) → pieces_at bytes ≡ Err e → PieceFault bytes e
+piece_fault bytes = (pieces_law bytes).fails
 
 -- ---- lengths, and the parts in order
 of_block : (p : FilePieces) (start rest : List ℕ) → (p.time_size ≡ 4) ⊎ (p.time_size ≡ 8) → Spells (block p.time_size p.counts) start p.parts rest

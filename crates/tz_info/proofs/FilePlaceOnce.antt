@@ -1,28 +1,24 @@
 -- Where a file is at fault, and that it is at one place.
 use Rattle.std.proofs.{lemmas.List.Sums.{prefix_len-le-length}, lemmas.Str.{utf8_valid_len-IsValidUpTo}}
 use Rattle.std.specs.{Char.{is_ascii_whitespace}, List.{prefix_len}}
-use Rattle.tz_base.specs.{Fronts.{optional_tag_at}, Grammar.{Grammar, Nothing, Then, be_u32, from_fault}}
 use Rattle.tz_info.proofs.{
   FilePieceLaws.{has_lengths, pieces_law, whole},
-  FooterLaws.{spelled_law},
+  FooterLaws.{text_has},
   PosixLaws.{string_place_within},
-  TrimLaws.{fits_behind, front_counted, trim_again, trim_whole, trims_both},
+  TextLaws.{spelled_law},
+  TrimLaws.{fits_behind, trim_again, trim_whole},
   TypeLaws.{type_law},
-  Words.{Bool, Err, Error, Exact, FilePieces, HasLengths, HasNoZero, HasPieces, IsBetweenNewlines, IsFooter, IsTrimAscii, IsTrimAsciiStart, IsTrimmed, IsTrue},
-  Words.{IsUtf8, List, LocalType, None, Ok, Option, Parts, SaysRule, Some, TransitionRule, TypeFault, [], after_first_block, ap, apart, arith, below_more},
-  Words.{block, drop, drop_front, exact_at, false, fault_once, first_version, length, length-append, linear, read, record_at, refl, slice_index, suc, sym},
-  Words.{type_of_record, value_once, zero, ℕ, ℤ, ◌*◌, ◌+◌, ◌-◌, ◌<ℤ◌, ◌<◌, ◌↔◌, ◌∙◌, ◌∷◌, ◌≡◌, ◌≢◌, ◌≤◌},
+  Words.{Bool, Err, Error, FilePieces, HasLengths, HasNoZero, HasPieces, IsBetweenNewlines, IsFooter, IsTrue, IsUtf8, List, LocalType, Ok, Option},
+  Words.{SaysRule, Some, TransitionRule, TypeFault, [], ap, apart, arith, below_more, drop, drop_front, false, fault_once, length, length-append},
+  Words.{linear, record_at, refl, slice_index, suc, sym, trimmed, type_of_record, value_once, zero, ℕ, ℤ, ◌*◌, ◌+◌, ◌-◌, ◌<ℤ◌, ◌<◌, ◌↔◌, ◌∙◌, ◌∷◌},
+  Words.{◌≡◌, ◌≢◌, ◌≤◌},
 }
 use Rattle.tz_info.specs.{
-  FileHeaders.{six_counts, version, version_1},
-  FilePlaces.{ArePartPlaces, AreTypes, At_index, At_leap, At_rule, At_time, Colon, HoldsOfNone, In_contents, In_footer, In_indicators, In_lists, In_piece},
-  FilePlaces.{In_string, In_text, In_type, IsContentPlace, IsFilePlace, IsFirstBelow, IsFooterPlace, IsListPlace, IsNotLater, IsTextPlace, IsTypeAt},
-  FilePlaces.{IsTypePlace, No_first, No_last, Not_utf8, Zero, before_field, footer_bytes, in_order, time_at},
+  FilePlaces.{ArePartPlaces, AreTypes, At_index, At_leap, At_rule, At_time, HoldsOfNone, In_contents, In_footer, In_indicators, In_lists, In_piece},
+  FilePlaces.{In_text, In_type, IsContentPlace, IsFilePlace, IsFirstBelow, IsFooterPlace, IsListPlace, IsNotLater, IsTextPlace, IsTypeAt},
+  FilePlaces.{IsTypePlace, No_first, No_last, Not_utf8, before_field, footer_bytes, in_order, time_at},
   Steps.Places.{SaysSome},
   TzFiles.{HasRule},
-  declared.file.header.Counts.{Counts},
-  declared.file.header.Place.{Place},
-  declared.file.header.Version.TheVariants.{One},
   declared.file.place.PartPlaces.{PartPlaces},
 }
 
@@ -39,39 +35,6 @@ parts_stand bytes p q h are end =
     let w = whole _ p h in
     let at : length w.0 ≡ q.times = grind (arith, length-append) in
     rw (w.1, ← at) (drop_front w.0 (in_order p.parts (footer_bytes p.footer)))
-
--- ---- the end of a piece that is too short
--- what can't be read is too short
-record EndsShort {X : Type 0} (g : Grammar X) : Type 0 where
-  pub short : (bytes : List ℕ) (e : Error) → read g bytes ≡ Err e → from_fault g bytes ≡ []
-
-nothing_short : {X : Type 0} (x : X) → EndsShort (Nothing x)
-nothing_short x = record { short = λ bytes e h. cc }
-
-exact_short : (n : ℕ) → EndsShort (Exact n)
-exact_short n = record { short = λ bytes e h. refl }
-
-then_short : {X Y : Type 0} {g : Grammar X} {f : X → Grammar Y} → EndsShort g → ((x : X) → EndsShort (f x)) → EndsShort (Then g f)
-then_short {X = X} {g = g} {f = f} first next = let n = λ (x : X). (next x).short in grind (linear, first.short, n)
-
-pub block_left : (w : ℕ) (c : Counts) (bytes : List ℕ) (e : Error) → read (block w c) bytes ≡ Err e → from_fault (block w c) bytes ≡ []
-unfolding block
-block_left w c = let s : EndsShort (block w c) = search (then_short, exact_short, nothing_short) depth 20 in s.short
-
-pub counts_left : (bytes : List ℕ) (e : Error) → read six_counts bytes ≡ Err e → from_fault six_counts bytes ≡ []
-unfolding six_counts be_u32
-counts_left = let s : EndsShort six_counts = search (then_short, exact_short, nothing_short) depth 30 in s.short
-
--- ---- what follows a header
-pub first_left : (c : Counts) (p : Parts) (bytes : List ℕ) → from_fault (after_first_block One c p) bytes ≡ bytes
-unfolding after_first_block first_version
-first_left c p bytes = grind linear
-
--- ---- the magic and the version
--- a version is rejected at its byte
-pub version_fault : (place : Place) (bytes : List ℕ) (e : Error) → read (version place) bytes ≡ Err e → length (from_fault (version place) bytes) ≡ length bytes
-unfolding version version_1 exact_at optional_tag_at
-version_fault place bytes e h = grind arith
 
 -- ---- what the loops keep
 pub next_false : (P : ℕ → Type 0) (n : ℕ) (b : Bool) → HoldsOfNone P n → IsTrue b ↔ P n → b ≡ false → HoldsOfNone P (n + 1)
@@ -96,32 +59,21 @@ pub next_later : (p : FilePieces) (k : ℕ) (here before : ℤ) → HoldsOfNone 
 next_later p k here before none is was later = below_more (λ j. ¬ (IsNotLater p j)) k none (λ h. grind linear)
 
 -- ---- the footer
-pub space_is : (bytes start : List ℕ) → IsTrimAsciiStart bytes start → length bytes - length start ≡ prefix_len is_ascii_whitespace bytes
-space_is _ _ t = omega (arith, front_counted _ _ t)
-
-in_text : (extended : Bool) (bytes text : List ℕ) (n : ℕ) → IsTrimmed bytes text → IsTextPlace extended text n
-    → prefix_len is_ascii_whitespace bytes + n ≤ length bytes
-in_text extended bytes text n t place = let f = fits_behind _ _ t in grind (arith, string_place_within)
+pub text_within : (extended : Bool) (text : List ℕ) (n : ℕ) → IsTextPlace extended text n → n ≤ length text
+text_within extended text n place = grind (arith, string_place_within)
 
 pub footer_within : (extended : Bool) (bytes : List ℕ) (n : ℕ) → IsFooterPlace extended bytes n → n ≤ length bytes
 footer_within _ _ n (Not_utf8 m bad up) = omega arith
 footer_within extended bytes n (No_first u s) = omega arith
 footer_within extended bytes n (No_last u s b) = omega arith
-footer_within _ _ _ (In_text _ m has place) = in_text _ _ _ m has.trimmed place
+footer_within _ _ _ (In_text _ m has place) = let f = fits_behind _ _ has.trimmed in let w = text_within _ _ m place in omega arith
 
--- the position of a fault in a footer's text
-module _ (extended : Bool) (bytes start text : List ℕ) (n : ℕ) (s : IsTrimAsciiStart bytes start) (t : IsTrimAscii bytes text)
-    (place : IsTextPlace extended text n) where
-  pub text_place : IsUtf8 bytes → IsBetweenNewlines bytes → IsFooterPlace extended bytes ((length bytes - length start) + n)
-  text_place utf8 newlines =
-      rw (space_is _ _ s) (In_text text n (record { utf8 = utf8; newlines = newlines; trimmed = trims_both _ _ t }) place)
-
-  pub text_fits : (length bytes - length start) + n ≤ length bytes
-  text_fits = rw (space_is _ _ s) (in_text _ _ _ n (trims_both _ _ t) place)
-
-pub text_says : (extended : Bool) (bytes text : List ℕ) → IsUtf8 bytes → IsBetweenNewlines bytes → IsTrimAscii bytes text → SaysSome extended text
+pub text_says : (extended : Bool) (bytes : List ℕ) → IsUtf8 bytes → IsBetweenNewlines bytes → SaysSome extended (trimmed bytes)
     → (rule : Option TransitionRule) × HasRule extended (Some bytes) rule
-text_says extended bytes text utf8 newlines t s = grind (linear, trims_both, no_zero)
+text_says extended bytes utf8 newlines s = (
+  s.rule,
+  record { text = _; has_text = text_has _ utf8 newlines; no_colon = s.no_colon; no_zero = s.no_zero; says = s.says },
+)
 
 -- ---- the first of some numbers
 first_once : (P : ℕ → Type 0) (n j k : ℕ) → IsFirstBelow P n j → IsFirstBelow P n k → j ≡ k
@@ -138,10 +90,7 @@ text_once extended text m n a b = grind (arith, no_zero_at)
 
 says_none : (extended : Bool) (text : List ℕ) (rule : Option TransitionRule) (n : ℕ) → slice_index text 0 ≢ 58 → HasNoZero text → SaysRule extended text rule
     → IsTextPlace extended text n → ⊥
-says_none _ _ _ _ c _ _ (Colon d) = c d
-says_none _ _ _ _ _ z _ (Zero k _ f) = no_zero_at _ k z f.below f.here
-says_none _ _ None _ _ _ says (In_string _ _ _ some _) = some says
-says_none _ _ (Some rule) _ _ _ says (In_string e _ _ _ f) = apart (spelled_law _ _) rule e says.1 f
+says_none extended text rule n c z says place = grind (arith, no_zero_at, spelled_law extended text)
 
 begins : (bytes : List ℕ) → IsBetweenNewlines bytes → slice_index bytes 0 ≡ 10
 begins bytes b = grind arith

@@ -1,13 +1,16 @@
 -- The law of footers.
 use Rattle.std.proofs.lemmas.{Bool.{or_parts}, Slice.Eq.{ends_is}}
-use Rattle.tz_base.specs.declared.error.{Error.TheVariants.{InvalidTzFile, Utf8}, Expected.TheVariants.{FooterBetweenNewlines, FooterInUtf8, TzTextInFooter}}
+use Rattle.tz_base.specs.declared.error.{
+  Error.TheVariants.{InvalidTzFile, Utf8},
+  Expected.TheVariants.{FooterBetweenNewlines, FooterInUtf8, TzTextInFooter},
+}
 use Rattle.tz_info.proofs.{
-  TextLaws.{text_law},
+  TextLaws.{spelled_law},
   TrimLaws.{trim_is, trim_whole},
-  Words.{Bool, Colon, Decided, Decides, Decides-eqb, Error, FooterFault, HasNoZero, HasText, In_text, IsBetweenNewlines, IsFooter, IsTextFault, IsTzText},
-  Words.{IsUtf8, IsUtf8-from_is_utf8, List, No_newlines, Not_utf8, Option, SaysRule, TransitionRule, Zero, [], arith, choice, ends_with, false, false_unless},
-  Words.{footer_at, inl, inr, is_between_newlines, is_no_text, is_utf8-from_IsUtf8, is_zero, like, list_any, made, nat_eq, refl, refused, rule_in},
-  Words.{rule_or_none, said, slice_index, trimmed, ℕ, ◌==◌, ◌∷◌, ◌≡◌, ◌≢◌, ◌⊎◌},
+  Words.{Bool, Colon, Decided, Decides, Decides-eqb, Error, FooterFault, HasNoZero, HasText, In_text, IsBetweenNewlines, IsFooter, IsTextFault},
+  Words.{IsUtf8, IsUtf8-from_is_utf8, List, No_newlines, Not_utf8, Option, SaysRule, TransitionRule, Zero, [], arith, choice, ends_with, false},
+  Words.{false_unless, footer_at, inl, inr, is_between_newlines, is_no_text, is_utf8-from_IsUtf8, is_zero, like, list_any, nat_eq, refl, refused},
+  Words.{rule_or_none, slice_index, trimmed, ℕ, ◌==◌, ◌∷◌, ◌≡◌, ◌≢◌, ◌⊎◌},
 }
 
 -- the test of UTF-8 says whether bytes are
@@ -26,12 +29,6 @@ no_zero_is (b ∷ bs) h = let p = or_parts (b == 0) (list_any is_zero bs) h in (
 no_zero_again : (text : List ℕ) → HasNoZero text → list_any is_zero text ≡ false
 no_zero_again [] _ = refl
 no_zero_again (b ∷ bs) h = let e : (b == 0) ≡ false = grind arith in rw e (no_zero_again bs h.1)
-
-pub spelled_law : (extended : Bool) (text : List ℕ) → Decided TransitionRule (rule_in extended text) (IsTzText extended text) (IsTextFault extended text)
-unfolding rule_in
-spelled_law extended text = said (made (λ p. p.0) (text_law _ _))
-    (λ rule h. rw h.2 at h.1.0)
-    (λ rule h. ((rule, []), (h, refl), refl))
 
 rule_law : (extended : Bool) (text : List ℕ)
     → Decided (Option TransitionRule) (rule_or_none extended text) (SaysRule extended text) (λ n. (text ≢ []) × IsTextFault extended text n)
@@ -59,7 +56,7 @@ ReadFault extended bytes text n =
     ⊎ (¬ (IsNoText text) × ((text ≢ []) × IsTextFault extended text n)))) ⊎ (¬ (IsBetweenNewlines bytes) × (n ≡ InvalidTzFile FooterBetweenNewlines))))
     ⊎ (¬ (IsUtf8 bytes) × (n ≡ Utf8 FooterInUtf8))
 
-text_has : (bytes : List ℕ) → IsUtf8 bytes → IsBetweenNewlines bytes → HasText bytes (trimmed bytes)
+pub text_has : (bytes : List ℕ) → IsUtf8 bytes → IsBetweenNewlines bytes → HasText bytes (trimmed bytes)
 text_has bytes u b = record { utf8 = u; newlines = b; trimmed = trim_is _ }
 
 fault_is : (extended : Bool) (bytes : List ℕ) (n : Error) → ReadFault extended bytes (trimmed bytes) n → FooterFault extended bytes n

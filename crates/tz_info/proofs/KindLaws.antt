@@ -4,10 +4,10 @@ use Rattle.tz_info.proofs.{
   ListLaws.{one_true},
   Neighbours.{IsNear, KeepsMargin, ends_near, near_margin, starts_near},
   RuleDays.{rule_day_closed},
-  Words.{Alternate, Bool, DayForm, DayTime, IsAlternateRule, IsRuleDay, List, ap, are_calm, arith, closed_day, cond, day_number, day_time_second},
-  Words.{days_of_months, end_in, false, floors, get_or, get_or-map, inr, int_le, is_calm, is_calm_kind, is_leap, kind_place, margin_of, moment, nat_le, neg_ℤ},
-  Words.{place_by, places_by_kind, pos, refl, second_in, seconds_by_kind, start_in, sym, true, weekday_below, weekday_later, weekday_of, year_start, ℕ, ℤ, ◌%◌},
-  Words.{◌*ℤ◌, ◌+ℤ◌, ◌+◌, ◌-ℤ◌, ◌-◌, ◌<◌, ◌∙◌, ◌≡◌, ◌≤ℤ◌, ◌⊎◌},
+  Words.{Alternate, Bool, DayForm, DayTime, IsAlternateRule, IsRuleDay, List, are_calm, arith, closed_day, cond, day_number, day_time_second},
+  Words.{days_of_months, end_in, false, floors, get_or, get_or-map, inr, int_le, is_calm, is_calm_kind, is_leap, kind_place, margin_of, moment},
+  Words.{nat_le, neg_ℤ, place_by, places_by_kind, pos, refl, second_in, seconds_by_kind, start_in, sym, true, weekday_below, weekday_later},
+  Words.{weekday_of, year_start, ℕ, ℤ, ◌%◌, ◌*ℤ◌, ◌+ℤ◌, ◌+◌, ◌-ℤ◌, ◌-◌, ◌<◌, ◌∙◌, ◌≡◌, ◌≤ℤ◌, ◌⊎◌},
 }
 use Rattle.tz_info.specs.{Steps.ChangingYears.{AreWithinYears}}
 
@@ -27,8 +27,7 @@ kind_at : (t : DayTime) (offset : ℤ) (kind : ℕ) (d : ℤ) → kind < 14
     → get_or (seconds_by_kind t offset) kind d ≡ day_time_second t offset (place_by t.day (nat_le 7 kind) (kind % 7))
 unfolding seconds_by_kind places_by_kind
 kind_at t offset kind d h =
-    get_or-map (day_time_second t offset) (places_by_kind t.day) kind 0 d h
-    ∙ ap (day_time_second t offset) (get_or-map-range_with_len (λ k. place_by t.day (nat_le 7 k) (k % 7)) 0 14 kind kind 0 h (omega arith))
+    grind (arith, get_or-map, get_or-map-range_with_len (λ k. place_by t.day (nat_le 7 k) (k % 7)) 0 14 kind kind 0 h)
 
 kind_parts : (leap : Bool) (first : ℕ) → first < 7
     → (cond leap 7 0 + first < 14) × (nat_le 7 (cond leap 7 0 + first) ≡ leap) × ((cond leap 7 0 + first) % 7 ≡ first)

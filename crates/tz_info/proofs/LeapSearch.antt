@@ -6,8 +6,8 @@ use Rattle.tz_info.proofs.{
   LeapOrder.{passed_bounded, split},
   LeapStarts.{correction_behind, passed_at_most, passed_when},
   Prefixes.{any_leap, last_taken},
-  Words.{AreLeapSeconds, IsLeapTime, LeapSecond, List, SFits, [], arith, by_lt_z, cases_lt, corrections, get_or, inl, inr, int_le, int_lt, le_is, le_true},
-  Words.{length, linear, mapped_at, passed_count, pos, refl, suc, true, w64, zero, ℕ, ℤ, ◌+ℤ◌, ◌+◌, ◌-ℤ◌, ◌<ℤ◌, ◌<◌, ◌↔◌, ◌∷◌, ◌≡◌, ◌≤ℤ◌, ◌≤◌},
+  Words.{AreLeapSeconds, IsLeapTime, LeapSecond, List, SFits, [], arith, by_lt_z, corrections, get_or, int_le, int_lt, le_is, le_true, length},
+  Words.{linear, mapped_at, passed_count, pos, refl, suc, true, w64, zero, ℕ, ℤ, ◌+ℤ◌, ◌+◌, ◌-ℤ◌, ◌<ℤ◌, ◌<◌, ◌↔◌, ◌∷◌, ◌≡◌, ◌≤ℤ◌, ◌≤◌},
 }
 use Rattle.tz_info.specs.Steps.Starts.{IsLastWithLeapTime}
 
@@ -78,10 +78,7 @@ refused_more es k old by new r late refuses e = record {
   some = λ u h l. by_lt_z u old
       (λ before. (k, omega arith, (refuses u).0 (omega (linear, clamps))))
       (λ from. let (j, less, is) = r.some u from l in (j, omega arith, is));
-  only = λ u j less is. elim (cases_lt j k) [
-    | inl b ↦ let o = r.only u j b is in omega (linear, clamps)
-    | inr m ↦ let o = refuses u in grind (linear, clamps)
-  ];
+  only = λ u j less is. let o = r.only u j in let p = refuses u in grind (linear, clamps);
 }
 
 -- and then the second before it is the last one with a leap time

@@ -4,9 +4,9 @@ use Rattle.tz_info.proofs.{
   LeapEntries.{follow, threshold_at, threshold_count, times_rise},
   LeapOrder.{split},
   Prefixes.{last_taken},
-  Words.{AreLeapSeconds, HaveCome, IsLeapTime, IsNear, IsOneStep, LeapSecond, List, [], arith, cases_lt, corrections, count_by-le-length, get_or, inl, inr},
-  Words.{int_le, last_else, length, linear, passed_count, pos, saturate_signed, suc, take, thresholds, w64, zero, ℕ, ℤ, ◌+ℤ◌, ◌-ℤ◌, ◌-◌, ◌<ℤ◌, ◌<◌, ◌↔◌, ◌∷◌},
-  Words.{◌≡◌, ◌≤ℤ◌, ◌≤◌},
+  Words.{AreLeapSeconds, HaveCome, IsLeapTime, IsNear, IsOneStep, LeapSecond, List, [], arith, cases_lt, corrections, count_by-le-length, get_or},
+  Words.{inl, inr, int_le, last_else, length, linear, passed_count, pos, saturate_signed, suc, take, thresholds, w64, zero, ℕ, ℤ, ◌+ℤ◌, ◌-ℤ◌, ◌-◌},
+  Words.{◌<ℤ◌, ◌<◌, ◌↔◌, ◌∷◌, ◌≡◌, ◌≤ℤ◌, ◌≤◌},
 }
 
 -- the correction in force after the first k entries
@@ -52,7 +52,7 @@ module _ (es : List LeapSecond) (d : LeapSecond) (valid : AreLeapSeconds es) whe
       let s = (passed_when u c (omega arith)).0 (omega arith) in
       let a = h.after c d more (omega arith) in
       let e : y ≡ u +ℤ correction_behind es (suc c) = rw is at l.sum in
-      elim (one_step c (omega arith)) [ inl k ↦ grind linear | inr k ↦ grind linear ]
+      let step = one_step c (omega arith) in grind linear
 
   -- and then x less the correction in force at x comes before u
   above_start : (x u : ℤ) (n : ℕ) → HaveCome es x n → n < passed_count es u → (x -ℤ correction_behind es n) ≤ℤ u
@@ -89,6 +89,6 @@ pub come_here : (es : List LeapSecond) (x : ℤ) (n : ℕ) → AreLeapSeconds es
     → ((d : LeapSecond) → n < length es → x <ℤ (get_or es n d).unix_leap_time) → HaveCome es x n
 come_here es x n valid within since until = record {
   within = within;
-  before = λ k d l. let r = times_rise es d valid k (n - 1) in let q = since d in grind linear;
-  after = λ k d a l t. let r = times_rise es d valid n k in let q = until d in grind linear;
+  before = λ k d l. let r = times_rise es d valid k (n - 1) in grind linear;
+  after = λ k d a l t. let r = times_rise es d valid n k in grind linear;
 }

@@ -67,8 +67,6 @@ pub mod TrimLaws
 pub mod TypeLaws
 pub mod FooterLaws
 pub mod TzFileLaws
-pub mod ZoneFileLaws
-pub mod FileZoneLaws
 pub mod WallTimes
 pub mod EntryLaws
 pub mod EntryChanges

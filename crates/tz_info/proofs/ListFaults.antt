@@ -1,14 +1,14 @@
 -- Lists make a zone or have one first fault.
-use Rattle.std.proofs.lemmas.{List.Elements.{All-cons}}
+use Rattle.std.proofs.lemmas.List.Elements.{All-map}
 use Rattle.tz_base.specs.{
   declared.error.Error.TheVariants.{TimeZone},
   declared.error.Expected.TheVariants.{AtLeastOneLocalTimeType, LeapSecondsInOrder, RuleThatAgreesWithLastTransition, TransitionTimesThatRise},
   declared.error.Expected.TheVariants.{TypeIndexesWithinTypes},
 }
 use Rattle.tz_info.proofs.{
-  Words.{All, AllAdjacentBelow, AllPairs, AllPairs-cons, AreLeapSeconds, AreRising, AreTransitions, Error, IsNextLeap, IsValid, LeapSecond, List, ListFault},
-  Words.{No_type, Not_rising, Other_index, Other_leaps, Other_rule, Transition, Zone, [], add-one, arith, cases_lt, error_number, inl, inr, length, suc, zero},
-  Words.{ℕ, ℤ, ◌<ℤ◌, ◌<◌, ◌∷◌, ◌≡◌, ◌≤◌, ◌⊎◌},
+  Words.{All, AllAdjacentBelow, AllPairs, AreLeapSeconds, AreRising, AreTransitions, Error, IsNextLeap, IsValid, LeapSecond, List, ListFault},
+  Words.{No_type, Not_rising, Other_index, Other_leaps, Other_rule, Transition, Zone, [], arith, below_more, cases_lt, error_number, get_or},
+  Words.{get_or-map, get_or_default, inl, inr, length, length-map, map, suc, zero, ℕ, ℤ, ◌+◌, ◌<ℤ◌, ◌<◌, ◌∷◌, ◌≡◌, ◌≤◌, ◌⊎◌},
 }
 use Rattle.tz_info.specs.{Leaps.{IsFirstLeap}, Transitions.{NameTypes}}
 
@@ -28,29 +28,31 @@ both_known p q = grind arith
 like_known : {P Q : Type 0} → (P → Q) → (Q → P) → Known P → Known Q
 like_known to from p = grind arith
 
--- ---- of each element, and of each and the next
+-- ---- of each number below one, each element, and each and the next
+below_known : {P : ℕ → Type 0} (n : ℕ) → ((k : ℕ) → Known (P k)) → Known ((k : ℕ) → k < n → P k)
+below_known zero each = inl (λ k l. absurd (omega arith))
+below_known {P = P} (suc n) each =
+    like_known (λ h k l. below_more P n h.0 h.1 k (omega arith)) (λ h. (λ k l. h k (omega arith), h n (omega arith)))
+    (both_known (below_known n each) (each n))
+
 all_known : {X : Type 0} {P : X → Type 0} → ((x : X) → Known (P x)) → (xs : List X) → Known (All P xs)
 all_known each [] = inl (grind arith)
-all_known {P = P} each (x ∷ xs) = like_known (λ h. All-cons P x xs h.0 h.1) (λ h. (h 0 x (omega arith), λ k d l. h (suc k) d (omega arith)))
-    (both_known (each x) (all_known each xs))
+all_known {P = P} each (x ∷ xs) = like_known (λ h k d l. rw (get_or_default (x ∷ xs) k d x l) (h k l)) (λ h k l. h k x l)
+    (below_known {P = λ k. P (get_or (x ∷ xs) k x)} (length (x ∷ xs)) (λ k. each _))
 
 pairs_known : {X : Type 0} {R : X → X → Type 0} → ((x y : X) → Known (R x y)) → (xs : List X) → Known (AllPairs R xs)
 pairs_known each [] = inl (grind arith)
-pairs_known {R = R} each (x ∷ xs) = like_known (λ h. AllPairs-cons R x xs h.0 h.1)
-    (λ h. (λ k d l. h 0 (suc k) d (omega arith) (omega arith), λ i j d l m. h (suc i) (suc j) d (omega arith) (omega arith)))
-    (both_known (all_known (each x) xs) (pairs_known each xs))
+pairs_known {R = R} each (x ∷ xs) = like_known
+    (λ h i j d l m. rw (get_or_default (x ∷ xs) i d x (omega arith), get_or_default (x ∷ xs) j d x m) (h j m i l))
+    (λ h j m i l. h i j x l m)
+    (below_known {P = λ j. (i : ℕ) → i < j → R (get_or (x ∷ xs) i x) (get_or (x ∷ xs) j x)} (length (x ∷ xs)) (λ j. below_known j (λ i. each _ _)))
 
 adjacent_known : {X : Type 0} {R : X → X → Type 0} → ((x y : X) → Known (R x y)) → (xs : List X) → Known (AllAdjacentBelow R xs (length xs))
 adjacent_known each [] = inl (grind arith)
-adjacent_known each (x ∷ []) = inl (grind arith)
-adjacent_known {R = R} each (x ∷ y ∷ ys) = like_known
-    (λ h. next_front R x y ys h.0 h.1) (λ h. (h 0 x (omega arith), λ k d l. rw add-one (rw add-one at (h (suc k) d (omega arith)))))
-    (both_known (each x y) (adjacent_known each (y ∷ ys)))
-  where
-    next_front : {X : Type 0} (R : X → X → Type 0) (x y : X) (ys : List X) → R x y → AllAdjacentBelow R (y ∷ ys) (length (y ∷ ys))
-        → AllAdjacentBelow R (x ∷ y ∷ ys) (length (x ∷ y ∷ ys))
-    next_front R _ _ _ first _ zero _ _ = first
-    next_front R x y ys first more (suc k) d l = rw add-one (rw add-one at (more k d (omega arith)))
+adjacent_known {R = R} each (x ∷ xs) = like_known
+    (λ h k d l. rw (get_or_default (x ∷ xs) k d x (omega arith), get_or_default (x ∷ xs) (k + 1) d x l) (h k (omega arith)))
+    (λ h k l. h k x (omega arith))
+    (below_known {P = λ k. R (get_or (x ∷ xs) k x) (get_or (x ∷ xs) (k + 1) x)} (length xs) (λ k. each _ _))
 
 -- ---- transitions and leap seconds
 earlier_known : (a b : Transition) → Known (a.unix_leap_time <ℤ b.unix_leap_time)
@@ -111,3 +113,12 @@ has_list_fault z bad = elim (cases_lt 0 (length z.types)) [
     ]
   ]
 ]
+
+-- ---- what items say
+pub names_of : {X : Type 0} (n : ℕ) (f : X → Transition) (xs : List X) → NameTypes n (map f xs) → All (λ x. (f x).type_index < n) xs
+names_of n f xs all k d l = let e = get_or-map f xs k d (f d) l in grind (arith, length-map)
+
+pub names_are : {X : Type 0} (n : ℕ) (f : X → Transition) (xs : List X) → All (λ x. (f x).type_index < n) xs → NameTypes n (map f xs)
+names_are n f = All-map (λ t. t.type_index < n) f
+
+pub ruleset all_of_map = (names_of, names_are)

@@ -1,6 +1,5 @@
 -- Values by places.
-use Rattle.std.proofs.lemmas.Bool.{and_right}
-use Rattle.tz_info.proofs.Words.{Bool, Err, Error, List, Ok, Result, all_below, and_parts, arith, cases_lt, false, inl, inr, suc, true, values_below, zero}
+use Rattle.tz_info.proofs.Words.{Bool, Err, Error, List, Ok, Result, all_below, arith, cases_lt, false, inl, inr, suc, true, values_below, zero}
 use Rattle.tz_info.proofs.Words.{ℕ, ◌<◌, ◌≡◌}
 
 -- the first error is that of all
@@ -14,13 +13,8 @@ first_refusal {X = X} (suc n) i read xs e l p q = elim (cases_lt i n) as (λ _. 
 
 pub one_false : (n i : ℕ) (test : ℕ → Bool) → i < n → test i ≡ false → all_below n test ≡ false
 one_false zero i _ l q = absurd (omega arith)
-one_false (suc n) i test l q = elim (cases_lt i n) as (λ _. all_below (suc n) test ≡ false) [
-  | inl h ↦ rw (one_false n i _ h q)
-  | inr h ↦ let same : n ≡ i = omega arith in rw same (and_right (all_below i test) (test i) q)
-]
+one_false (suc n) i test l q = grind (arith, one_false n i test)
 
 pub one_true : (n i : ℕ) (test : ℕ → Bool) → i < n → all_below n test ≡ true → test i ≡ true
 one_true zero i _ l q = absurd (omega arith)
-one_true (suc n) i test l q =
-    let parts = and_parts (all_below n test) (test n) q in
-    elim (cases_lt i n) as (λ _. test i ≡ true) [ inl h ↦ one_true n i _ h parts.0 | inr h ↦ let same : i ≡ n = omega arith in rw same parts.1 ]
+one_true (suc n) i test l q = grind (arith, one_true n i test)

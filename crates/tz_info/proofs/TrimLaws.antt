@@ -3,9 +3,9 @@ use Rattle.std.proofs.lemmas.Bool.{cases_Bool}
 use Rattle.std.proofs.lemmas.List.Sums.{prefix_len-le-length, prefix_len_is}
 use Rattle.std.specs.List.{prefix_len}
 use Rattle.tz_info.proofs.{
-  Words.{BeginsBare, EndsBare, IsAsciiWhitespaceBelow, IsAsciiWhitespaceFrom, IsSpace, IsTrimAscii, IsTrimAsciiStart, IsTrimmed, List, [], ap, append-nil},
-  Words.{arith, drop, false, inl, inr, is_ascii_whitespace, length, length-append, length-take, refl, slice_index, suc, sym, take, trimmed, trimmed_back},
-  Words.{trimmed_front, unless_space, zero, ℕ, ◌++◌, ◌+◌, ◌-◌, ◌<◌, ◌∙◌, ◌∷◌, ◌≡◌, ◌≤◌},
+  Words.{BeginsBare, EndsBare, IsAsciiWhitespaceBelow, IsAsciiWhitespaceFrom, IsSpace, IsTrimAscii, IsTrimAsciiStart, IsTrimmed, List, [], ap},
+  Words.{append-nil, arith, drop, false, inl, inr, is_ascii_whitespace, length, length-append, length-take, refl, slice_index, suc, sym, take},
+  Words.{trimmed, trimmed_back, trimmed_front, unless_space, zero, ℕ, ◌++◌, ◌+◌, ◌-◌, ◌<◌, ◌∙◌, ◌∷◌, ◌≡◌, ◌≤◌},
 }
 
 -- ---- what is trimmed, and how it is found
@@ -94,6 +94,9 @@ trims_both s r t =
     let same : r ≡ trimmed s = cc in
     rw same (trim_is s)
 
+pub trimmed_is : (s r : List ℕ) → IsTrimAscii s r → r ≡ trimmed s
+trimmed_is s r t = sym (trim_again _ _ (trims_both _ _ t))
+
 -- ---- how much white space is in front
 pub front_counted : (s r : List ℕ) → IsTrimAsciiStart s r → length r + prefix_len is_ascii_whitespace s ≡ length s
 front_counted s r t = let c = prefix_len_is is_ascii_whitespace s t.0 0 (omega arith) t.3 t.4 in omega arith
@@ -107,3 +110,6 @@ bare_counted (x ∷ xs) b rest s bare = rw s.0 (omega (arith, bare_counted xs b 
 pub fits_behind : (bytes text : List ℕ) → IsTrimmed bytes text → prefix_len is_ascii_whitespace bytes + length text ≤ length bytes
 fits_behind bytes [] t = omega (arith, prefix_len-le-length is_ascii_whitespace bytes)
 fits_behind bytes (b ∷ bs) t = let front = bare_counted t.before b (bs ++ t.after) t.space_before t.first in grind (arith, length-append)
+
+pub trimmed_fits : (s r : List ℕ) → IsTrimAscii s r → prefix_len is_ascii_whitespace s + length r ≤ length s
+trimmed_fits s r t = fits_behind _ _ (trims_both _ _ t)

@@ -1,18 +1,17 @@
 -- Local time types: what is read is spelled, what is spelled is read, and an error is that of the fault.
 use Rattle.std.proofs.lemmas.Bool.{cases_Bool}
 use Rattle.tz_base.specs.{
-  declared.error.Error.TheVariants.{InvalidTzFile, LocalTimeType, OutOfMemory},
+  declared.error.Error.TheVariants.{InvalidTzFile, LocalTimeType},
   declared.error.Expected.TheVariants.{NameWithinDesignations, ZeroByteAfterName, ZeroOrOneAsIsDst},
 }
 use Rattle.tz_info.proofs.{
-  ListLaws.{first_refusal},
   ContentLaws.{records},
-  Words.{Bool, Decided, Decides, Decides-and, Decides-eqb, Decides-ltb, Err, Error, Gives, HasNoZero, HasTypeFault, IsMark, IsNameOrNone, IsUtOffset, List},
-  Words.{LocalType, MatchResult, No_text, None, Ok, Option, Other_mark, Other_type, Result, Some, SpellTypes, SpellsType, StandsAt, TypeFault, [], ap, arith},
-  Words.{bind, bind_err, by_error, choice, designation_at, designation_of, done, drop, drop_front, expected_of_place, expected_of_type, false, front_of, guard},
-  Words.{inl, inr, int_lt, is_name_or_none, is_zero, least_offset, length, length-append, length-take, like, lt_is, lt_true, mark_in, mark_of, name_test},
-  Words.{nat_tests, offset_in, place_in, pos, position_from, record_at, refl, refused, suc, sym, take, take-append-drop, take-append_seam, text_before_zero},
-  Words.{true, type_in, type_of, type_of_record, values_below, with_next_type, ℕ, ℤ, ◌*◌, ◌++◌, ◌+◌, ◌<ℤ◌, ◌<◌, ◌==◌, ◌∙◌, ◌∷◌, ◌≡◌, ◌≤ℤ◌, ◌⊎◌},
+  Words.{Bool, Decided, Decides, Decides-and, Decides-eqb, Decides-ltb, Error, Gives, HasNoZero, HasTypeFault, IsMark, IsNameOrNone, IsUtOffset},
+  Words.{List, LocalType, MatchResult, No_text, None, Option, Other_mark, Other_type, Result, Some, SpellTypes, SpellsType, StandsAt, TypeFault, []},
+  Words.{ap, arith, bind, by_error, choice, designation_at, designation_of, done, drop, drop_front, expected_of_place, expected_of_type, false},
+  Words.{front_of, guard, inl, inr, int_lt, is_name_or_none, is_zero, least_offset, length, length-append, length-take, like, lt_is, lt_true},
+  Words.{mark_in, mark_of, name_test, nat_tests, offset_in, place_in, pos, position_from, refl, refused, suc, sym, take, take-append-drop},
+  Words.{take-append_seam, true, type_in, type_of, type_of_record, values_below, ℕ, ℤ, ◌*◌, ◌++◌, ◌+◌, ◌<ℤ◌, ◌<◌, ◌==◌, ◌∙◌, ◌∷◌, ◌≡◌, ◌≤ℤ◌, ◌⊎◌},
 }
 
 -- ---- the next 0 byte
@@ -60,7 +59,7 @@ NoText names i e = ((text : List ℕ) → ¬ (StandsAt names i text)) × (e ≡ 
 
 text_law : (names : List ℕ) (i : ℕ)
     → Decided (List ℕ) (designation_at names i) (StandsAt names i) (NoText names i)
-unfolding designation_at text_before_zero
+unfolding designation_at
 text_law names i = by_error (InvalidTzFile (expected_of_place names i))
     (choice (Decides-ltb i (length names)) (front_law _ _) (refused (InvalidTzFile NameWithinDesignations) (omega arith)))
     (λ x h. grind (arith, text_takes))
@@ -114,14 +113,6 @@ type_law _ bytes = like
 pub types_law : (n : ℕ) (names part : List ℕ) → length part ≡ n * 6
     → Decided (List LocalType) (values_below n (type_in names part)) (SpellTypes names part) (HasTypeFault names part)
 types_law n _ _ l = records n 6 _ (omega arith) l (λ bytes _. type_law _ _)
-
--- an error at the next record is that of all
-pub next_refused : (n k : ℕ) (names part : List ℕ) (types : List LocalType) (e : Error) → k < n → values_below k (type_in names part) ≡ Ok types
-    → (e ≡ OutOfMemory) ⊎ (with_next_type names (record_at 6 part k) types ≡ Err e) → (e ≡ OutOfMemory) ⊎ (values_below n (type_in names part) ≡ Err e)
-next_refused n k names part _ e b h r = elim r [
-  | inl m ↦ inl m
-  | inr m ↦ elim (bind_err (type_of_record names (record_at 6 part k)) _ e m) [ inl q ↦ inr (first_refusal n k _ _ e b h q) | inr q ↦ cc ]
-]
 
 -- ---- what the constructor answers
 pub type_answers : (offset : ℤ) (dst : Bool) (text : List ℕ) (name : Option (List ℕ)) (r : Result LocalType Error) → least_offset ≤ℤ offset

@@ -8,9 +8,10 @@ use Rattle.tz_info.proofs.{
   TypeLaws.{types_law},
   Words.{Bool, ContentFault, Decided, Err, Error, FilePieces, FooterFault, GivesInMemory, HasLengths, HasPieces, HasRule, HasTypeFault, IfErr, IfOk},
   Words.{In_contents, In_file, In_footer, In_indicators, In_piece, In_type, IndicatorsAgree, IsErrAnd, IsFileFault, IsOutOfMemory, IsTzFile, IsValid},
-  Words.{IsZoneFault, List, ListFault, Lists, LocalType, No_memory, None, Not_valid, Ok, Option, PieceFault, Reads, Result, SayZone, Some, SpellTransitions},
-  Words.{SpellTypes, TimeZone, Transition, TransitionRule, Zone, apart, arith, bind, either, error_number, fault_low as low, fault_once as one_fault, file_at},
-  Words.{footer_of, inl, inr, like, lists_in, made, pieces_at, refl, value_once, with_rule, with_types, zone_of_lists, ℕ, ◌≡◌, ◌≤◌, ◌⊎◌},
+  Words.{IsZoneFault, List, ListFault, Lists, LocalType, MatchResult, No_memory, None, Not_valid, Ok, Option, PieceFault, Reads, Result, SayZone},
+  Words.{Some, SpellTransitions, SpellTypes, TimeZone, Transition, TransitionRule, Zone, ap, apart, arith, bind, either, error_number},
+  Words.{fault_low as low, fault_once as one_fault, file_at, footer_of, inl, inr, like, linear, lists_in, made, pieces_at, refl, value_once},
+  Words.{zone_of_lists, ℕ, ◌≡◌, ◌≤◌, ◌⊎◌},
 }
 
 -- ---- what whole pieces say
@@ -35,7 +36,7 @@ fault_again : (p : FilePieces) (n : Error) → ContentFault p n → ReadFault p 
 fault_again p n f = grind arith
 
 say_law : (p : FilePieces) → HasLengths p → Decided Zone (lists_in p) (SayZone p) (ContentFault p)
-unfolding lists_in with_types with_rule
+unfolding lists_in
 say_law p l = like
     (bind (types_law _ _ _ l.types) (λ types _.
     bind (indicators_law _ _) (λ _ _.
@@ -95,32 +96,47 @@ fault_low bytes e f = grind (arith, low (file_law bytes), list_fault_low)
 
 -- ---- what the reader of the lists answers
 pub reads : (bytes : List ℕ) (p : FilePieces) (r : Result Lists Error) → pieces_at bytes ≡ Ok p → GivesInMemory zone_of_lists r (lists_in p) → Reads r bytes
-unfolding file_at
-reads bytes p r h g = grind arith
+reads bytes p (Ok lists) h g =
+    let has = (pieces_law bytes).takes p h in (p, has, (say_law p (has_lengths bytes p has)).takes (zone_of_lists lists) g)
+reads bytes p (Err e) h g =
+    let has = (pieces_law bytes).takes p h in
+    elim g [
+      | inl is ↦ rw is (No_memory p has)
+      | inr fails ↦ In_file e (In_contents e p has ((say_law p (has_lengths bytes p has)).fails e fails))
+    ]
 
-pub no_pieces : (bytes : List ℕ) (e : Error) → pieces_at bytes ≡ Err e → Reads (Err e) bytes
-unfolding file_at
-no_pieces bytes e h = grind arith
+pub no_pieces : (bytes : List ℕ) (e : Error) → pieces_at bytes ≡ Err e → IsZoneFault bytes e
+no_pieces bytes e h = In_file e (In_piece e ((pieces_law bytes).fails e h))
 
-pub found : (bytes : List ℕ) (lists : Lists) → Reads (Ok lists) bytes → IsTzFile bytes (zone_of_lists lists)
-found bytes lists = (file_law _).takes (zone_of_lists lists)
+-- ---- what is made of the lists of a file
+abbrev Makes : Zone → Result TimeZone Error → Type 0
+Makes lists r = MatchResult r (λ z. IsValid lists × (z ≡ lists)) (λ e. (ListFault lists e × ¬ (IsValid lists)) ⊎ ((e ≡ OutOfMemory) × IsValid lists))
 
-pub only : (bytes : List ℕ) (e : Error) → Reads (Err e) bytes → (z : Zone) → IsTzFile bytes z → e ≡ OutOfMemory
-only bytes e r z file = let read = (file_law _).again z file in grind arith
+pub made_found : (bytes : List ℕ) (lists : Zone) (r : Result TimeZone Error) → IsTzFile bytes lists → Makes lists r
+    → IfOk r (λ z. IsTzFile bytes z × IsValid z)
+made_found bytes lists r f m = grind arith
 
-pub fault : (bytes : List ℕ) (e : Error) → Reads (Err e) bytes → IsZoneFault bytes e
-fault _ e (inl refused) = In_file e (spelling_fault _ e ((file_law _).fails e refused))
-fault _ _ (inr (is, p, read)) = rw is (No_memory p ((pieces_law _).takes p read))
-
-pub memory : (bytes : List ℕ) (e : Error) → Reads (Err e) bytes → e ≡ OutOfMemory → (p : FilePieces) × HasPieces bytes p
-memory bytes e r is = let low = (file_law bytes).low e in let t = (pieces_law bytes).takes in grind arith
+pub made_fault : (bytes : List ℕ) (lists : Zone) (r : Result TimeZone Error) → IsTzFile bytes lists → Makes lists r → IfErr r (λ e. IsZoneFault bytes e)
+made_fault bytes lists r f m = grind (linear, In_file, Not_valid, No_memory)
 
 -- ---- what a reader of zones answers
+-- why there is no zone: the file's fault, or too little memory
+zone_fault : (bytes : List ℕ) (e : Error) → IsZoneFault bytes e → IsFileFault bytes e ⊎ (e ≡ OutOfMemory)
+zone_fault bytes e (In_file _ f) = inl f
+zone_fault bytes _ (No_memory _ _) = inr refl
+
+pub only : (bytes : List ℕ) (r : Result TimeZone Error) → IfOk r (λ z. IsTzFile bytes z × IsValid z) → IfErr r (λ e. IsZoneFault bytes e) → (z : Zone)
+    → IsTzFile bytes z → IsValid z → MatchResult r (λ y. y ≡ z) (λ e. e ≡ OutOfMemory)
+only bytes (Ok y) found _ z file _ = one_zone bytes y z found.0 file
+only bytes (Err e) _ fault z file valid =
+    elim (zone_fault bytes e fault) [ inl f ↦ absurd (fault_or_zone bytes e z f file valid) | inr is ↦ is ]
+
 -- of a file with a fault that one is named, unless memory ran out
 pub named : (bytes : List ℕ) (r : Result TimeZone Error) → IfOk r (λ z. IsTzFile bytes z × IsValid z) → IfErr r (λ e. IsZoneFault bytes e)
-    → (fault : Error) → IsFileFault bytes fault → IsErrAnd r (λ e. (e ≡ fault) ⊎ IsOutOfMemory e)
-named _ (Ok z) ok _ _ f = absurd (fault_or_zone _ _ z f ok.0 ok.1)
-named bytes (Err e) _ err fault f = by bytes e fault err f where
-  by : (bytes : List ℕ) (d e : Error) → IsZoneFault bytes d → IsFileFault bytes e → (d ≡ e) ⊎ IsOutOfMemory d
-  by _ _ e (In_file k g) f = inl (fault_once _ k e g f)
-  by _ _ _ (No_memory _ _) _ = inr refl
+    → (e : Error) → IsFileFault bytes e → IsErrAnd r (λ d. (d ≡ e) ⊎ IsOutOfMemory d)
+named bytes (Ok y) found _ e f = absurd (fault_or_zone bytes e y f found.0 found.1)
+named bytes (Err d) _ fault e f = elim (zone_fault bytes d fault) [ inl g ↦ inl (fault_once bytes d e g f) | inr is ↦ inr (ap error_number is) ]
+
+pub memory : (bytes : List ℕ) (r : Result TimeZone Error) → IfErr r (λ e. IsZoneFault bytes e)
+    → IfErr r (λ e. e ≡ OutOfMemory → (p : FilePieces) × HasPieces bytes p)
+memory bytes r fault = grind (arith, fault_low)

@@ -106,25 +106,13 @@ abbrev pub before_count : Counts → ℕ
 before_count c =
     if c.types == 0 then 16 else (if c.designations == 0 then 20 else (if is_none_or_all c.types c.ut_local then 4 else 0))
 
-abbrev pub counts_of : Version → Grammar Header
-counts_of version = Here λ at_counts. do
-  counts ← six_counts
-  At (drop (before_count counts) at_counts)
-      (Check (CountsAgree counts) (counts_test counts) (refused.InvalidTzFile expected.CountsThatAgree) (record { version = version; counts = counts }))
-
--- fifteen bytes of any value, six counts
-abbrev pub after_version : Version → Grammar Header
-after_version version = do
-  Exact 15
-  counts_of version
-
-abbrev pub from_version : Place → Grammar Header
-from_version place = do
-  version ← version place
-  after_version version
-
--- `TZif`, a version, and the rest
+-- `TZif`, a version, fifteen bytes of any value, six counts
 unfoldable pub header : Place → Grammar Header
 header place = do
   tzif
-  from_version place
+  version ← version place
+  Exact 15
+  Here λ at_counts. do
+    counts ← six_counts
+    At (drop (before_count counts) at_counts)
+        (Check (CountsAgree counts) (counts_test counts) (refused.InvalidTzFile expected.CountsThatAgree) (record { version = version; counts = counts }))

@@ -46,15 +46,11 @@ after_first_block Two c p = later_version
 after_first_block Three c p = later_version
 
 -- a header, its block with times of four bytes, and what follows
-abbrev pub after_header : Header → Grammar FilePieces
-after_header header = do
-  parts ← block 4 header.counts
-  after_first_block header.version header.counts parts
-
 unfoldable pub file : Grammar FilePieces
 file = do
   header ← header First
-  after_header header
+  parts ← block 4 header.counts
+  after_first_block header.version header.counts parts
 
 abbrev pub HasPieces : List ℕ → FilePieces → Type 0
 HasPieces bytes pieces = Spells file bytes pieces []

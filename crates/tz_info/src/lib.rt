@@ -7,6 +7,7 @@ mod file;
 pub mod laws;
 mod rule;
 mod timeline;
+mod trims;
 mod zone;
 
 pub use change::{HeldChange, HeldSecond, HeldSpan, TypedSecond};

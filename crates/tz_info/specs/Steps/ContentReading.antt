@@ -56,21 +56,16 @@ front_of bytes (Some n) = Ok (take n bytes)
 abbrev pub is_zero : ℕ → Bool
 is_zero byte = byte == 0
 
-unfoldable pub text_before_zero : List ℕ → Result (List ℕ) Error
-text_before_zero bytes = front_of bytes (position_from is_zero 0 bytes)
-
 unfoldable pub designation_at : List ℕ → ℕ → Result (List ℕ) Error
 designation_at designations place =
-    if nat_lt place (length designations) then text_before_zero (drop place designations) else Err (InvalidTzFile NameWithinDesignations)
+    if nat_lt place (length designations) then front_of (drop place designations) (position_from is_zero 0 (drop place designations))
+    else Err (InvalidTzFile NameWithinDesignations)
 
 unfoldable pub type_of_record : List ℕ → List ℕ → Result LocalType Error
 type_of_record designations bytes = do
   dst ← mark_of (mark_in bytes)
   text ← designation_at designations (place_in bytes)
   type_of (offset_in bytes) dst text
-
-abbrev pub with_next_type : List ℕ → List ℕ → List LocalType → Result (List LocalType) Error
-with_next_type designations bytes types = type_of_record designations bytes >>= λ t. Ok (types ++ t ∷ [])
 
 abbrev pub type_in : List ℕ → List ℕ → ℕ → Result LocalType Error
 type_in designations part k = type_of_record designations (record_at 6 part k)

@@ -1,9 +1,9 @@
 -- How the lists of a TZif file are parsed, and what its parser returns.
-use Rattle.std.specs.Prelude.{ℕ, ◌≡◌, ◌⊎◌, ◌*◌, ◌+◌, Result, Ok, Err, List, length, Option, option_map}
-use Rattle.tz_base.specs.{LocalTypes.{LocalType}, Fronts.{◌>>=◌}, declared.error.Error.{Error, TheVariants.{OutOfMemory}}, Grammar.{read}}
-use Rattle.tz_info.specs.{Zones.{Zone}, FileBlocks.{parts_of}, FilePieces.{FilePieces, file}}
+use Rattle.std.specs.Prelude.{ℕ, ◌≡◌, ◌⊎◌, ◌*◌, ◌+◌, Result, Ok, Err, List, length, option_map}
+use Rattle.tz_base.specs.{Fronts.{◌>>=◌}, declared.error.Error.{Error}, Grammar.{read}}
+use Rattle.tz_info.specs.{Zones.{Zone}, FileBlocks.{parts_of}, FilePieces.{FilePieces, file}, TzFiles.{IsTzFile, IsZoneFault}}
 use Rattle.tz_info.specs.Steps.{ContentReading.{values_below, transition_in, leap_second_in, type_in, indicators_of}, FooterReading.{footer_of}}
-use Rattle.tz_info.specs.declared.{rule.transition_rule.TransitionRule.{TransitionRule}, file.reader.{Pieces.{Pieces}, Lists.{Lists}}}
+use Rattle.tz_info.specs.declared.file.reader.{Pieces.{Pieces}, Lists.{Lists}}
 
 abbrev pub pieces_of : Pieces → FilePieces
 pieces_of p = record {
@@ -25,20 +25,14 @@ pub record HasLengths (p : FilePieces) : Type 0 where
   pub types : length p.parts.types ≡ p.counts.types * 6
   pub leap_seconds : length p.parts.leap_seconds ≡ p.counts.leap_seconds * (p.time_size + 4)
 
-unfoldable pub with_rule : FilePieces → List LocalType → Option TransitionRule → Result Zone Error
-with_rule p types rule = do
+unfoldable pub lists_in : FilePieces → Result Zone Error
+lists_in p = do
+  types ← values_below p.counts.types (type_in p.parts.designations p.parts.types)
+  agree ← indicators_of p.parts.standard_wall p.parts.ut_local
+  rule ← footer_of p.extended p.footer
   transitions ← values_below p.counts.transitions (transition_in p.time_size p.parts.times p.parts.type_indexes)
   leaps ← values_below p.counts.leap_seconds (leap_second_in p.time_size p.parts.leap_seconds)
   Ok (record { transitions = transitions; types = types; leaps = leaps; rule = rule })
-
-unfoldable pub with_types : FilePieces → List LocalType → Result Zone Error
-with_types p types = do
-  agree ← indicators_of p.parts.standard_wall p.parts.ut_local
-  rule ← footer_of p.extended p.footer
-  with_rule p types rule
-
-unfoldable pub lists_in : FilePieces → Result Zone Error
-lists_in p = values_below p.counts.types (type_in p.parts.designations p.parts.types) >>= λ types. with_types p types
 
 -- the pieces of a file, and its lists
 unfoldable pub pieces_at : List ℕ → Result FilePieces Error
@@ -47,7 +41,7 @@ pieces_at bytes = read file bytes >>= λ p. Ok p.0
 unfoldable pub file_at : List ℕ → Result Zone Error
 file_at bytes = pieces_at bytes >>= lists_in
 
--- they are read, unless memory runs out, which is answered only where every piece is there
+-- the lists that the file spells, or why it gives no zone
 abbrev pub Reads : Result Lists Error → List ℕ → Type 0
-Reads (Ok lists) bytes = file_at bytes ≡ Ok (zone_of_lists lists)
-Reads (Err e) bytes = (file_at bytes ≡ Err e) ⊎ ((e ≡ OutOfMemory) × (p : FilePieces) × (pieces_at bytes ≡ Ok p))
+Reads (Ok lists) bytes = IsTzFile bytes (zone_of_lists lists)
+Reads (Err e) bytes = IsZoneFault bytes e

@@ -1,8 +1,8 @@
 -- What the reader of a TZ string hands from one function to the next: the rule of it, and its limits.
 use Rattle.std.specs.{Prelude.{ℕ, ℤ, ◌≡◌, ◌+◌, Bool, false, List, Result, Ok, Err, Some}, Char.{is_ascii_whitespace}, List.{prefix_len}}
 use Rattle.offset_core.specs.Offset.{IsWithinDay}
-use Rattle.tz_base.specs.{Grammar.{read}, LocalTypes.{LocalType}, declared.parse_error.ParseError.{ParseError}}
-use Rattle.tz_info.specs.{Rules.{Alternate, IsWithinWeek}, Trims.{IsTrimmed}, TzGrammar.{text, text_fault_position, IsTzText, IsTextFault}}
+use Rattle.tz_base.specs.{LocalTypes.{LocalType}, declared.parse_error.ParseError.{ParseError}}
+use Rattle.tz_info.specs.{Rules.{Alternate, IsWithinWeek}, Steps.FooterReading.{rule_in, trimmed}, TzGrammar.{text_fault_position}}
 use Rattle.tz_info.specs.declared.rule.{day.{DayForm.{DayForm}, DayTime.{DayTime}}, reader.text.Spelled.{Spelled}}
 use Rattle.tz_info.specs.declared.rule.transition_rule.TransitionRule.{TransitionRule}
 use Rattle.tz_info.specs.declared.rule.reader.text.Spelled.TheVariants as spelled
@@ -27,12 +27,12 @@ IsSpelled (spelled.Alternate std dst start end) = IsWithinDay std.offset × IsWi
 
 -- what all bytes of a string were read as: the rule, or the error and its place
 abbrev pub IsParsed : Bool → List ℕ → Result TransitionRule ParseError → Type 0
-IsParsed extended bytes (Ok rule) = (rest : List ℕ) × (read (text extended) bytes ≡ Ok (rule, rest))
-IsParsed extended bytes (Err e) = (read (text extended) bytes ≡ Err e.error) × (e.position ≡ Some (text_fault_position extended bytes))
+IsParsed extended bytes (Ok rule) = rule_in extended bytes ≡ Ok rule
+IsParsed extended bytes (Err e) = (rule_in extended bytes ≡ Err e.error) × (e.position ≡ Some (text_fault_position extended bytes))
 
 -- the same of a string without the white space at its ends, with the place in the whole string
 abbrev pub IsTrimmedRule : List ℕ → Result TransitionRule ParseError → Type 0
-IsTrimmedRule text (Ok rule) = (trimmed : List ℕ) × IsTrimmed text trimmed × IsTzText false trimmed rule
+IsTrimmedRule text (Ok rule) = rule_in false (trimmed text) ≡ Ok rule
 IsTrimmedRule text (Err e) =
-    (trimmed : List ℕ) × IsTrimmed text trimmed × IsTextFault false trimmed e.error
-    × (e.position ≡ Some (prefix_len is_ascii_whitespace text + text_fault_position false trimmed))
+    (rule_in false (trimmed text) ≡ Err e.error)
+    × (e.position ≡ Some (prefix_len is_ascii_whitespace text + text_fault_position false (trimmed text)))

@@ -1,10 +1,10 @@
 //! The data blocks of a file (RFC 8536 section 3.2).
 
 ghost use Rattle.std.specs.Prelude.{◌≤◌};
-ghost use Rattle.tz_base.specs.{Fronts.{Gives}, Grammar.{read}};
+ghost use Rattle.tz_base.specs.Grammar.{IsRead};
 ghost use Rattle.tz_info.specs.FileBlocks.{block, parts_of};
 
-use crate::file::header::Counts;
+use crate::file::header::{Counts, read_exact};
 use tz_base::{Cursor, Error};
 
 /// The parts of a data block, each a slice of the file.
@@ -28,16 +28,15 @@ pub fn read_block<'a>(
     time_size: usize,
 ) -> Result<Block<'a>, Error>
     requires { time_size ≤ 8 }
-    ensures { Gives (λ b. (parts_of b, cursor.new)) result
-        (read (block time_size counts.now) cursor.old) }
+    ensures { IsRead (block time_size counts.now) cursor.old parts_of result cursor.new }
 {
     Ok(Block {
-        times: cursor.read_exact(counts.transitions as usize * time_size)?,
-        type_indexes: cursor.read_exact(counts.transitions as usize)?,
-        types: cursor.read_exact(counts.types as usize * 6)?,
-        designations: cursor.read_exact(counts.designations as usize)?,
-        leap_seconds: cursor.read_exact(counts.leap_seconds as usize * (time_size + 4))?,
-        standard_wall: cursor.read_exact(counts.standard_wall as usize)?,
-        ut_local: cursor.read_exact(counts.ut_local as usize)?,
+        times: read_exact(cursor, counts.transitions as usize * time_size)?,
+        type_indexes: read_exact(cursor, counts.transitions as usize)?,
+        types: read_exact(cursor, counts.types as usize * 6)?,
+        designations: read_exact(cursor, counts.designations as usize)?,
+        leap_seconds: read_exact(cursor, counts.leap_seconds as usize * (time_size + 4))?,
+        standard_wall: read_exact(cursor, counts.standard_wall as usize)?,
+        ut_local: read_exact(cursor, counts.ut_local as usize)?,
     })
 }

@@ -2,7 +2,7 @@
 
 ghost use Rattle.std.specs.Prelude.{◌≡◌, ◌⊎◌, ◌+◌, ◌*◌, length, slice_index};
 ghost use Rattle.tz_base.specs.Fronts.{Gives};
-ghost use Rattle.tz_info.specs.Steps.{Below.{all_below}, ContentReading.{transition_in, values_below, GivesInMemory}};
+ghost use Rattle.tz_info.specs.Steps.ContentReading.{transition_in, values_below, GivesInMemory};
 ghost use Rattle.tz_info.specs.Steps.ContentReading.{indicators_of, leap_second_in, leap_second_of, pair_agrees};
 
 use crate::file::numbers::{record_at, signed_32, time_of};
@@ -70,22 +70,12 @@ pub fn leap_second_of(time_size: usize, bytes: &[u8]) -> LeapSecond
 pub fn check_indicators(standard_wall: &[u8], ut_local: &[u8]) -> Result<(), Error>
     ensures { Gives (λ _. tt) result (indicators_of standard_wall.now ut_local.now) }
 {
-    if !indicators_agree(standard_wall, ut_local) {
-        return Err(Error::InvalidTzFile(Expected::StandardTimeWhereTimeIsUt));
-    }
-    Ok(())
-}
-
-fn indicators_agree(standard_wall: &[u8], ut_local: &[u8]) -> bool
-    ensures { result
-        ≡ all_below (length ut_local.now) (pair_agrees standard_wall.now ut_local.now) }
-{
     for k in 0..ut_local.len() {
         if !pair_agrees(standard_wall, ut_local, k) {
-            return false;
+            return Err(Error::InvalidTzFile(Expected::StandardTimeWhereTimeIsUt));
         }
     }
-    true
+    Ok(())
 }
 
 fn pair_agrees(standard_wall: &[u8], ut_local: &[u8], k: usize) -> bool

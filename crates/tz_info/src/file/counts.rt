@@ -5,6 +5,7 @@ ghost use Rattle.tz_info.specs.FilePieces.{HasCounts};
 
 use crate::file::reader::read_pieces;
 use crate::zone::TimeZone;
+use tz_base::Cursor;
 
 /// How many transitions and leap seconds a TZif file has. From [`TimeZone::file_counts`].
 #[derive(Clone, Copy, Debug, PartialEq, Eq)]
@@ -28,7 +29,7 @@ impl TimeZone {
     pub fn file_counts(bytes: &[u8]) -> Option<FileCounts>
         ensures { (c : FileCounts) → (result ≡ Some c) ↔ HasCounts bytes.now c }
     {
-        match read_pieces(bytes) {
+        match read_pieces(&mut Cursor::new(bytes)) {
             Ok(pieces) => Some(FileCounts {
                 transitions: pieces.counts.transitions,
                 leap_seconds: pieces.counts.leap_seconds,

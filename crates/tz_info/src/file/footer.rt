@@ -3,15 +3,16 @@
 ghost use Rattle.std.specs.{List.{list_any}, Prelude.{◌≡◌}, Str.{is_utf8}};
 ghost use Rattle.tz_base.specs.Fronts.{Gives};
 ghost use Rattle.tz_info.specs.Steps.ContentReading.{is_zero};
-ghost use Rattle.tz_info.specs.Steps.FooterReading.{footer_at, is_between_newlines, is_no_text, text_or_none, trimmed};
+ghost use Rattle.tz_info.specs.Steps.FooterReading.{footer_at, is_between_newlines, is_no_text};
 
 use crate::file::contents::byte_or_zero;
 use crate::rule::TransitionRule;
 use crate::rule::reader::read_all;
+use crate::trims::trimmed;
 use tz_base::{Error, Expected};
 
 /// Returns the rule of a footer, the TZ string between two newlines, or `None` if that is empty.
-#[tactic(auto, unfolding(crate::specs::Steps::FooterReading::footer_at))]
+#[tactic(auto, unfolding(crate::specs::Steps::FooterReading::footer_at, crate::specs::Steps::FooterReading::rule_in))]
 pub fn read_footer(extended: bool, bytes: &[u8]) -> Result<Option<TransitionRule>, Error>
     ensures { Gives (λ r. r) result (footer_at extended bytes.now) }
 {
@@ -21,14 +22,7 @@ pub fn read_footer(extended: bool, bytes: &[u8]) -> Result<Option<TransitionRule
     if !is_between_newlines(bytes) {
         return Err(Error::InvalidTzFile(Expected::FooterBetweenNewlines));
     }
-    rule_of_text(extended, trimmed(bytes))
-}
-
-// The rule of a footer's text, which has none if it is empty.
-#[tactic(auto, unfolding(crate::specs::Steps::FooterReading::rule_in))]
-fn rule_of_text(extended: bool, text: &[u8]) -> Result<Option<TransitionRule>, Error>
-    ensures { Gives (λ r. r) result (text_or_none extended text.now) }
-{
+    let text = trimmed(bytes);
     if is_no_text(text) {
         return Err(Error::InvalidTzFile(Expected::TzTextInFooter));
     }
@@ -53,13 +47,6 @@ pub fn is_between_newlines(bytes: &[u8]) -> bool
     ensures { result ≡ is_between_newlines bytes.now }
 {
     bytes.starts_with(b"\n") && bytes.ends_with(b"\n")
-}
-
-// Without the ASCII white space at both ends.
-fn trimmed(bytes: &[u8]) -> &[u8]
-    ensures { result.now ≡ trimmed bytes.now }
-{
-    bytes.trim_ascii()
 }
 
 // A colon in front would name a file, and a 0 byte is in no TZ string.

@@ -1,9 +1,10 @@
 //! The headers of a file (RFC 8536 section 3.1).
 
-ghost use Rattle.std.specs.{Prelude.{◌≡◌}, Result.{IsErrAnd}};
-ghost use Rattle.tz_base.specs.{Fronts.{Gives}, Grammar.{read}};
-ghost use Rattle.tz_info.specs.FileHeaders.{counts_agree, header, six_counts, tzif, version, version_1, HasOtherMagic};
+ghost use Rattle.std.specs.{Prelude.{◌≡◌, drop}, Result.{IsErrAnd}};
+ghost use Rattle.tz_base.specs.Grammar.{be_u32, Exact, IsRead};
+ghost use Rattle.tz_info.specs.FileHeaders.{before_count, counts_agree, header, six_counts, tzif, version, HasOtherMagic};
 
+use crate::rule::reader::place::checked_at;
 use tz_base::{Cursor, Error, Expected};
 
 /// Which of a file's headers it is.
@@ -44,72 +45,100 @@ pub struct Header {
 
 #[tactic(auto, unfolding(crate::specs::FileHeaders::header))]
 pub fn read_header(cursor: &mut Cursor<'_>, place: Place) -> Result<Header, Error>
-    ensures header { Gives (λ h. (h, cursor.new)) result (read (header place) cursor.old) }
+    ensures header { IsRead (header place) cursor.old (λ h. h) result cursor.new }
     ensures magic { HasOtherMagic cursor.old
         → IsErrAnd result (λ e. e ≡ Error.InvalidTzFile Expected.TZifAtFrontOfHeader) }
 {
     read_magic(cursor)?;
     let version = read_version(cursor, place)?;
-    let _unused = cursor.read_exact(15)?;
+    let _unused = read_exact(cursor, 15)?;
+    let at_counts = cursor.remaining();
     let counts = read_counts(cursor)?;
     if !counts.agree() {
+        *cursor = Cursor::new(after(at_counts, counts.before_count()));
         return Err(Error::InvalidTzFile(Expected::CountsThatAgree));
     }
     Ok(Header { version, counts })
 }
 
 #[tactic(auto, using(crate::specs::FileHeaders::magic_test), unfolding(crate::specs::FileHeaders::tzif, tz_base::specs::Fronts::exact_at),)]
-pub fn read_magic(cursor: &mut Cursor<'_>) -> Result<(), Error>
-    ensures rest { Gives (λ unit. (unit, cursor.new)) result (read tzif cursor.old) }
+fn read_magic(cursor: &mut Cursor<'_>) -> Result<(), Error>
+    ensures rest { IsRead tzif cursor.old (λ unit. unit) result cursor.new }
     ensures magic { HasOtherMagic cursor.old
         → IsErrAnd result (λ e. e ≡ Error.InvalidTzFile Expected.TZifAtFrontOfHeader) }
 {
-    let front = cursor.read_exact(4)?;
+    let at_magic = cursor.remaining();
+    let front = read_exact(cursor, 4)?;
     if front != b"TZif".as_slice() {
+        *cursor = Cursor::new(at_magic);
         return Err(Error::InvalidTzFile(Expected::TZifAtFrontOfHeader));
     }
     Ok(())
 }
 
-#[tactic(auto, unfolding(crate::specs::FileHeaders::version))]
-pub fn read_version(cursor: &mut Cursor<'_>, place: Place) -> Result<Version, Error>
-    ensures { Gives (λ v. (v, cursor.new)) result (read (version place) cursor.old) }
+// A second header is there from version 2 on.
+#[tactic(auto, unfolding(crate::specs::FileHeaders::version, crate::specs::FileHeaders::version_1))]
+fn read_version(cursor: &mut Cursor<'_>, place: Place) -> Result<Version, Error>
+    ensures { IsRead (version place) cursor.old (λ v. v) result cursor.new }
 {
+    let at_version = cursor.remaining();
     if cursor.read_optional_tag(b"\0") {
-        version_1(cursor, place)
+        match place {
+            Place::First => Ok(Version::One),
+            Place::Second => {
+                *cursor = Cursor::new(at_version);
+                Err(Error::InvalidTzFile(Expected::Version2Or3InSecondHeader))
+            }
+        }
     } else if cursor.read_optional_tag(b"2") {
         Ok(Version::Two)
     } else if cursor.read_optional_tag(b"3") {
         Ok(Version::Three)
     } else {
-        let _other = cursor.read_exact(1)?;
+        let _other = read_exact(cursor, 1)?;
+        *cursor = Cursor::new(at_version);
         Err(Error::UnsupportedTzFile(Expected::Version1To3))
     }
 }
 
-// A second header is there from version 2 on.
-#[tactic(auto, unfolding(crate::specs::FileHeaders::version_1))]
-fn version_1(cursor: &Cursor<'_>, place: Place) -> Result<Version, Error>
-    ensures { Gives (λ v. (v, cursor.now)) result (read (version_1 place) cursor.now) }
-{
-    match place {
-        Place::First => Ok(Version::One),
-        Place::Second => Err(Error::InvalidTzFile(Expected::Version2Or3InSecondHeader)),
-    }
-}
-
 #[tactic(auto, unfolding(crate::specs::FileHeaders::six_counts))]
-pub fn read_counts(cursor: &mut Cursor<'_>) -> Result<Counts, Error>
-    ensures { Gives (λ c. (c, cursor.new)) result (read six_counts cursor.old) }
+fn read_counts(cursor: &mut Cursor<'_>) -> Result<Counts, Error>
+    ensures { IsRead six_counts cursor.old (λ c. c) result cursor.new }
 {
     Ok(Counts {
-        ut_local: cursor.read_be_u32()?,
-        standard_wall: cursor.read_be_u32()?,
-        leap_seconds: cursor.read_be_u32()?,
-        transitions: cursor.read_be_u32()?,
-        types: cursor.read_be_u32()?,
-        designations: cursor.read_be_u32()?,
+        ut_local: read_be_u32(cursor)?,
+        standard_wall: read_be_u32(cursor)?,
+        leap_seconds: read_be_u32(cursor)?,
+        transitions: read_be_u32(cursor)?,
+        types: read_be_u32(cursor)?,
+        designations: read_be_u32(cursor)?,
     })
+}
+
+#[tactic(auto, unfolding(tz_base::specs::Grammar::be_u32))]
+fn read_be_u32(cursor: &mut Cursor<'_>) -> Result<u32, Error>
+    ensures { IsRead be_u32 cursor.old (λ n. n) result cursor.new }
+{
+    let number = cursor.read_be_u32();
+    checked_at(&[], cursor, number)
+}
+
+/// The next `count` bytes. If fewer are left, the cursor goes to their end, where the fault is.
+pub fn read_exact<'a>(cursor: &mut Cursor<'a>, count: usize) -> Result<&'a [u8], Error>
+    ensures { IsRead (Exact count) cursor.old (λ bytes. bytes.now) result cursor.new }
+{
+    let bytes = cursor.read_exact(count);
+    checked_at(&[], cursor, bytes)
+}
+
+fn after(bytes: &[u8], count: usize) -> &[u8]
+    ensures { result.now ≡ drop count bytes.now }
+{
+    if count < bytes.len() {
+        &bytes[count..]
+    } else {
+        &[]
+    }
 }
 
 impl Counts {
@@ -121,5 +150,20 @@ impl Counts {
             && self.designations != 0
             && (self.ut_local == 0 || self.ut_local == self.types)
             && (self.standard_wall == 0 || self.standard_wall == self.types)
+    }
+
+    // If they don't, how many bytes are in front of the one that is rejected.
+    fn before_count(&self) -> usize
+        ensures { result ≡ before_count self.now }
+    {
+        if self.types == 0 {
+            16
+        } else if self.designations == 0 {
+            20
+        } else if self.ut_local == 0 || self.ut_local == self.types {
+            4
+        } else {
+            0
+        }
     }
 }

@@ -1,18 +1,16 @@
 //! Where a file is at fault, as the number of bytes in front of the fault.
 
 ghost use Rattle.std.specs.Prelude.{◌≡◌, length, option_map};
-ghost use Rattle.tz_base.specs.Grammar.{fault_position};
-ghost use Rattle.tz_info.specs.{FilePieces.{file, HasPieces}, FilePlaces.{footer_bytes, ArePartPlaces, IsFilePlace}};
+ghost use Rattle.tz_info.specs.{FilePieces.{HasPieces}, FilePlaces.{footer_bytes, ArePartPlaces, IsFilePlace}};
 ghost use Rattle.tz_info.specs.Steps.FileLists.{pieces_of};
 
 mod contents;
 mod footer;
 mod lists;
-mod pieces;
 
 use crate::file::reader::{Pieces, read_pieces};
 use contents::place_in_contents;
-use pieces::left_of_file;
+use tz_base::Cursor;
 
 /// Where the parts of the last data block begin, and where the footer and the file end.
 #[derive(Clone, Copy)]
@@ -29,19 +27,15 @@ pub struct PartPlaces {
 }
 
 /// Returns the position of the fault of a file that has one.
+#[tactic(auto, using(crate::proofs::FilePieceLaws::pieces_read))]
 pub fn place_of_fault(bytes: &[u8]) -> usize
     ensures { IsFilePlace bytes.now result }
 {
-    match read_pieces(bytes) {
+    let mut cursor = Cursor::new(bytes);
+    match read_pieces(&mut cursor) {
         Ok(pieces) => place_in_contents(&pieces, places_of_parts(bytes, &pieces)),
-        Err(_) => place_in_pieces(bytes),
+        Err(_) => bytes.len().saturating_sub(cursor.remaining().len()),
     }
-}
-
-fn place_in_pieces(bytes: &[u8]) -> usize
-    ensures { result ≡ fault_position file bytes.now }
-{
-    bytes.len().saturating_sub(left_of_file(bytes))
 }
 
 // The parts follow one another, and the footer ends the file.

@@ -1,11 +1,11 @@
 //! A file from its first byte to its last: its pieces, and the lists that they spell.
 
-ghost use Rattle.std.specs.{Prelude.{◌≡◌, ◌⊎◌, [], option_map, MatchResult}, Result.{IsErrAnd}};
-ghost use Rattle.tz_base.specs.{Fronts.{Gives}, Grammar.{read}};
-ghost use Rattle.tz_info.specs.{FileBlocks.{parts_of}, FileHeaders.{HasOtherMagic}, Steps.FooterReading.{footer_of}};
-ghost use Rattle.tz_info.specs.FilePieces.{after_first_block, first_version, is_extended, later_version};
+ghost use Rattle.std.specs.{Prelude.{◌≡◌, ◌⊎◌, MatchResult, OnErr}, Result.{IsErrAnd}};
+ghost use Rattle.tz_base.specs.{Fronts.{Gives}, Grammar.{from_fault, IsRead}};
+ghost use Rattle.tz_info.specs.{FileBlocks.{parts_of}, FileHeaders.{HasOtherMagic}, FilePieces.{file}};
+ghost use Rattle.tz_info.specs.FilePieces.{after_first_block, is_extended, later_version};
 ghost use Rattle.tz_info.specs.Steps.{ContentReading.{GivesInMemory}, FileLists.{HasLengths, Reads}};
-ghost use Rattle.tz_info.specs.Steps.FileLists.{lists_in, pieces_at, pieces_of, with_rule, with_types, zone_of_lists};
+ghost use Rattle.tz_info.specs.Steps.FileLists.{lists_in, pieces_at, pieces_of, zone_of_lists};
 ghost use Rattle.tz_info.specs.Zones.{IsValid, ListFault};
 
 use crate::file::block::{Block, read_block};
@@ -55,7 +55,7 @@ pub fn read_lists(alloc: Global, bytes: &[u8]) -> Result<Lists, Error>
     ensures magic { HasOtherMagic bytes.now
         → IsErrAnd result (λ e. e ≡ Error.InvalidTzFile Expected.TZifAtFrontOfHeader) }
 {
-    let pieces = read_pieces(bytes)?;
+    let pieces = read_pieces(&mut Cursor::new(bytes))?;
     lists_of(alloc, &pieces)
 }
 
@@ -71,67 +71,59 @@ pub struct Pieces<'a> {
 }
 
 #[tactic(auto, unfolding(crate::specs::FilePieces::file, crate::specs::Steps::FileLists::pieces_at))]
-pub fn read_pieces(bytes: &[u8]) -> Result<Pieces<'_>, Error>
-    ensures pieces { Gives pieces_of result (pieces_at bytes.now) }
-    ensures magic { HasOtherMagic bytes.now
+pub fn read_pieces<'a>(cursor: &mut Cursor<'a>) -> Result<Pieces<'a>, Error>
+    ensures pieces { Gives pieces_of result (pieces_at cursor.old) }
+    ensures fault { OnErr result (cursor.new ≡ from_fault file cursor.old) }
+    ensures magic { HasOtherMagic cursor.old
         → IsErrAnd result (λ e. e ≡ Error.InvalidTzFile Expected.TZifAtFrontOfHeader) }
 {
-    let mut cursor = Cursor::new(bytes);
-    let header = read_header(&mut cursor, Place::First)?;
-    let block = read_block(&mut cursor, &header.counts, 4)?;
-    after_first_block(&mut cursor, header, block)
+    let header = read_header(cursor, Place::First)?;
+    let block = read_block(cursor, &header.counts, 4)?;
+    after_first_block(cursor, header, block)
 }
 
-#[tactic(auto, unfolding(crate::specs::FilePieces::after_first_block))]
+// In version 1 the first block says all, and nothing follows it.
+#[tactic(auto, unfolding(crate::specs::FilePieces::after_first_block, crate::specs::FilePieces::first_version))]
 fn after_first_block<'a>(
     cursor: &mut Cursor<'a>,
     header: Header,
     block: Block<'a>,
 ) -> Result<Pieces<'a>, Error>
-    ensures { Gives (λ p. (pieces_of p, [])) result
-        (read (after_first_block header.version header.counts (parts_of block.entry)) cursor.old) }
+    ensures { IsRead (after_first_block header.version header.counts (parts_of block.entry))
+        cursor.old pieces_of result cursor.new }
 {
     match header.version {
-        Version::One => first_version(cursor, header.counts, block),
+        Version::One => {
+            if !cursor.is_empty() {
+                return Err(Error::InvalidTzFile(Expected::NothingAfterBlockOfVersion1));
+            }
+            Ok(Pieces {
+                extended: false,
+                time_size: 4,
+                counts: header.counts,
+                block,
+                footer: None,
+            })
+        }
         Version::Two | Version::Three => later_version(cursor),
     }
-}
-
-// In version 1 the first block says all, and nothing follows it.
-#[tactic(auto, unfolding(crate::specs::FilePieces::first_version))]
-fn first_version<'a>(
-    cursor: &Cursor<'a>,
-    counts: Counts,
-    block: Block<'a>,
-) -> Result<Pieces<'a>, Error>
-    ensures { Gives (λ p. (pieces_of p, [])) result
-        (read (first_version counts (parts_of block.entry)) cursor.now) }
-{
-    if !cursor.is_empty() {
-        return Err(Error::InvalidTzFile(Expected::NothingAfterBlockOfVersion1));
-    }
-    Ok(Pieces {
-        extended: false,
-        time_size: 4,
-        counts,
-        block,
-        footer: None,
-    })
 }
 
 // From version 2 on the second block says all, with the footer, which is the rest.
 #[tactic(auto, unfolding(crate::specs::FilePieces::later_version))]
 fn later_version<'a>(cursor: &mut Cursor<'a>) -> Result<Pieces<'a>, Error>
-    ensures { Gives (λ p. (pieces_of p, [])) result (read later_version cursor.old) }
+    ensures { IsRead later_version cursor.old pieces_of result cursor.new }
 {
     let header = read_header(cursor, Place::Second)?;
     let block = read_block(cursor, &header.counts, 8)?;
+    let footer = cursor.remaining();
+    *cursor = Cursor::new(&[]);
     Ok(Pieces {
         extended: is_extended(header.version),
         time_size: 8,
         counts: header.counts,
         block,
-        footer: Some(cursor.remaining()),
+        footer: Some(footer),
     })
 }
 
@@ -152,37 +144,15 @@ fn lists_of(alloc: Global, pieces: &Pieces<'_>) -> Result<Lists, Error>
     let block = pieces.block;
     let count = pieces.counts.types as usize;
     let types = read_types(alloc, count, block.types, block.designations)?;
-    with_types(alloc, pieces, types)
-}
-
-#[tactic(auto, unfolding(crate::specs::Steps::FileLists::with_types))]
-fn with_types(alloc: Global, pieces: &Pieces<'_>, types: Vec<LocalTimeType>) -> Result<Lists, Error>
-    requires { HasLengths (pieces_of pieces.now) }
-    ensures { GivesInMemory zone_of_lists result (with_types (pieces_of pieces.now) types.items) }
-{
-    check_indicators(pieces.block.standard_wall, pieces.block.ut_local)?;
+    check_indicators(block.standard_wall, block.ut_local)?;
     let rule = match pieces.footer {
         None => None,
         Some(footer) => read_footer(pieces.extended, footer)?,
     };
-    with_rule(alloc, pieces, types, rule)
-}
-
-#[tactic(auto, unfolding(crate::specs::Steps::FileLists::with_rule))]
-fn with_rule(
-    alloc: Global,
-    pieces: &Pieces<'_>,
-    types: Vec<LocalTimeType>,
-    rule: Option<TransitionRule>,
-) -> Result<Lists, Error>
-    requires { HasLengths (pieces_of pieces.now) }
-    ensures { GivesInMemory zone_of_lists result (with_rule (pieces_of pieces.now) types.items rule) }
-{
     let time_size = pieces.time_size;
-    let block = pieces.block;
-    let leap_count = pieces.counts.leap_seconds as usize;
+    let count = pieces.counts.leap_seconds as usize;
     let transitions = read_transitions(alloc, time_size, block.times, block.type_indexes)?;
-    let leap_seconds = read_leap_seconds(alloc, time_size, leap_count, block.leap_seconds)?;
+    let leap_seconds = read_leap_seconds(alloc, time_size, count, block.leap_seconds)?;
     Ok(Lists {
         transitions,
         types,

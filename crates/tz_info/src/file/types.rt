@@ -3,8 +3,8 @@
 ghost use Rattle.std.specs.{List.{position_from}, Prelude.{◌≡◌, ◌<◌, ◌*◌, length, option_map, IfSome}};
 ghost use Rattle.tz_base.specs.Fronts.{Gives};
 ghost use Rattle.tz_info.specs.{FileContents.{designation_of}, Steps.ContentReading.{GivesInMemory}};
-ghost use Rattle.tz_info.specs.Steps.ContentReading.{designation_at, is_zero, mark_of, text_before_zero, type_in};
-ghost use Rattle.tz_info.specs.Steps.ContentReading.{type_of, type_of_record, values_below, with_next_type};
+ghost use Rattle.tz_info.specs.Steps.ContentReading.{designation_at, is_zero, mark_of, type_in};
+ghost use Rattle.tz_info.specs.Steps.ContentReading.{type_of, type_of_record, values_below};
 
 use crate::file::numbers::{record_at, signed_32};
 use std::alloc::Global;
@@ -24,18 +24,9 @@ pub fn read_types(
 {
     let mut types = Vec::with_capacity(alloc, count)?;
     for k in 0..count {
-        read_next(&mut types, designations, record_at(part, 6, k))?;
+        types.push_reserved(read_type(designations, record_at(part, 6, k))?);
     }
     Ok(types)
-}
-
-fn read_next(types: &mut Vec<LocalTimeType>, designations: &[u8], bytes: &[u8]) -> Result<(), Error>
-    requires { length bytes.now ≡ 6 }
-    ensures { GivesInMemory (λ _. types.new.items) result
-        (with_next_type designations.now bytes.now types.old.items) }
-{
-    types.push(read_type(designations, bytes)?)?;
-    Ok(())
 }
 
 #[tactic(auto, unfolding(crate::specs::Steps::ContentReading::type_of_record))]
@@ -66,15 +57,9 @@ fn designation_at(designations: &[u8], place: usize) -> Result<&[u8], Error>
     if place >= designations.len() {
         return Err(Error::InvalidTzFile(Expected::NameWithinDesignations));
     }
-    text_before_zero(designations.split_at(place).1)
-}
-
-#[tactic(auto, unfolding(crate::specs::Steps::ContentReading::text_before_zero))]
-fn text_before_zero(bytes: &[u8]) -> Result<&[u8], Error>
-    ensures { Gives (λ s. s.now) result (text_before_zero bytes.now) }
-{
-    match first_zero(bytes) {
-        Some(place) => Ok(bytes.split_at(place).0),
+    let text = designations.split_at(place).1;
+    match first_zero(text) {
+        Some(end) => Ok(text.split_at(end).0),
         None => Err(Error::InvalidTzFile(Expected::ZeroByteAfterName)),
     }
 }

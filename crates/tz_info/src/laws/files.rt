@@ -14,6 +14,7 @@ pub fn one_zone()
 {}
 
 /// The numbers of a file's rule are in their limits.
+#[tactic(auto, using(crate::proofs::TextFits::text_rule_fits))]
 pub fn rule_is_in_limits()
     ensures { (bytes : List ℕ) (zone : Zone) → IsTzFile bytes zone → IsRuleOrNone zone.rule }
 {}

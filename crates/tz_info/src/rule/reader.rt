@@ -6,7 +6,7 @@ ghost use Rattle.tz_info.specs.{Steps.Spelled.{IsParsed}, TzGrammar.{text_fault_
 mod clock;
 mod date;
 mod name;
-mod place;
+pub(crate) mod place;
 mod text;
 
 use crate::rule::transition_rule::TransitionRule;
@@ -55,6 +55,7 @@ impl TransitionRule {
     /// on; at the end if the string ends too soon; and at the first byte of a number, a time or a name
     /// that is out of its limits. If the offset of daylight saving time is left out, and an hour more
     /// than that of standard time is no offset, the fault is at the comma.
+    #[tactic(auto, using(crate::proofs::TextLaws::fault_by, crate::proofs::TextLaws::found_by, crate::proofs::TextLaws::only_by))]
     pub fn parse_tz_string(bytes: &[u8], extended: bool) -> Result<TransitionRule, ParseError>
         // What is read is spelled so.
         ensures found { IfOk result (λ rule. IsTzText extended bytes.now rule) }
@@ -71,6 +72,7 @@ impl TransitionRule {
     }
 }
 
+#[tactic(auto, unfolding(crate::specs::Steps::FooterReading::rule_in))]
 pub(crate) fn read_all(bytes: &[u8], extended: bool) -> Result<TransitionRule, ParseError>
     ensures { IsParsed extended bytes.now result }
 {

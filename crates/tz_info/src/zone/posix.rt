@@ -1,12 +1,14 @@
 //! Zones of TZ strings.
 
-ghost use Rattle.std.specs.Prelude.{◌≡◌, ◌⊎◌, ◌-◌, option_map, pos, true, IfErr, IfOk, MatchResult};
+ghost use Rattle.std.specs.Prelude.{◌≡◌, ◌⊎◌, pos, true, IfErr, IfOk, MatchResult};
 ghost use Rattle.tz_base.specs.Errors.{IsOutOfMemory};
 ghost use Rattle.tz_info.specs.PosixZones.{posix_zone, types_of, IsExtendedFaultPlace, IsExtendedZone, IsPlaced};
 ghost use Rattle.tz_info.specs.{PosixZones.{IsPosixFault, IsPosixFaultPlace, IsPosixZone}, Zones.{plain_zone, Zone}};
 ghost use Rattle.tz_info.specs.{Steps.Spelled.{IsTrimmedRule}, TzGrammar.{IsTextFault}};
 
 use crate::rule::TransitionRule;
+use crate::rule::reader::read_all;
+use crate::trims::{space_in_front, trimmed};
 use crate::zone::time_zone::TimeZone;
 use std::alloc::Global;
 use tz_base::{Error, LocalTimeType, ParseError};
@@ -39,7 +41,10 @@ impl TimeZone {
         ensures memory { IfErr result
             (λ e. IsOutOfMemory e → (z : Zone) × IsPosixZone text.now z) }
     {
-        Ok(TimeZone::parse_posix_tz(alloc, text)?)
+        match TimeZone::parse_posix_tz(alloc, text) {
+            Ok(zone) => Ok(zone),
+            Err(fault) => Err(fault.error),
+        }
     }
 
     /// Returns the zone of [`TimeZone::from_posix_tz`], or its error with the place of the fault: the
@@ -57,6 +62,7 @@ impl TimeZone {
     ///
     /// Those of [`TimeZone::from_posix_tz`]. [`Error::OutOfMemory`] has no place, and each other
     /// error has one.
+    #[tactic(auto, using(crate::proofs::PosixLaws::posix_answers))]
     pub fn parse_posix_tz(alloc: Global, text: &str) -> Result<TimeZone, ParseError>
         // The zone is the text's.
         ensures found { IfOk result (λ z. IsPosixZone text.now z) }
@@ -75,8 +81,10 @@ impl TimeZone {
         if text.is_empty() {
             return TimeZone::utc_zone(alloc);
         }
-        let rule = read_trimmed(text)?;
-        TimeZone::of_rule(alloc, rule)
+        match read_trimmed(text.as_bytes()) {
+            Ok(rule) => TimeZone::of_rule(alloc, rule),
+            Err(fault) => Err(fault),
+        }
     }
 
     /// Returns the zone of a TZ string that may have the extensions of RFC 8536, section 3.3.1: its
@@ -103,7 +111,10 @@ impl TimeZone {
         ensures memory { IfErr result
             (λ e. IsOutOfMemory e → (z : Zone) × IsExtendedZone text.now z) }
     {
-        Ok(TimeZone::parse_extended_tz(alloc, text)?)
+        match TimeZone::parse_extended_tz(alloc, text) {
+            Ok(zone) => Ok(zone),
+            Err(fault) => Err(fault.error),
+        }
     }
 
     /// Returns the zone of [`TimeZone::from_extended_tz`], or its error with the place of the fault.
@@ -119,6 +130,7 @@ impl TimeZone {
     ///
     /// Those of [`TimeZone::from_extended_tz`]. [`Error::OutOfMemory`] has no place, and each other
     /// error has one.
+    #[tactic(auto, using(crate::proofs::PosixLaws::string_placed, crate::proofs::TextLaws::text_low))]
     pub fn parse_extended_tz(alloc: Global, text: &[u8]) -> Result<TimeZone, ParseError>
         // The zone is the string's.
         ensures found { IfOk result (λ z. IsExtendedZone text.now z) }
@@ -157,26 +169,19 @@ impl TimeZone {
 }
 
 // The rule of a text without the white space at its ends.
-fn read_trimmed(text: &str) -> Result<TransitionRule, ParseError>
+#[tactic(auto, using(crate::proofs::PosixLaws::string_place_within))]
+fn read_trimmed(text: &[u8]) -> Result<TransitionRule, ParseError>
     ensures { IsTrimmedRule text.now result }
 {
-    let start = text.trim_ascii_start();
-    match TransitionRule::parse_tz_string(text.trim_ascii().as_bytes(), false) {
+    match read_all(trimmed(text), false) {
         Ok(rule) => Ok(rule),
-        Err(fault) => Err(ParseError {
-            error: fault.error,
-            position: place_in(text.len(), start.len(), fault.position),
-        }),
-    }
-}
-
-// A place in the last `left` of `len` bytes, counted from the first of all of them.
-fn place_in(len: usize, left: usize, place: Option<usize>) -> Option<usize>
-    ensures { result ≡ option_map (λ p. len - (left - p)) place }
-{
-    match place {
-        Some(place) => Some(len.saturating_sub(left.saturating_sub(place))),
-        None => None,
+        Err(ParseError { error, position }) => {
+            let position = match position {
+                Some(place) => Some(space_in_front(text) + place),
+                None => None,
+            };
+            Err(ParseError { error, position })
+        }
     }
 }
 

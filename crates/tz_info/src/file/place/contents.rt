@@ -61,10 +61,8 @@ fn before_field(error: Error) -> usize
 
 fn fault_in_indicators(pieces: &Pieces<'_>) -> Option<usize>
     ensures { MatchOption result
-        (IndicatorsAgree (pieces_of pieces.now).parts.standard_wall
-        (pieces_of pieces.now).parts.ut_local)
-        (IsFirstBelow (IsOtherPair (pieces_of pieces.now))
-        (length (pieces_of pieces.now).parts.ut_local)) }
+        (IndicatorsAgree pieces.now.block.standard_wall.now pieces.now.block.ut_local.now)
+        (IsFirstBelow (IsOtherPair (pieces_of pieces.now)) (length pieces.now.block.ut_local.now)) }
 {
     let block = pieces.block;
     for k in 0..block.ut_local.len() {

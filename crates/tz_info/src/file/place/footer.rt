@@ -1,13 +1,13 @@
 //! Where a footer is at fault.
 
-ghost use Rattle.std.specs.{Prelude.{◌≡◌, length, slice_index, MatchOption}, Str.{IsUtf8}};
-ghost use Rattle.tz_info.specs.{FilePlaces.{HoldsOfNone, IsFirstBelow}, Steps.Places.{FaultInFooter, FaultInText}};
-ghost use Rattle.tz_info.specs.Steps.FileLists.{pieces_of};
+ghost use Rattle.std.specs.{Prelude.{◌≡◌, length, slice_index}, Str.{IsUtf8}};
+ghost use Rattle.tz_info.specs.Steps.{FileLists.{pieces_of}, Places.{FaultInFooter, FaultInText, Finds}};
 
 use crate::file::contents::byte_or_zero;
 use crate::file::footer::is_between_newlines;
 use crate::file::reader::Pieces;
 use crate::rule::reader::read_all;
+use crate::trims::{space_in_front, trimmed};
 use std::str;
 
 /// Returns the position of the fault in the footer, or `None` if it has none or there is no footer.
@@ -30,7 +30,7 @@ fn fault_in_bytes(extended: bool, bytes: &[u8]) -> Option<usize>
     }
 }
 
-#[tactic(auto, using(crate::proofs::FilePlaceOnce::text_place, crate::proofs::FilePlaceOnce::text_fits, crate::proofs::FilePlaceOnce::text_says, crate::proofs::FooterLaws::between, crate::specs::FilePlaces::No_first, crate::specs::FilePlaces::No_last,))]
+#[tactic(auto, using(crate::proofs::FilePlaceOnce::text_says, crate::proofs::FilePlaceOnce::text_within, crate::proofs::FooterLaws::between, crate::proofs::FooterLaws::text_has, crate::specs::FilePlaces::In_text, crate::specs::FilePlaces::No_first, crate::specs::FilePlaces::No_last,))]
 fn fault_in_utf8(extended: bool, bytes: &[u8]) -> Option<usize>
     requires { IsUtf8 bytes.now }
     ensures { FaultInFooter extended (Some bytes.now) result }
@@ -41,9 +41,8 @@ fn fault_in_utf8(extended: bool, bytes: &[u8]) -> Option<usize>
     if !is_between_newlines(bytes) {
         return Some(bytes.len());
     }
-    let start = bytes.trim_ascii_start();
-    match fault_in_text(extended, bytes.trim_ascii()) {
-        Some(place) => Some((bytes.len() - start.len()) + place),
+    match fault_in_text(extended, trimmed(bytes)) {
+        Some(place) => Some(space_in_front(bytes) + place),
         None => None,
     }
 }
@@ -68,9 +67,7 @@ fn fault_in_text(extended: bool, text: &[u8]) -> Option<usize>
 }
 
 fn find_zero(text: &[u8]) -> Option<usize>
-    ensures { MatchOption result
-        (HoldsOfNone (λ i. slice_index text.now i ≡ 0) (length text.now))
-        (IsFirstBelow (λ i. slice_index text.now i ≡ 0) (length text.now)) }
+    ensures { Finds (λ i. slice_index text.now i ≡ 0) (length text.now) result }
 {
     for k in 0..text.len() {
         if text[k] == 0 {

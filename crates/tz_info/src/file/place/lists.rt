@@ -1,14 +1,14 @@
 //! Where lists that make no zone are at fault.
 
-ghost use Rattle.std.specs.Prelude.{◌≡◌, ◌↔◌, ◌<◌, IsTrue, MatchOption};
-ghost use Rattle.tz_info.specs.FilePlaces.{leap_at, time_at, ArePartPlaces, HoldsOfNone, IsFirstBelow, IsListPlace};
-ghost use Rattle.tz_info.specs.FilePlaces.{IsNotLater, IsOtherIndex, IsOtherLeap};
-ghost use Rattle.tz_info.specs.Steps.FileLists.{pieces_of, HasLengths};
+ghost use Rattle.std.specs.Prelude.{◌≡◌, ◌↔◌, ◌<◌, IsTrue};
+ghost use Rattle.tz_info.specs.FilePlaces.{leap_at, time_at, ArePartPlaces, IsListPlace, IsNotLater, IsOtherIndex, IsOtherLeap};
+ghost use Rattle.tz_info.specs.Steps.{FileLists.{pieces_of, HasLengths}, Places.{Finds}};
 
 use crate::file::contents::leap_second_of;
 use crate::file::numbers::{record_at, time_of};
 use crate::file::place::{PartPlaces, footer_bytes};
 use crate::file::reader::Pieces;
+use crate::trims::space_in_front;
 use crate::zone::LeapSecond;
 use crate::zone::lists::valid::{is_first, is_next};
 
@@ -29,16 +29,12 @@ pub fn place_in_lists(pieces: &Pieces<'_>, places: PartPlaces) -> usize
     if let Some(k) = first_other_leap(pieces) {
         return places.leap_seconds + k * (pieces.time_size + 4);
     }
-    let footer = footer_bytes(pieces.footer);
-    places.footer + (footer.len() - footer.trim_ascii_start().len())
+    places.footer + space_in_front(footer_bytes(pieces.footer))
 }
 
 fn first_other_index(pieces: &Pieces<'_>) -> Option<usize>
     requires { HasLengths (pieces_of pieces.now) }
-    ensures { MatchOption result
-        (HoldsOfNone (IsOtherIndex (pieces_of pieces.now)) (pieces_of pieces.now).counts.transitions)
-        (IsFirstBelow (IsOtherIndex (pieces_of pieces.now))
-        (pieces_of pieces.now).counts.transitions) }
+    ensures { Finds (IsOtherIndex (pieces_of pieces.now)) pieces.now.counts.transitions result }
 {
     let indexes = pieces.block.type_indexes;
     for k in 0..indexes.len() {
@@ -51,10 +47,7 @@ fn first_other_index(pieces: &Pieces<'_>) -> Option<usize>
 
 fn first_not_later(pieces: &Pieces<'_>) -> Option<usize>
     requires { HasLengths (pieces_of pieces.now) }
-    ensures { MatchOption result
-        (HoldsOfNone (IsNotLater (pieces_of pieces.now)) (pieces_of pieces.now).counts.transitions)
-        (IsFirstBelow (IsNotLater (pieces_of pieces.now))
-        (pieces_of pieces.now).counts.transitions) }
+    ensures { Finds (IsNotLater (pieces_of pieces.now)) pieces.now.counts.transitions result }
 {
     for k in 1..pieces.counts.transitions as usize {
         if time_at(pieces, k) <= time_at(pieces, k - 1) {
@@ -66,7 +59,7 @@ fn first_not_later(pieces: &Pieces<'_>) -> Option<usize>
 
 fn time_at(pieces: &Pieces<'_>, k: usize) -> i64
     requires lengths { HasLengths (pieces_of pieces.now) }
-    requires place { k < (pieces_of pieces.now).counts.transitions }
+    requires place { k < pieces.now.counts.transitions }
     ensures { result ≡ time_at (pieces_of pieces.now) k }
 {
     let size = pieces.time_size;
@@ -75,10 +68,7 @@ fn time_at(pieces: &Pieces<'_>, k: usize) -> i64
 
 fn first_other_leap(pieces: &Pieces<'_>) -> Option<usize>
     requires { HasLengths (pieces_of pieces.now) }
-    ensures { MatchOption result
-        (HoldsOfNone (IsOtherLeap (pieces_of pieces.now)) (pieces_of pieces.now).counts.leap_seconds)
-        (IsFirstBelow (IsOtherLeap (pieces_of pieces.now))
-        (pieces_of pieces.now).counts.leap_seconds) }
+    ensures { Finds (IsOtherLeap (pieces_of pieces.now)) pieces.now.counts.leap_seconds result }
 {
     for k in 0..pieces.counts.leap_seconds as usize {
         if is_other_leap(pieces, k) {
@@ -91,7 +81,7 @@ fn first_other_leap(pieces: &Pieces<'_>) -> Option<usize>
 // Whether the leap second may not be the first, or may not follow the one before it.
 fn is_other_leap(pieces: &Pieces<'_>, k: usize) -> bool
     requires lengths { HasLengths (pieces_of pieces.now) }
-    requires place { k < (pieces_of pieces.now).counts.leap_seconds }
+    requires place { k < pieces.now.counts.leap_seconds }
     ensures { IsTrue result ↔ IsOtherLeap (pieces_of pieces.now) k }
 {
     let here = leap_at(pieces, k);
@@ -103,7 +93,7 @@ fn is_other_leap(pieces: &Pieces<'_>, k: usize) -> bool
 
 fn leap_at(pieces: &Pieces<'_>, k: usize) -> LeapSecond
     requires lengths { HasLengths (pieces_of pieces.now) }
-    requires place { k < (pieces_of pieces.now).counts.leap_seconds }
+    requires place { k < pieces.now.counts.leap_seconds }
     ensures { result ≡ leap_at (pieces_of pieces.now) k }
 {
     let size = pieces.time_size;

@@ -5,7 +5,7 @@ ghost use Rattle.std.specs.Prelude.{◌≡◌, IfOk, OnErr};
 use tz_base::{Cursor, Error};
 
 // Returns the result. An error moves the cursor to that place, the field whose value is rejected.
-pub(super) fn checked_at<'a, T: Drop>(
+pub(crate) fn checked_at<'a, T: Drop>(
     place: &'a [u8],
     cursor: &mut Cursor<'a>,
     checked: Result<T, Error>,

@@ -1,4 +1,4 @@
-use Rattle.tz_info.{proofs.FilePlaceOnce.space_is, specs.FilePlaces.{At_leap, At_rule, At_time}}
+use Rattle.tz_info.specs.FilePlaces.{At_leap, At_rule, At_time}
 use Rattle.tz_info.proofs.file.place.lists.place_in_lists.Goals as goal
 
 pub returns-in-Some-first_not_later : goal.returns-in-Some-first_not_later
@@ -9,5 +9,5 @@ returns-in-Some-first_other_leap c =
     At_leap c.in-Some-first_other_leap.k c.in_default.ensures c.in_default-first_not_later.ensures c.in-Some-first_other_leap.ensures
 
 pub returns : goal.returns
-returns c = rw (space_is _ _ c.trim_ascii_start.ensures.value, c.footer_bytes-footer.ensures)
+returns c = rw (c.space_in_front.ensures.value, c.footer_bytes.ensures)
     (At_rule c.in_default.ensures c.in_default-first_not_later.ensures c.in_default-first_other_leap.ensures)
