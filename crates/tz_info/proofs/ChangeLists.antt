@@ -5,7 +5,7 @@ use Rattle.tz_info.proofs.{
   Words.{AreChanges, Change, Changes, Contains, Contains-append_left, Contains-get_or, Contains-push, Contains-push_cases, HasNoChange, IsChange},
   Words.{IsFirstChange, IsFromUntil, IsInStretch, IsLastChange, IsRuleOrNone, IsValid, List, LocalType, Option, TypeAt, Zone, [], add-suc, add-zero},
   Words.{all_pairs_push, ap, append-nil, append_assoc, arith, by_lt_z, change_here, changes_in, changes_left, changes_of, get_or, inl, inr, least_time, length},
-  Words.{length-append, linear, lt_false, pos, refl, seconds_between, subst, suc, sym, type_or_none, zero, ℕ, ℤ, ◌++◌, ◌+ℤ◌, ◌+◌, ◌-ℤ◌, ◌<ℤ◌, ◌<◌, ◌↔◌, ◌∙◌},
+  Words.{length-append, linear, lt_false, pos, refl, seconds_between, subst, suc, type_or_none, zero, ℕ, ℤ, ◌++◌, ◌+ℤ◌, ◌+◌, ◌-ℤ◌, ◌<ℤ◌, ◌<◌, ◌↔◌, ◌∙◌},
   Words.{◌∷◌, ◌≡◌, ◌≤ℤ◌},
   ZoneLaws.{type_once},
 }

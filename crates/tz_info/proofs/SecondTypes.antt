@@ -3,7 +3,7 @@ use Rattle.tz_info.proofs.{
   ChangeSearch.{InForce, IsOnce, none_before, none_here},
   RuleLaws.rule_told,
   Words.{Change, HasNoChange, HasType, IsChange, IsLeapTime, IsRefusedBy, IsRuleOrNone, IsValid, List, LocalType, MatchOption, None, Option, RuleOrElse},
-  Words.{RuleOrType, SFits, Some, TransitionRule, TypeAt, Zone, [], all_fit, arith, by_leap_time, by_rule, cases_lt, change_between, change_here, false},
+  Words.{RuleOrType, SFits, Some, TransitionRule, TypeAt, Zone, [], all_fit, arith, by_rule, cases_lt, change_between, change_here, false},
   Words.{get_or, index_at, inl, inr, is_second, length, linear, nat_lt, passed, pos, refl, rule_type_or, slice_get, suc, true, type_at_leap_time, type_exact},
   Words.{type_or_none, w64, zero, ℕ, ℤ, ◌+ℤ◌, ◌-ℤ◌, ◌<◌, ◌==◌, ◌∷◌, ◌≡◌, ◌⊎◌},
   ZoneLaws.{before_or_from_last, fits_or_not, inside_listed, last_index_below, leap_time_decided, type_not_refused},
