@@ -5,7 +5,7 @@ use Rattle.tz_info.proofs.{
   Words.{AreChanges, Change, Changes, Contains, Contains-append_left, Contains-get_or, Contains-push, Contains-push_cases, HasNoChange, IsChange},
   Words.{IsFirstChange, IsFromUntil, IsInStretch, IsLastChange, IsRuleOrNone, IsValid, List, LocalType, Option, TypeAt, Zone, [], add-suc, add-zero},
   Words.{all_pairs_push, ap, append-nil, append_assoc, arith, by_lt_z, change_here, changes_in, changes_left, changes_of, get_or, inl, inr, least_time, length},
-  Words.{length-append, linear, lt_false, pos, refl, seconds_between, subst, suc, sym, type_or_none, zero, ℕ, ℤ, ◌++◌, ◌+ℤ◌, ◌+◌, ◌-ℤ◌, ◌<ℤ◌, ◌<◌, ◌↔◌, ◌∙◌},
+  Words.{length-append, linear, lt_false, pos, refl, seconds_between, subst, suc, type_or_none, zero, ℕ, ℤ, ◌++◌, ◌+ℤ◌, ◌+◌, ◌-ℤ◌, ◌<ℤ◌, ◌<◌, ◌↔◌, ◌∙◌},
   Words.{◌∷◌, ◌≡◌, ◌≤ℤ◌},
   ZoneLaws.{type_once},
 }
@@ -24,7 +24,7 @@ then_here f from last c cs once is at low h = record {
     λ inside. elim (Contains-push_cases cs c d inside) [ inl earlier ↦ grind linear | inr same ↦ grind linear ],
     λ k. by_lt_z d.at last
         (λ less. Contains-append_left cs (c ∷ []) d (e.1 (grind linear)))
-        (λ more. let l = k.1.1 in rw (← apart f once c d is k.0 (omega linear)) (Contains-push cs c)),
+        (λ more. rw (← apart f once c d is k.0 (omega linear)) (Contains-push cs c)),
   );
 }
 
@@ -56,7 +56,7 @@ none_between _ _ late = rw (lt_false _ _ late)
 
 -- the seconds of two stretches, one after the other
 parts : (types : ℤ → Option LocalType) (from : ℤ) (m n : ℕ) → changes_in types from (m + n) ≡ changes_in types from m ++ changes_in types (from +ℤ pos m) n
-parts types from m zero = rw add-zero (sym (append-nil (changes_in types from m)))
+parts types from m zero = grind (linear, add-zero, append-nil)
 parts types from m (suc n) =
     let e : (from +ℤ pos m) +ℤ pos n ≡ from +ℤ pos (m + n) = omega linear in
     rw (add-suc, e, parts types from m n)
@@ -71,7 +71,7 @@ module _ (z : Zone) (valid : IsValid z) (limits : IsRuleOrNone z.rule) (from unt
       (λ less. subst (λ u. AreChanges (TypeAt z) from u (changes_in (type_or_none z) from (seconds_between from until)))
       (until_is from _ (omega linear))
       (changes_made _ _ _ _ (type_once z) (types_told z valid limits)))
-      (λ late. rw (none_between _ _ late) (grind linear))
+      (λ late. grind (linear, none_between))
 
   none_left : HasNoChange (TypeAt z) (IsFromUntil from until) → changes_of z from until ≡ []
   none_left none = empty _ (λ c inside. let k = changes_are.each c in grind arith)
@@ -87,7 +87,7 @@ module _ (z : Zone) (valid : IsValid z) (limits : IsRuleOrNone z.rule) (from unt
       let split : seconds_between from until ≡ m + (1 + n) = omega linear in
       let at : c.at +ℤ pos 0 ≡ c.at = omega linear in
       let here : change_here (type_or_none z) c.at ≡ c ∷ [] = elim (here_listed _ _ c.at (type_once z) (types_told z valid limits)) [
-        | inl none ↦ absurd (none.1 c is refl)
+        | inl none ↦ grind linear
         | inr one ↦ one.1 ∙ ap (λ d. d ∷ []) (apart (TypeAt z) (type_once z) one.0 c one.2 is one.3)
       ] in
       rw split (parts (type_or_none z) from m (1 + n)
@@ -99,7 +99,7 @@ pub steps_first : (s t : Changes) (c : Change) → IsValid s.zone.now → IsRule
     → t.zone ≡ s.zone → t.after ≡ c.at → t.last ≡ s.last → changes_left s ≡ c ∷ changes_left t
 unfolding changes_left
 steps_first s t c valid limits h zone after last =
-    let none = none_left _ valid limits (s.after +ℤ pos 1) c.at (λ d is k. let m = h.nearest d is in grind linear) in
+    let none = none_left _ valid limits (s.after +ℤ pos 1) c.at (λ d is k. grind linear) in
     rw (zone, after, last) (rw none at (around _ valid limits (s.after +ℤ pos 1) (s.last +ℤ pos 1) c h.is (omega linear, omega linear)))
 
 pub steps_last : (s t : Changes) (c : Change) → IsValid s.zone.now → IsRuleOrNone s.zone.now.rule
@@ -107,9 +107,9 @@ pub steps_last : (s t : Changes) (c : Change) → IsValid s.zone.now → IsRuleO
     → t.zone ≡ s.zone → t.after ≡ s.after → t.last ≡ c.at -ℤ pos 1 → changes_left s ≡ changes_left t ++ c ∷ []
 unfolding changes_left
 steps_last s t c valid limits h zone after last =
-    let none = none_left _ valid limits (c.at +ℤ pos 1) (s.last +ℤ pos 1) (λ d is k. let m = h.nearest d is in grind linear) in
+    let none = none_left _ valid limits (c.at +ℤ pos 1) (s.last +ℤ pos 1) (λ d is k. grind linear) in
     let until : (c.at -ℤ pos 1) +ℤ pos 1 ≡ c.at = omega linear in
-    rw (zone, after, last, until) (rw none at (around _ valid limits (s.after +ℤ pos 1) (s.last +ℤ pos 1) c h.is (omega linear, omega linear)))
+    grind (linear, around)
 
 pub steps_none : (s : Changes) → IsValid s.zone.now → IsRuleOrNone s.zone.now.rule → HasNoChange (TypeAt s.zone.now) (IsInStretch s.after s.last)
     → changes_left s ≡ []

@@ -216,10 +216,6 @@ module _ (z : Zone) (entries : List Transition) (k all : ℕ) (valid : IsValid z
 abbrev pub AreChanges : Zone → ℕ → Type 0
 AreChanges z n = (k : ℕ) → k + 1 < n → slice_get z.types (index_of z.transitions (k + 1)) ≢ slice_get z.types (index_of z.transitions k)
 
-pub one_change : (z : Zone) (n : ℕ) → 0 < n → AreChanges z n
-    → slice_get z.types (index_of z.transitions n) ≢ slice_get z.types (index_of z.transitions (n - 1)) → AreChanges z (n + 1)
-one_change z n some h last k below = grind linear
-
 pub own_entries : (z : Zone) → IsValid z → length z.leaps ≡ 0 → AreChanges z (length z.transitions)
     → AreEntries z (record { items = z.transitions; all = length z.transitions; transitions = z.transitions })
 own_entries z valid none differ =

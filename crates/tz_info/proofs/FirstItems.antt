@@ -1,6 +1,6 @@
 -- Lists whose first n items pass a test and whose others do not, and functions that rise from place to place.
 use Rattle.tz_info.proofs.{
-  SearchWords.{Bool, List, [], ap, arith, cond, count_by, false, filter, get_or, int_le, int_lt, length, linear, suc, sum_by-cons, take, true, zero, ℕ, ℤ, ◌+◌},
+  SearchWords.{Bool, List, [], ap, arith, false, filter, get_or, int_le, int_lt, length, linear, suc, take, true, zero, ℕ, ℤ, ◌+◌},
   SearchWords.{◌-◌, ◌<ℤ◌, ◌<◌, ◌∷◌, ◌≡◌, ◌≤ℤ◌, ◌≤◌},
 }
 

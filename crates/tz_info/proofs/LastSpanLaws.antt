@@ -24,7 +24,7 @@ module _ (z : Zone) (last : LastSpan) (e : Extremes) (extremes : AreExtremes (of
   shows_after _ _ v t wide later type shown =
       let most = at_most_greatest z v _ t extremes.greatest type in
       let fewest = at_least_least z v _ t extremes.least type in
-      let far = typed.far in omega linear
+      omega linear
 
   shown_once : (local : ℤ) → IsWide local → (last.after +ℤ e.greatest) <ℤ local → IsShownOnce (Shows (TypeAt z) local) last.span.local_time_type
   shown_once local wide later =
@@ -36,14 +36,14 @@ module _ (z : Zone) (last : LastSpan) (e : Extremes) (extremes : AreExtremes (of
         only = λ v t k.
             let c = shows_after _ v v t wide later k.type k.shown in
             let same = type_once z v t _ k.type (each v c.0 c.1 c.2).in_force_then in
-            let shown : v +ℤ last.span.local_time_type.offset ≡ local = rw same at k.shown in omega linear;
+            grind linear;
       }
 
   none : (u : ℤ) → SFits w64 u → last.after <ℤ u → HasNoChange (TypeAt z) (λ v. u <ℤ v)
-  none u is l d change later = by_lt_z _ d.at (λ beyond. typed.none d.at change.fits beyond (d.after, change.after)) (λ within.
+  none u is l d change later = by_lt_z _ d.at (λ beyond. grind linear) (λ within.
       let this = each (d.at -ℤ pos 1) change.fits_before (omega linear) (omega linear) in
       let that = each d.at change.fits (omega linear) within in
-      no_change_within z _ d h.span this.inside that.inside change)
+      grind (linear, no_change_within))
 
   -- the span of the last second that has a type is the last one
   pub last_spans : last.local_after ≡ saturate_signed w64 (last.after +ℤ e.greatest) → IsLast (TypeAt z) (λ v. v ≤ℤ last.last) last.begin → IsLastSpan z last
@@ -51,8 +51,8 @@ module _ (z : Zone) (last : LastSpan) (e : Extremes) (extremes : AreExtremes (of
     each = each;
     none = none;
     begins = λ u is l. nearest_moved false _ (TypeAt z) _ (λ v. v ≤ℤ u) _
-        (λ d c k. (c, by_lt_z _ d.at (λ m. absurd (typed.none d.at c.fits m (d.after, c.after))) (λ m. m)))
+        (λ d c k. grind (linear, by_lt_z))
         (λ d c k. (c, by_lt_z u d.at (λ m. absurd (none u is l d c m)) (λ m. m))) begin;
     shown = λ local wide later.
-        let near = (saturated (last.after +ℤ e.greatest) (local -ℤ pos 1) (omega linear)).0 (omega linear) in shown_once local wide (omega linear);
+        let near = (saturated (last.after +ℤ e.greatest) (local -ℤ pos 1) (omega linear)).0 (omega linear) in grind (linear, shown_once);
   }

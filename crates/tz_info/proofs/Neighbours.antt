@@ -4,7 +4,7 @@ use Rattle.tz_info.proofs.{
   RuleDays.{day_within},
   Words.{Alternate, Bool, DayTime, Decides, Decides-or, IsAlternateRule, IsDstAt, IsInSomeYear, IsRuleDay, IsWithinDay, IsWithinWeek, IsYearOf, arith, by_lt_z},
   Words.{cond, days_at_least, end_in, floors, inl, inr, int_le, is_between, is_dst_by_one, is_in_three, linear, moment, neg_ℤ, new_year, not, pos, refl},
-  Words.{start_in, starts_rise, true, year_start, year_step, ℤ, ⊎_elim, ◌*ℤ◌, ◌+ℤ◌, ◌-ℤ◌, ◌<ℤ◌, ◌≡◌, ◌≤ℤ◌, ◌⊎◌},
+  Words.{start_in, starts_rise, year_start, year_step, ℤ, ⊎_elim, ◌*ℤ◌, ◌+ℤ◌, ◌-ℤ◌, ◌<ℤ◌, ◌≡◌, ◌≤ℤ◌, ◌⊎◌},
 }
 
 -- the moments of each year lie less than eight days outside of it

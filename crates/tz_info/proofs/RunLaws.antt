@@ -20,21 +20,21 @@ pub one_type : (z : Zone) (s : Span) (low high start end : ℤ) → IsNear low �
     → EndsBy s.until high end → HaveOneTypeFrom (TypeAt z) start end s.local_time_type
 one_type z s low _ _ end near near_high is starts ends u from until =
     let (after, since) = (starts u).0 from in let (ahead, before) = (ends u).0 until in
-    is.each u (record { fits = omega linear; since = since; until = before })
+    grind linear
 
 -- the part of a window that has its first second, or its last one
 pub next_run : (w : Bool) (s : Span) (low high start end : ℤ) → low <ℤ high → IsInSpan s (if w then low else high -ℤ pos 1) → StartsBy s.from low start
     → EndsBy s.until high end → IsNextRun w low high start end
 next_run true s low _ start end some here starts ends =
-    let a = starts low in let b = starts start in let c = ends (end -ℤ pos 1) in let d = ends low in grind linear
+    let b = starts start in let c = ends (end -ℤ pos 1) in grind linear
 next_run false s low high start end some here starts ends =
-    let a = starts (high -ℤ pos 1) in let b = starts start in let c = ends (end -ℤ pos 1) in let d = ends (high -ℤ pos 1) in grind linear
+    let c = ends (end -ℤ pos 1) in grind linear
 
 -- a span that ends before the limit ends when its type is out of force
 turned : (z : Zone) (until : Option ℤ) (limit end : ℤ) (f : LocalType) → IfSome until (IsOutOfForce (TypeAt z) f) → EndsBy until limit end → end <ℤ limit
     → TypeAt z end f → ⊥
-turned z None limit end f out ends less here = grind (linear, ends)
-turned z (Some at) limit end f out ends less here = let a = ends end in let b = ends at in grind linear
+turned z None limit end f out ends less here = grind linear
+turned z (Some at) limit end f out ends less here = let b = ends at in grind linear
 
 pub run_until : (z : Zone) (s : Span) (at limit end : ℤ) → IsNear at → IsNear limit → at <ℤ limit → IsSpanAt (TypeAt z) at s → EndsBy s.until limit end
     → IsRunUntil (TypeAt z) at limit end
@@ -42,11 +42,11 @@ run_until z s at limit end near near_limit ahead here ends =
     let its : (t : LocalType) → TypeAt z at t → s.local_time_type ≡ t = λ t k. type_once z at _ t here.in_force_then k in
     let most = ends (end -ℤ pos 1) in
     record {
-      later = (ends at).1 (ahead, here.inside.until);
+      later = grind linear;
       most = grind linear;
       same = λ u from until t k.
           let (before, within) = (ends u).0 until in
-          rw (← its t k) (here.span.each u (record { fits = omega linear; since = since_more _ at u here.inside.since from; until = within }));
+          rw (← its t k) (here.span.each u (record { fits = omega linear; since = grind (linear, since_more); until = within }));
       turns = λ less t k l. turned z _ limit end _ here.span.ends ends less (rw (← its t k) at l);
     }
 

@@ -3,7 +3,7 @@ use Rattle.tz_info.proofs.{
   ChangeSearch.{InForce, IsOnce, none_before, none_here},
   RuleLaws.rule_told,
   Words.{Change, HasNoChange, HasType, IsChange, IsLeapTime, IsRefusedBy, IsRuleOrNone, IsValid, List, LocalType, MatchOption, None, Option, RuleOrElse},
-  Words.{RuleOrType, SFits, Some, TransitionRule, TypeAt, Zone, [], all_fit, arith, by_leap_time, by_rule, cases_lt, change_between, change_here, false},
+  Words.{RuleOrType, SFits, Some, TransitionRule, TypeAt, Zone, [], all_fit, arith, by_rule, cases_lt, change_between, change_here, false},
   Words.{get_or, index_at, inl, inr, is_second, length, linear, nat_lt, passed, pos, refl, rule_type_or, slice_get, suc, true, type_at_leap_time, type_exact},
   Words.{type_or_none, w64, zero, ℕ, ℤ, ◌+ℤ◌, ◌-ℤ◌, ◌<◌, ◌==◌, ◌∷◌, ◌≡◌, ◌⊎◌},
   ZoneLaws.{before_or_from_last, fits_or_not, inside_listed, last_index_below, leap_time_decided, type_not_refused},
@@ -21,11 +21,11 @@ all_true cs u zero h = refl
 all_true cs u (suc n) h = rw (second_true _ (h n (omega arith)), all_true cs u n (grind arith))
 
 all_false : (cs : List ℤ) (u : ℤ) (n k : ℕ) → k < n → (SFits w64 (u +ℤ get_or cs k (pos 0)) → ⊥) → all_fit cs u n ≡ false
-all_false cs u zero k l out = absurd (omega arith)
+all_false cs u zero k l out = grind linear
 all_false cs u (suc n) k l out = elim (fits_or_not (u +ℤ get_or cs n (pos 0))) [
   | inl fits ↦ rw (second_true _ fits) (elim (cases_lt k n) [
     | inl below ↦ all_false cs u n k below out
-    | inr above ↦ let e : k ≡ n = omega arith in absurd (out (rw e fits))
+    | inr above ↦ grind linear
   ])
   | inr none ↦ rw (second_false _ none)
 ]
@@ -57,7 +57,7 @@ at_leap_time z u x valid limits of_second =
       | inl before ↦
           let t = inside_listed _ i below in
           let test : nat_lt (length (passed z.transitions x)) (length z.transitions) ≡ true = grind arith in
-          rw (test, t.1) (grind arith)
+          grind linear
       | inr last ↦
           let test : nat_lt (length (passed z.transitions x)) (length z.transitions) ≡ false = grind arith in
           rw test (moved _ ((t : LocalType) → TypeAt z u t → ⊥) (λ t. RuleOrType z u i t) _ _
@@ -71,10 +71,7 @@ unfolding type_or_none
 types_told z valid limits u = elim (cases_lt 0 (length z.transitions)) [
   | inl some ↦
       let test : (length z.transitions == 0) ≡ false = grind arith in
-      elim (leap_time_decided z.leaps u) [
-        | inl x ↦ grind (arith, all_true, at_leap_time)
-        | inr r ↦ rw (test, all_false _ u _ _ r.passed r.leaves) (λ t h. type_not_refused z u t h (by_leap_time some r))
-      ]
+      grind (linear, leap_time_decided, all_true, at_leap_time, all_false, type_not_refused)
   | inr none ↦ grind (arith, at_leap_time)
 ]
 

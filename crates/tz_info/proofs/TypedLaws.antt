@@ -58,4 +58,4 @@ pub after_typed : (z : Zone) (last : ℤ) → SFits w64 last → IsLastTyped z l
 after_typed z last fits h not =
     let back : last ≡ (last +ℤ pos 1) -ℤ pos 1 = omega linear in
     let next : SFits w64 (last +ℤ pos 1) = grind linear in
-    record { fits = next; typed = rw back at h.typed; after = h.none (last +ℤ pos 1) next (omega linear) }
+    grind linear

@@ -15,7 +15,8 @@ pub raise-requires : goal.raise-requires
 raise-requires g c =
     let ff : SFits w64 c.args.ends.first = search rules in
     let long = length-map c.args.items.now g.T.Timed.time in
-    marks_rise (map g.T.Timed.time c.args.items.now) c.args.ends.first c.shift_for-shift.result c.mark.new.places c.requires.ordered (grind arith) (rw long (simp to_z-of_z at c.mark.ensures.marked))
+    marks_rise (map g.T.Timed.time c.args.items.now) c.args.ends.first c.shift_for-shift.result c.mark.new.places c.requires.ordered
+    (grind arith) (rw long (simp to_z-of_z at c.mark.ensures.marked))
 
 pub returns-then-most-count : goal.returns-then-most-count
 returns-then-most-count g c = c.none-then-most-count.ensures _

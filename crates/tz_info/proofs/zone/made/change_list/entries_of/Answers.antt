@@ -1,5 +1,5 @@
 use Rattle.tz_info.proofs.{EntryLaws.{all_come, kept_all, never_come, turned}, Fits.fits}
-use Rattle.tz_info.proofs.Words.{SFits, arith, length, rules, w64, zone_in, ◌<◌}
+use Rattle.tz_info.proofs.Words.{SFits, arith, length, linear, rules, w64, zone_in, ◌<◌}
 use Rattle.tz_info.proofs.zone.made.change_list.entries_of.Goals as goal
 
 pub returns-in_default : goal.returns-in_default
@@ -22,10 +22,10 @@ loop-place-preserved c =
             valid = c.requires;
             more = omega arith;
             item = c.index-lists-place.is;
-            made = c.loop-place.invariant.made;
-            start = rw (c.second.ensures, ← c.index-lists-place.is) at (simp fits at c.in-Some.ensures);
-            before = simp fits at c.drop_at.ensures.before;
-            change = rw at at c.add.ensures.added;
+            made = grind (linear, fits);
+            start = grind (linear, fits);
+            before = grind (linear, fits);
+            change = grind (linear, fits);
           });
       count = grind arith;
       room = grind arith;

@@ -1,4 +1,4 @@
-use Rattle.tz_info.proofs.{EntryChanges.{inside_between, stretch_between}, Fits.fits, Words.{SFits, rules, w64}}
+use Rattle.tz_info.proofs.{EntryChanges.{inside_between, stretch_between}, Fits.fits, Words.{SFits, linear, rules, w64}}
 use Rattle.tz_info.proofs.zone.time_zone.TimeZone.offset_stretch_at.Goals as goal
 
 pub returns-in-Some : goal.returns-in-Some
@@ -10,6 +10,6 @@ returns-in-Some c =
     let h = simp fits at c.in-Some.ensures.between in
     let offset = c.offset.type_inv in
     simp fits (record {
-      each = λ v since before. (c.listed.result.now, stretch_between _ _ _ v _ _ table.valid table.list h low high c.listed.ensures since before, c.offset.ensures.value);
+      each = grind (linear, fits, stretch_between);
       at = inside_between _ _ _ _ table.list h fu;
     })

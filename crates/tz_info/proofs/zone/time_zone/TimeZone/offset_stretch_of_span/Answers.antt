@@ -1,4 +1,4 @@
-use Rattle.tz_info.proofs.{Fits.fits, Words.{arith, by_lt_z, inl, ints, pos, ◌<ℤ◌}}
+use Rattle.tz_info.proofs.{Fits.fits, Words.{arith, by_lt_z, inl, ints, linear, pos, ◌<ℤ◌}}
 use Rattle.tz_info.proofs.zone.time_zone.TimeZone.offset_stretch_of_span.Goals as goal
 
 pub returns-in-Err-clause-at : goal.returns-in-Err-clause-at
@@ -14,9 +14,9 @@ returns-in-Ok c =
     let fo = c.offset.type_inv in
     let at = simp fits at c.in-Ok.ensures in
     let u = c.args.unix_time in
-    let below : u <ℤ pos 9_223_372_036_854_775_807 = by_lt_z u _ (λ q. q) (λ q. absurd (c.if-unix_time-eq9223372036854775807.false (omega (arith, ints)))) in
+    let below : u <ℤ pos 9_223_372_036_854_775_807 = grind (linear, fits, by_lt_z) in
     simp fits (record {
-      each = λ u low high. let since = (c.start_by.ensures u).0 low in (
+      each = λ u low high. (
         c.in-Ok.span.local_time_type,
         at.span.each u (grind (arith, ints)),
         c.offset.ensures.value,

@@ -1,4 +1,4 @@
-use Rattle.tz_info.proofs.{DifferenceLaws.pair_until, Fits.fits, RunLaws.run_until, Words.{TypeAt, arith, ints, rules}}
+use Rattle.tz_info.proofs.{DifferenceLaws.pair_until, Fits.fits, RunLaws.run_until, Words.{TypeAt, arith, ints, linear, rules}}
 use Rattle.tz_info.proofs.zone.time_zone.TimeZone.pair_at.Goals as goal
 
 pub returns : goal.returns
@@ -15,5 +15,5 @@ returns c =
     record {
       from = search rules;
       until = simp fits (pair_until (TypeAt c.args.self.now) (TypeAt c.args.other.now) _ _ _ _ own other);
-      types = (old.in_force_then, new.in_force_then);
+      types = grind (linear, fits);
     }
