@@ -1,13 +1,5 @@
 -- The nearest change of a rule, by questions about two years.
-use Rattle.tz_info.proofs.{
-  ChangeSearch.{decided, in_ahead, nearest_moved},
-  ChangingYears.{none_in, one_in, steady_alike},
-  RuleChanges.{change_again, change_then, cycles_to, later_year, rule_second, same_or_not, seconds_follow, year_on, years_rise},
-  RuleLaws.rule_year,
-  Words.{Alternate, AlternateAt, AreFrom, Bool, Change, HasNoChange, HasNoneBeyond, IsAhead, IsAlternateRule, IsChange, IsNearest, IsNearestChange},
-  Words.{IsNextChanging, IsOfYear, IsRuleYear, IsStretchAhead, IsYearNear, IsYearOf, NeverChanges, None, Option, Precedes, Some, by_lt_z, changes_in_year},
-  Words.{false, inl, inr, linear, neg_ℤ, pos, true, type_exact, year_at, ℕ, ℤ, ◌+ℤ◌, ◌+◌, ◌-ℤ◌, ◌<◌, ◌≡◌, ◌≤ℤ◌, ◌⊎◌},
-}
+use Rattle.tz_info.proofs.{ChangeSearch.{decided, in_ahead, nearest_moved}, ChangingYears.{none_in, one_in, steady_alike}, RuleChanges.{change_again, change_then, cycles_to, rule_second, same_or_not, seconds_follow, year_on, years_rise}, RuleLaws.rule_year, Words.{Alternate, AlternateAt, AreFrom, Bool, Change, HasNoChange, HasNoneBeyond, IsAhead, IsAlternateRule, IsChange, IsNearest, IsNearestChange}, Words.{IsNextChanging, IsOfYear, IsRuleYear, IsStretchAhead, IsYearNear, IsYearOf, NeverChanges, None, Option, Precedes, Some, by_lt_z, changes_in_year}, Words.{false, inl, inr, linear, neg_ℤ, pos, true, type_exact, year_at, ℕ, ℤ, ◌+ℤ◌, ◌+◌, ◌-ℤ◌, ◌<◌, ◌≡◌, ◌≤ℤ◌, ◌⊎◌}}
 
 -- ahead of the second, and the second before lies in the year
 abbrev IsAheadIn : Bool → ℤ → ℤ → ℤ → Type 0
@@ -32,7 +24,7 @@ module _ (a : Alternate) (s : ℤ) (d : Change) (y : ℤ) (is : IsChange (Altern
 
   -- changes ahead come in the year of the second, or beyond it
   here_or_beyond : (w : Bool) (first : ℤ) → IsYearNear s first → IsAhead w s d.at → Precedes w first y
-  here_or_beyond true first h ahead = let (up, down) = order first h in omega linear
+  here_or_beyond true first h ahead = grind (linear, order)
   here_or_beyond false first h ahead = let (up, down) = order first h in omega linear
 
   -- if the year has none, all come beyond it
@@ -125,7 +117,7 @@ never_beyond a true first rule inside from d is y of_year beyond =
     let (again, then) = change_again a d y k rule is of_year (omega linear) (omega linear) in
     let r = from (change_then d k) again _ then (omega linear) in omega linear
 never_beyond a false first rule inside from d is y of_year beyond =
-    let on = from d is y of_year beyond in let own = of_rule a y d y is of_year in
+    let own = of_rule a y d y is of_year in
     let (k, low, high) = cycles_to y (first -ℤ pos 401) in
     let (again, then) = change_again a d y k rule is of_year (omega linear) (omega linear) in
     let r = from (change_then d k) again _ then (omega linear) in omega linear

@@ -1,20 +1,7 @@
 -- A rule of two types changes the clocks in the years in which daylight saving time begins or ends, if the types differ.
 use Rattle.std.proofs.{Math.Bool.beq, lemmas.List.Folds.{Any-from_list_any, list_any_at}}
 use Rattle.std.specs.List.{list_any}
-use Rattle.tz_info.proofs.{
-  ChangeSearch.{IsAsked, asked, nearest_either, nearest_moved, stays},
-  KindLaws.{IsMargin, kind_found, margin_kept},
-  Neighbours.{KeepsMargin, dst_by_three, ends_near, second_high, second_low, starts_near},
-  RuleChanges.{change_near, rule_second, rule_until, same_or_not},
-  RuleLaws.{alternate_at, alternate_once, rule_time, rule_year},
-  SeasonLaws.season_made,
-  Words.{Alternate, AlternateAt, Bool, Change, Contains, DayTime, HasNoChange, IsAlternateRule, IsCalmRule, IsChange, IsNearest, IsOfYear, IsRuleDay},
-  Words.{IsRuleTime, IsRuleYear, IsYearOf, List, LocalType, NeverChanges, Option, ap, are_calm, arith, by_lt_z, changing_keys, cond, days_at_least},
-  Words.{days_at_most, end_in, false, floor_div, floors, get_or, get_or-eq_default, get_or-map, get_or_default, inl, inr, int_le, int_lt, is_dst_by_one},
-  Words.{key_years, kind_place, length, length-map, lies_in, linear, lt_false, lt_true, margin_of, moment, moments_near, nearer_one, new_year, not, pos, refl},
-  Words.{seconds_by_kind, start_in, sym, true, turn_of, type_when, year_start, year_step, ℕ, ℤ, ⊎_elim, ◌*ℤ◌, ◌+ℤ◌, ◌-ℤ◌, ◌<ℤ◌, ◌<◌, ◌∙◌, ◌≡◌, ◌≢◌, ◌≤ℤ◌, ◌⊎◌},
-  YearKeys.{changing_alike, key_below, key_count, keys_are},
-}
+use Rattle.tz_info.proofs.{ChangeSearch.{IsAsked, asked, nearest_either, nearest_moved, stays}, KindLaws.{IsMargin, kind_found, margin_kept}, Neighbours.{KeepsMargin, dst_by_three, ends_near, second_high, second_low, starts_near}, RuleChanges.{change_near, rule_second, rule_until, same_or_not}, RuleLaws.{alternate_at, alternate_once, rule_time, rule_year}, SeasonLaws.season_made, Words.{Alternate, AlternateAt, Bool, Change, Contains, DayTime, HasNoChange, IsAlternateRule, IsCalmRule, IsChange, IsNearest, IsOfYear, IsRuleDay}, Words.{IsRuleTime, IsRuleYear, IsYearOf, List, LocalType, NeverChanges, Option, ap, are_calm, arith, by_lt_z, changing_keys, cond, days_at_least}, Words.{days_at_most, end_in, false, floor_div, floors, get_or, get_or-eq_default, get_or-map, get_or_default, inl, inr, int_le, int_lt, is_dst_by_one}, Words.{key_years, length, length-map, lies_in, linear, lt_false, lt_true, margin_of, moment, moments_near, nearer_one, new_year, not, pos, refl}, Words.{seconds_by_kind, start_in, sym, true, turn_of, type_when, year_step, ℕ, ℤ, ⊎_elim, ◌+ℤ◌, ◌-ℤ◌, ◌<ℤ◌, ◌<◌, ◌∙◌, ◌≡◌, ◌≢◌, ◌≤ℤ◌, ◌⊎◌}, YearKeys.{changing_alike, key_below, key_count, keys_are}}
 use Rattle.tz_info.specs.{
   Steps.AskedYears.changes_in_year,
   Steps.{ChangingYears.{are_apart, dst_near, flips_at, has_flip, is_changing, keys_of, moment_by, seconds_near, turns_in, year_key, years_near}, Kinds.{ends_of, starts_of}, Turns.dst_by},
@@ -75,8 +62,8 @@ none_at p xs u (i, below, at) none = grind (arith, list_any_at)
 by_kind : (t : DayTime) (offset year : ℤ) → IsRuleDay t.day → moment_by (seconds_by_kind t offset) year ≡ moment t offset year
 by_kind t offset year fits = grind (linear, kind_found, fits)
 
-apart : (x y k v w : ℤ) → k +ℤ x ≡ v → k +ℤ y ≡ w → (are_apart x y ≡ false → v ≡ w) × (are_apart x y ≡ true → v ≢ w)
-apart x y k v w e f = (λ h. grind linear, λ h same. grind linear)
+apart : (x y : ℤ) → (are_apart x y ≡ false → x ≡ y) × (are_apart x y ≡ true → x ≢ y)
+apart x y = (λ h. grind linear, λ h same. grind linear)
 
 -- ---- by a year's own two moments
 -- if they are apart, it begins at the start and ends at the end, and at no other second
@@ -115,7 +102,7 @@ module _ (a : Alternate) (rule : IsAlternateRule a) where
       rw (lt_false u _ m) (rw (e, f) at (own_type next u (omega (arith, floors)) time)))
 
   near_by_kind : (year : ℤ) → years_near (start_in a) (end_in a) year ≡ years_near (moment_by (starts_of a)) (moment_by (ends_of a)) year
-  near_by_kind year = grind (linear, starts_of, by_kind, ends_of)
+  near_by_kind year = grind (linear, by_kind)
 
   -- ---- where moments keep away from the ends of their years, the year's own moments decide
   module _ (calm : IsCalmRule a) where
@@ -166,13 +153,13 @@ module _ (a : Alternate) (rule : IsAlternateRule a) where
     pub none_of_one : (year : ℤ) → start_in a year ≡ end_in a year → HasNoneIn a year
     none_of_one year one d is of_year = no_turn a year _ (calm_tells year) d is of_year (never_dst _ _ _ _ one)
 
-  apart_by_kind : (year : ℤ) → let x = get_or (starts_of a) (kind_place year) (pos 0) in let y = get_or (ends_of a) (kind_place year) (pos 0) in
-      (are_apart x y ≡ false → start_in a year ≡ end_in a year) × (are_apart x y ≡ true → start_in a year ≢ end_in a year)
-  apart_by_kind year = apart _ _ (pos 86_400 *ℤ year_start year) _ _ (by_kind _ _ _ rule.start_day) (by_kind _ _ _ rule.end_day)
+  apart_by_kind : (year : ℤ) → let two = are_apart (moment_by (starts_of a) year) (moment_by (ends_of a) year) in
+      (two ≡ false → start_in a year ≡ end_in a year) × (two ≡ true → start_in a year ≢ end_in a year)
+  apart_by_kind year = rw (by_kind a.start _ _ rule.start_day, by_kind a.end _ _ rule.end_day) (apart (start_in a year) (end_in a year))
 
   none_by : (year : ℤ) (calm : Bool) → are_calm (starts_of a) (ends_of a) ≡ calm → is_changing (starts_of a) (ends_of a) calm year ≡ false → HasNoneIn a year
   unfolding moments_near
-  none_by year true calm none d is of_year = none_of_one calm year ((apart_by_kind year).0 none) d is of_year
+  none_by year true calm none d is of_year = grind (linear, none_of_one, apart_by_kind)
   none_by year false calm none d is of_year =
       let near = years_near (start_in a) (end_in a) year in
       let off = none_at (flips_at near) (seconds_near near) _ (change_near a _ d rule is of_year) (ap (λ y. has_flip y) (near_by_kind year) ∙ none) in

@@ -133,7 +133,7 @@ change_near a year d rule is before = elim (decided _ (is_member int_eq (moments
     (is_member-Decides Decides-int_eq (moments_near a year) d.at)) [
       | inl found ↦ found
       | inr none ↦
-          let low = second_low _ _ before in let high = second_high _ _ before in
+          let high = second_high _ _ before in
           let below : d.at <ℤ new_year (year +ℤ pos 1) = by_lt_z d.at (new_year (year +ℤ pos 1)) (λ l. l) (λ m. absurd (none (6, omega arith, omega linear))) in
           let here : IsYearOf d.at year = omega (arith, floors) in
           let first = avoids _ year d.at (λ e. none (0, omega arith, e)) (λ e. none (2, omega arith, e)) (λ e. none (4, omega arith, e)) in

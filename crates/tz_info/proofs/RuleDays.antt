@@ -1,10 +1,5 @@
 -- Each year has one day that is the rule's, and the closed form finds it.
-use Rattle.tz_info.proofs.{
-  Words.{Bool, DayForm, IsDayOf, IsRuleDay, IsWeekdayInWeek, LiesIn, ap, arith, closed_day, closed_day_is, date_lies, day_number, days_at_least},
-  Words.{days_at_most, days_in_month, days_in_year, floors, is_leap, julian_is, julian_place, leap_at_most, months_all, months_step, nat_le},
-  Words.{number_after, pos, rule_day, rule_day_with, starts_rise, sym, weekday_at, weekday_below, weekday_is, weekday_of, weekday_place, year_start, year_step},
-  Words.{ℕ, ℤ, ◌%◌, ◌&&◌, ◌*◌, ◌+ℤ◌, ◌+◌, ◌-◌, ◌<ℤ◌, ◌<◌, ◌∙◌, ◌≡◌, ◌≤ℤ◌, ◌≤◌},
-}
+use Rattle.tz_info.proofs.{Words.{Bool, DayForm, IsDayOf, IsRuleDay, IsWeekdayInWeek, LiesIn, ap, arith, closed_day, closed_day_is, date_lies, day_number, days_at_least}, Words.{days_at_most, days_in_month, days_in_year, floors, is_leap, julian_is, julian_place, leap_at_most, months_all, months_step}, Words.{number_after, pos, rule_day, starts_rise, sym, weekday_at, weekday_below, weekday_is, weekday_of, weekday_place, year_start, year_step}, Words.{ℕ, ℤ, ◌%◌, ◌*◌, ◌+ℤ◌, ◌+◌, ◌-◌, ◌<ℤ◌, ◌<◌, ◌∙◌, ◌≡◌, ◌≤ℤ◌, ◌≤◌}}
 use Rattle.tz_info.specs.declared.rule.day.DayForm.TheVariants.{Julian0, Julian1, MonthWeekday}
 
 -- the day after 31 December
@@ -27,14 +22,14 @@ one_rule_day (MonthWeekday month week weekday) year a b fits h k =
 
 pub rule_day_is : (form : DayForm) (year : ℤ) → IsRuleDay form → IsDayOf form year (rule_day form year)
 unfolding rule_day
-rule_day_is form year fits = grind (arith, rule_day_with)
+rule_day_is form year fits = grind arith
 
 pub rule_day_closed : (form : DayForm) (year : ℤ) → IsRuleDay form → rule_day form year ≡ closed_day form year
 rule_day_closed form year fits =
     one_rule_day _ _ _ _ fits (rule_day_is _ _ fits) (closed_day_is form year fits)
 
 julian_at_most : (leap : Bool) (n : ℕ) → n ≤ 365 → julian_place leap n ≤ 365
-julian_at_most leap n high = omega (arith, leap_at_most (leap && nat_le 60 n))
+julian_at_most leap n high = grind (arith, leap_at_most)
 
 -- the rule's day is a date of its year, if it is no plain day number
 weekday_lies : (year : ℤ) (month week weekday : ℕ) → IsRuleDay (MonthWeekday month week weekday)
@@ -48,7 +43,7 @@ weekday_lies year month week weekday fits =
 closed_within : (form : DayForm) (year : ℤ) → IsRuleDay form
     → (year_start year ≤ℤ closed_day form year) × (closed_day form year ≤ℤ (year_start year +ℤ pos 365))
 unfolding closed_day
-closed_within (Julian1 n) year fits = let most = julian_at_most (is_leap year) n fits.1 in omega (arith, floors)
+closed_within (Julian1 n) year fits = grind (arith, julian_at_most, floors)
 closed_within (Julian0 n) year fits = omega (arith, floors)
 closed_within (MonthWeekday month week weekday) year fits =
     let lies = weekday_lies year _ _ _ fits in

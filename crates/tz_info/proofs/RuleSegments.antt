@@ -18,7 +18,7 @@ module _ (z : Zone) (e : Entries) (rule : TransitionRule) (k : ℕ) (valid : IsV
       let come = come_by e.items k u made.rising within from in
       let most = segment_most z u valid.transitions.rising in
       let same = same_table z e valid made u fits time in
-      let all : table_count z ≡ length z.transitions = rw is in grind arith
+      grind arith
 
   to_rule : (u : ℤ) (t : LocalType) → begin_of e.items k ≤ℤ u → SFits w64 u → TypeAt z u t → RuleAt rule u t
   to_rule u t from fits here =
@@ -45,7 +45,6 @@ module _ (z : Zone) (e : Entries) (rule : TransitionRule) (k : ℕ) (valid : IsV
   pub first_by_rule : (l u : ℤ) (t : LocalType) → IsWide l → IsFirstSegment z.types e.items l k → IsFirstSince (RuleAt rule) (begin_of e.items k) l u t
       → IsFirstAtOrAfter (TypeAt z) l u t
   first_by_rule l u t wide first h =
-      let top = top_least z.rule e made.more in
       record {
         shown = grind (linear, from_rule);
         first = λ v s shows. elim (cases_lt (place_at e.items v) k) [

@@ -1,10 +1,6 @@
 -- The answer of the two seconds that could show a local time.
 use Rattle.offset_core.specs.declared.local_result.LocalResult.TheVariants.{None}
-use Rattle.tz_info.proofs.{
-  Candidates.{asked_both, asked_one, dst_or_std, one_second, std_or_dst},
-  Words.{Alternate as AlternateRule, Bool, IsAmidFrom, IsAskedLast, IsSeasonFor, IsWallAnswer, LocalResult, LocalType, Season, Shows, TypeFrom, arith, false},
-  Words.{int_lt, linear, not, true, type_when, ℤ, ◌-ℤ◌, ◌≡◌, ◌≢◌, ◌≤ℤ◌, ◌⊎◌},
-}
+use Rattle.tz_info.proofs.{Candidates.{asked_both, asked_one, one_second, std_or_dst}, Words.{Alternate as AlternateRule, Bool, IsAmidFrom, IsAskedLast, IsSeasonFor, IsWallAnswer, LocalResult, LocalType, Season, Shows, TypeFrom, arith}, Words.{int_lt, linear, not, type_when, ℤ, ◌-ℤ◌, ◌≡◌, ◌≢◌, ◌≤ℤ◌, ◌⊎◌}}
 use Rattle.tz_info.specs.declared.rule.transition_rule.TransitionRule.TheVariants.{Alternate}
 
 -- the season decides at both seconds that could show the local time

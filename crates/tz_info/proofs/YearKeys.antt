@@ -1,11 +1,6 @@
 -- Years of one key have changes at the same places.
 use Rattle.std.proofs.{Math.Dec.eqb, lemmas.Bool.eqb-true}
-use Rattle.tz_info.proofs.{
-  ListLaws.one_true,
-  Words.{Bool, IsRuleYear, List, SFits, all_below, ap, arith, cond, false, floor_div, floor_mod, floor_mod_parts, floors, get_or, int_le, int_lt, is_leap},
-  Words.{kind_place, length, linear, nat_le, nat_lt, pos, refl, true, w32, weekday_below, weekday_of, year_start, year_step, ℕ, ℤ, ◌%◌, ◌&&◌, ◌*ℤ◌, ◌+ℤ◌, ◌-ℤ◌},
-  Words.{◌<◌, ◌∙◌, ◌≡◌, ◌≤ℤ◌, ◌↔◌},
-}
+use Rattle.tz_info.proofs.{ListLaws.one_true, Words.{Bool, IsRuleYear, List, SFits, all_below, ap, arith, false, floor_div, floor_mod, floor_mod_parts, floors, get_or, int_le, int_lt, is_leap}, Words.{kind_place, length, linear, pos, refl, true, w32, weekday_below, weekday_of, year_start, year_step, ℕ, ℤ, ◌&&◌, ◌*ℤ◌, ◌+ℤ◌, ◌-ℤ◌}, Words.{◌<◌, ◌∙◌, ◌≡◌, ◌≤ℤ◌, ◌↔◌}}
 use Rattle.tz_info.specs.{
   Steps.ChangingYears.{dst_near, flips_at, has_flip, is_changing, key_years, leap_place, moment_by, place_of, turns_in, year_key, years_near},
   declared.rule.{changing.YearsNear.YearsNear, moments.Turns.Turns},
@@ -125,7 +120,7 @@ module _ (x y q : ℤ) (leaps : LeapsAlike x y) (start : year_start y ≡ year_s
       rw (a, b, c, d, day_later _ _ q start, day_later _ _ q after)
 
   by_calm : (starts ends : List ℤ) (calm : Bool) → is_changing starts ends calm y ≡ is_changing starts ends calm x
-  by_calm _ _ true = rw (kind_same x y q leaps.here start)
+  by_calm starts ends true = let s = moment_moved x y q leaps.here start starts in let e = moment_moved x y q leaps.here start ends in rw (s, e, lt_later _ _ _, lt_later _ _ _)
   by_calm starts ends false = ap (λ n. has_flip n) (near_alike _ _)
       ∙ has_moved _ _
 
@@ -137,27 +132,22 @@ changing_alike _ _ _ x y e =
     let (q, start) = weeks _ _ weekday in
     by_calm x y q leaps start _ _ _
 
--- the kind of a key's years: those of the second seven keys are leap years
-abbrev kind_by_key : ℕ → ℕ
-kind_by_key k = cond (nat_le 7 k && nat_lt k 14) k (k % 7)
+-- the year of each key has that key
+abbrev is_same : ℕ → ℕ → ℤ → Bool
+is_same a b year = eqb a b && int_le (pos 2000) year && int_le year (pos 2299)
 
--- the year of each key has that key and that kind
-abbrev are_same : ℕ → ℕ → ℕ → ℕ → ℤ → Bool
-are_same a b c d year = eqb a b && eqb c d && int_le (pos 2000) year && int_le year (pos 2299)
-
-same_are : (a b c d : ℕ) (year : ℤ) → are_same a b c d year ≡ true → (a ≡ b) × (c ≡ d) × (pos 2000 ≤ℤ year) × (year ≤ℤ pos 2299)
-same_are a b c d year h = grind (arith, eqb-true)
+same_is : (a b : ℕ) (year : ℤ) → is_same a b year ≡ true → (a ≡ b) × (pos 2000 ≤ℤ year) × (year ≤ℤ pos 2299)
+same_is a b year h = grind (arith, eqb-true)
 
 abbrev fits_key : ℕ → Bool
-fits_key k = let year = get_or key_years k (pos 0) in are_same (year_key year) k (kind_by_key k) (kind_place year) year
+fits_key k = let year = get_or key_years k (pos 0) in is_same (year_key year) k year
 
 each_key : all_below 35 fits_key ≡ true
 unfolding key_years year_start
 each_key = refl
 
-pub keys_are : (k : ℕ) → k < 35 → let year = get_or key_years k (pos 0) in
-    (year_key year ≡ k) × (kind_by_key k ≡ kind_place year) × (pos 2000 ≤ℤ year) × (year ≤ℤ pos 2299)
-keys_are k h = same_are _ k _ _ _ (one_true 35 k fits_key h each_key)
+pub keys_are : (k : ℕ) → k < 35 → let year = get_or key_years k (pos 0) in (year_key year ≡ k) × (pos 2000 ≤ℤ year) × (year ≤ℤ pos 2299)
+keys_are k h = same_is _ k _ (one_true 35 k fits_key h each_key)
 
 pub key_count : length key_years ≡ 35
 unfolding key_years

@@ -4,10 +4,10 @@
 //! four years is a leap year, of the year before it to the second one after it. It is found once for
 //! each of the 35 keys, when the rule is made.
 
-ghost use Rattle.std.specs.{List.{list_any}, Prelude.{◌≡◌, ◌<◌, ◌≤◌, ◌≤ℤ◌, neg_ℤ, pos, slice_index_or}};
+ghost use Rattle.std.specs.{List.{list_any}, Prelude.{◌≡◌, ◌<◌, ◌≤◌, ◌≤ℤ◌, neg_ℤ, pos}};
 ghost use Rattle.tz_info.specs.Steps.ChangingYears.{changing_keys, dst_near, flips_at, has_flip, is_changing};
 ghost use Rattle.tz_info.specs.Steps.ChangingYears.{key_years, leap_place, moment_by, place_of, turns_in};
-ghost use Rattle.tz_info.specs.Steps.{ChangingYears.{year_key, years_near, AreWithinYears}, Kinds.{kind_place}};
+ghost use Rattle.tz_info.specs.Steps.ChangingYears.{year_key, years_near, AreWithinYears};
 
 use crate::rule::kinds::{are_calm, kind_of};
 use crate::rule::moments::{Turns, is_dst_by_three};
@@ -88,7 +88,7 @@ pub(super) fn changing_keys(starts: &[i64; 14], ends: &[i64; 14]) -> [bool; 35]
     let years = key_years();
     let mut changing = [false; 35];
     for key in 0..35 {
-        changing[key] = is_changing(starts, ends, calm, years[key], kind_of_key(key));
+        changing[key] = is_changing(starts, ends, calm, years[key]);
     }
     changing
 }
@@ -105,29 +105,20 @@ pub(super) fn any_of(tests: &[bool]) -> bool
     false
 }
 
-// The place of the kind of the key's years: those of the second seven keys are leap years.
-fn kind_of_key(key: usize) -> usize
-    requires { key < 35 }
-    ensures kind { result ≡ kind_place (slice_index_or key_years key (pos 0)) }
-    ensures bound { result < 14 }
-{
-    if 7 <= key && key < 14 { key } else { key % 7 }
-}
-
-// Whether clocks change in the year, which is of that kind, if the types differ.
-fn is_changing(starts: &[i64; 14], ends: &[i64; 14], calm: bool, year: i32, kind: usize) -> bool
+// Whether clocks change in the year, if the types differ.
+fn is_changing(starts: &[i64; 14], ends: &[i64; 14], calm: bool, year: i32) -> bool
     requires starts { AreWithinYears starts.now }
     requires ends { AreWithinYears ends.now }
     requires year { (pos 2000 ≤ℤ year) × (year ≤ℤ pos 2299) }
-    requires kind { kind ≡ kind_place year }
-    requires bound { kind < 14 }
     ensures { result ≡ is_changing starts.now ends.now calm year }
 {
     if calm {
-        if starts[kind] < ends[kind] {
+        let start = moment_by(starts, year);
+        let end = moment_by(ends, year);
+        if start < end {
             return true;
         }
-        return ends[kind] < starts[kind];
+        return end < start;
     }
     years_near(starts, ends, year).has_flip()
 }

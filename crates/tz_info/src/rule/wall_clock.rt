@@ -113,7 +113,14 @@ impl AlternateTime {
         // The greater offset has the earlier second.
         let dst_first = self.std().offset() < self.dst().offset();
         let season = self.season(local);
-        let one = self.ask(season, from, local, dst_first, MappedLocalTime::None, probes);
+        let one = self.ask(
+            season,
+            from,
+            local,
+            dst_first,
+            MappedLocalTime::None,
+            probes,
+        );
         if self.std().offset() == self.dst().offset() {
             return (None, one);
         }

@@ -8,7 +8,7 @@ use Rattle.tz_info.proofs.rule.changing.changing_keys.Goals as goal
 pub is_changing-requires-clause-year : goal.is_changing-requires-clause-year
 is_changing-requires-clause-year c =
     let f : SFits w32 (get_or c.key_years-years.result c.loop-key.key (pos 0)) = search rules in
-    let k = keys_are c.loop-key.key (omega arith) in simp fits (rw c.key_years-years.ensures (k.2, k.3))
+    let k = keys_are c.loop-key.key (omega arith) in simp fits (rw c.key_years-years.ensures (k.1, k.2))
 
 pub loop-key-preserved : goal.loop-key-preserved
 loop-key-preserved c =

@@ -1,4 +1,4 @@
-use Rattle.tz_info.proofs.{Words.{to_z-of_z, SFits, arith, floors, linear, pos, w64, year_start, ◌*ℤ◌}, YearKeys.near_fit}
+use Rattle.tz_info.proofs.{Words.{to_z-of_z, SFits, arith, floors, linear, pos, w64, ◌*ℤ◌}, YearKeys.near_fit}
 use Rattle.tz_info.proofs.rule.changing.years_near.Goals as goal
 
 pub returns : goal.returns

@@ -1,5 +1,5 @@
 use Rattle.tz_info.proofs.{AskedYears.{beyond_first, from_next, never_at_all, never_beyond, none_out}, Fits.fits}
-use Rattle.tz_info.proofs.Words.{to_z-of_z, IsRuleYear, SFits, arith, false, ints, refl, rules, w32, w64, year_at, ◌≡◌}
+use Rattle.tz_info.proofs.Words.{to_z-of_z, IsRuleYear, SFits, arith, w32, w64, year_at, ◌≡◌}
 use Rattle.tz_info.proofs.rule.alternate.AlternateTime.changing_year.Goals.{Else-not-is_rule_year}
 use Rattle.tz_info.proofs.rule.alternate.AlternateTime.changing_year.Goals as goal
 
@@ -7,11 +7,7 @@ use Rattle.tz_info.proofs.rule.alternate.AlternateTime.changing_year.Goals as go
 inside : (c : Else-not-is_rule_year)
     → SFits w64 c.year_at-year.result × SFits w32 c.year_at-year.result ×
     (c.year_at-year.result ≡ year_at c.args.forward c.args.first c.loop-step.step) × IsRuleYear c.year_at-year.result
-inside c =
-    let ff = c.ranges.first in
-    let fy : SFits w64 c.year_at-year.result = search rules in
-    let i = (simp fits at c.is_rule_year.ensures).0 (rw c.if-not-is_rule_year.false refl) in
-    (fy, omega (arith, ints), simp fits at c.year_at-year.ensures, i)
+inside c = grind (arith, to_z-of_z)
 
 pub returns-then-never_changes : goal.returns-then-never_changes
 returns-then-never_changes c = λ d is y of_year beyond. never_at_all _ d (c.never_changes.ensures.0 c.if-never_changes.true) is

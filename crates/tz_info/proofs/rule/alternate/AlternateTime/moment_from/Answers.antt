@@ -1,16 +1,10 @@
-use Rattle.tz_info.proofs.{AskedYears.{found_here, of_stretch}, Fits.fits, Words.{arith, to_z-of_z, None, SFits, Some, rules, w64}}
+use Rattle.tz_info.proofs.{AskedYears.{found_here, of_stretch}, Fits.fits, Words.{arith, to_z-of_z, None, Some}}
 use Rattle.tz_info.proofs.rule.alternate.AlternateTime.moment_from.Goals as goal
 
 pub returns-in-Some-clause-nearest : goal.returns-in-Some-clause-nearest
 returns-in-Some-clause-nearest c =
-    let fs = c.ranges.second in
-    let fa : SFits w64 c.stretch_ahead-stretch.result.after = search rules in
-    let fl : SFits w64 c.stretch_ahead-stretch.result.last = search rules in
     let a = c.args.self.now in
-    found_here _ a _ _ c.requires.near _
-    (of_stretch _ a _ _ _ _
-    (Some _)
-    (simp fits at c.stretch_ahead-stretch.ensures) c.in-Some.ensures)
+    found_here _ a _ _ c.requires.near _ (of_stretch _ a _ _ _ _ (Some _) (grind (arith, to_z-of_z)) c.in-Some.ensures)
 
 pub moment_beyond-requires-clause-none : goal.moment_beyond-requires-clause-none
 moment_beyond-requires-clause-none c =

@@ -1,14 +1,10 @@
 use Rattle.std.proofs.lemmas.Int.{clamps}
-use Rattle.tz_info.proofs.{Fits.fits, RuleChanges.rule_second, RuleReached.{changed_reached, still_reached}, Words.{SFits, arith, ints, pos, rules, w64, ◌-ℤ◌}}
+use Rattle.tz_info.proofs.{Fits.fits, RuleChanges.rule_second, RuleReached.{changed_reached, still_reached}, Words.{SFits, arith, ints, pos, rules, to_z-of_z, w64, ◌-ℤ◌}}
 use Rattle.tz_info.proofs.rule.alternate.AlternateTime.reached_since.Goals as goal
 
 pub shown_at-requires : goal.shown_at-requires
 shown_at-requires c =
-    let fs = c.ranges.second in
-    let fa : SFits w64 c.in-Some.change.at = search rules in
-    let time = rule_second _ _ _ (rw c.in-Some.is at c.type_and_change.ensures.nearest).is.before in
-    let fb : SFits w64 (c.in-Some.change.at -ℤ pos 1) = omega (arith, ints) in
-    simp fits time
+    let time = rule_second _ _ _ (rw c.in-Some.is at c.type_and_change.ensures.nearest).is.before in grind (arith, to_z-of_z)
 
 pub returns-in-Some-clause-reached : goal.returns-in-Some-clause-reached
 returns-in-Some-clause-reached c =
