@@ -1,15 +1,19 @@
 -- The first second at which clocks show a local time or a later one: that of the first segment that ends later.
 use Rattle.tz_info.proofs.{
+  DigitLaws.{digits-le, digits-less},
   ExtremeLaws.at_least_least,
   GapLaws.near_type,
   LeapStarts.saturated,
   SegmentLaws.{begin_first, begins_rise, come_from, place_most, places_rise},
   WallSegments.{near_of, near_wide, type_there},
-  Words.{AreRising, IsFirstAtOrAfter, IsNear, IsRuleOrNone, IsTable, IsUtOffset, IsValid, IsWide, IsWindowOf, List, LocalType, SFits, Some, Transition, TypeAt},
-  Words.{Zone, [], arith, begin_of, by_lt_z, cases_lt, get_or, get_or_append_left, get_or_push, index_of, inl, inr, length, length_push, linear, place_at, pos},
-  Words.{rises, saturate_signed, slice_get, suc, w64, zero, ℕ, ℤ, ◌++◌, ◌+ℤ◌, ◌-ℤ◌, ◌<ℤ◌, ◌<◌, ◌↔◌, ◌∷◌, ◌≡◌, ◌≤ℤ◌, ◌≤◌, ◌⊎◌},
+  Words.{AreRising, IsFirstAtOrAfter, IsNear, IsRuleOrNone, IsTable, IsUtOffset, IsValid, IsWide, IsWindowOf, List, LocalType, SFits, Some, Transition},
+  Words.{TypeAt, Zone, [], arith, begin_of, by_lt_z, cases_lt, get_or, get_or_append_left, get_or_push, index_of, inl, inr, length, length_push, linear},
+  Words.{place_at, pos, rises, saturate_signed, slice_get, suc, w64, zero, ℕ, ℤ, ◌++◌, ◌+ℤ◌, ◌-ℤ◌, ◌<ℤ◌, ◌<◌, ◌↔◌, ◌∷◌, ◌≡◌, ◌≤ℤ◌, ◌≤◌, ◌⊎◌},
 }
 use Rattle.tz_info.specs.Steps.SegmentEnds.{AreEndsRising, IsFirstOf, IsFirstSegment, IsReached, end_of}
+
+-- the numbers of steps of a search
+pub ruleset steps = (digits-le, digits-less)
 
 -- ---- ends
 pub end_at : (types : List LocalType) (ts : List Transition) (j : ℕ) (t : LocalType) → slice_get types (index_of ts j) ≡ Some t

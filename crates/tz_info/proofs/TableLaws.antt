@@ -7,11 +7,11 @@ use Rattle.tz_info.proofs.{
   SegmentLaws.{come_at_time, come_from, place_before, place_begin, place_most, segment_here, segment_most},
   TableSearch.search_found,
   WallSegments.{indexes_below, leap_time_of, near_fits, shown_inside, type_in_table, type_of_table, typed_answer},
-  Words.{AreBelow, AreExtremes, AreLess, AreListed, Change, Counts, Extremes, HasGap, HasReach, IsBegin, IsBegun, IsBegunNear, IsIndex, IsJump},
-  Words.{IsLeapTime, IsRuleOrNone, IsSegment, IsShownAmong, IsStart, IsTable, IsTableAnswer, IsTableLess, IsValid, IsWallAnswer, IsWide, IsWindowOf, LocalResult},
-  Words.{LocalType, MatchOption, None, Option, RoseWithin, SFits, Segment, Shown, ShownAmong, Some, TransitionRule, TypeAt, WallIndex, Zone, [], arith, begin_of},
-  Words.{cases_lt, index_of, inl, inr, least_time, length, linear, offsets, place_at, pos, refl, segment_of, shown_indexes, slice_get, suc, sym, table_count},
-  Words.{top_of, w32, w64, zero, ℕ, ℤ, ◌*◌, ◌+◌, ◌-ℤ◌, ◌<ℤ◌, ◌<◌, ◌↔◌, ◌∙◌, ◌≡◌, ◌≤ℤ◌, ◌≤◌},
+  Words.{AreBelow, AreExtremes, AreLess, AreListed, Change, Counts, Extremes, HasGap, HasReach, IsBegin, IsBegun, IsBegunNear, IsIndex, IsJump, IsLeapTime},
+  Words.{IsRuleOrNone, IsSegment, IsShownAmong, IsStart, IsTable, IsTableAnswer, IsTableLess, IsValid, IsWallAnswer, IsWide, IsWindowOf, LocalResult},
+  Words.{LocalType, MatchOption, None, Option, RoseWithin, SFits, Segment, Shown, ShownAmong, Some, TransitionRule, TypeAt, WallIndex, Zone, [], arith},
+  Words.{begin_of, cases_lt, index_of, inl, inr, least_time, length, linear, offsets, place_at, pos, refl, segment_of, shown_indexes, slice_get, suc, sym},
+  Words.{table_count, top_of, w32, w64, zero, ℕ, ℤ, ◌*◌, ◌+◌, ◌-ℤ◌, ◌<ℤ◌, ◌<◌, ◌↔◌, ◌∙◌, ◌≡◌, ◌≤ℤ◌, ◌≤◌},
   ZoneChanges.time_of,
 }
 use Rattle.tz_info.specs.{
@@ -143,4 +143,4 @@ module _ (z : Zone) (e : Entries) (s : ℤ) (none : length e.items ≡ 0) (begun
       let table = table_of z e valid made in
       let w = table.within in
       let top : top_of z.rule e ≡ 1 = omega arith in
-      is_plain _ (rw top (grind (arith, shown_inside z e.items (top_of z.rule e) 0 a table some is)))
+      is_plain _ (rw top (grind (arith, shown_inside table some is)))
