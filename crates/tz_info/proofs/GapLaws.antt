@@ -5,8 +5,8 @@ use Rattle.tz_info.proofs.{
   RuleLaws.rule_year,
   SegmentLaws.{type_before, type_from},
   Words.{AreLess, HasGap, IsFirstAtOrAfter, IsNear, IsNeverShown, IsRefusedBy, IsRuleOrNone, IsTypeRefused, IsValid, IsWindowOf, LocalType, None, Option},
-  Words.{RuleOrElse, Shows, Some, TransitionRule, TypeAt, Zone, by_leap_time, by_lt_z, by_rule, floor_div, inl, inr, length, lies_in, linear, pos, segment_of},
-  Words.{ℕ, ℤ, ◌+ℤ◌, ◌-ℤ◌, ◌<ℤ◌, ◌<◌, ◌∙◌, ◌≡◌, ◌≤ℤ◌, ◌⊎◌},
+  Words.{RuleOrElse, Shows, Some, TransitionRule, TypeAt, Zone, by_leap_time, by_lt_z, by_rule, floor_div, inl, inr, length, lies_in, linear, pos},
+  Words.{segment_of, ℕ, ℤ, ◌+ℤ◌, ◌-ℤ◌, ◌<ℤ◌, ◌<◌, ◌∙◌, ◌≡◌, ◌≤ℤ◌, ◌⊎◌},
   ZoneLaws.{some_once, type_decided},
 }
 use Rattle.tz_info.specs.declared.rule.transition_rule.TransitionRule.TheVariants.{Alternate, Fixed}

@@ -2,9 +2,8 @@
 use Rattle.tz_info.proofs.{
   ChangeLaws.{one_change},
   SegmentLaws.{come_at_time, segment_most},
-  Words.{Alternate as AlternateRule, AlternateAt, Bool, Change, IsBegin, IsChange, IsFirstChange, IsLastChange, IsNearestOffsetChange, IsOffsetChange, IsValid},
-  Words.{KeepsOffset, LocalType, SFits, Some, TypeAt, Zone, false, length, linear, pos, segment_of, true, type_when, w64, ℤ, ◌-ℤ◌},
-  Words.{◌<ℤ◌, ◌≡◌, ◌≤ℤ◌},
+  Words.{Alternate as AlternateRule, AlternateAt, Bool, Change, IsBegin, IsChange, IsFirstChange, IsLastChange, IsNearestOffsetChange, IsOffsetChange},
+  Words.{IsValid, KeepsOffset, LocalType, SFits, Some, TypeAt, Zone, false, length, linear, pos, segment_of, true, type_when, w64, ℤ, ◌-ℤ◌, ◌<ℤ◌, ◌≡◌, ◌≤ℤ◌},
   ZoneChanges.{last_too, time_of, to_rule},
 }
 use Rattle.tz_info.specs.declared.rule.transition_rule.TransitionRule.TheVariants.{Alternate}

@@ -1,16 +1,19 @@
 -- The pieces of the first segments, as long as the last of them has no end, and one segment more.
 use Rattle.tz_info.proofs.{
+  Fits.fits,
   WallPieces.{StartBy, at_all, at_earlier, at_later, before_pushed, start_by_push},
   WallSegments.{piece, shown_before, shown_behind, shown_inside, shown_joined},
   Words.{AreCutsCrossed, AreInOrder, ArePieces, ArePiecesAt, IsCutAt, IsSegment, IsShownAmong, IsTable, IsWide, List, LocalType, Piece, Segment, Shown, Some},
-  Words.{Transition, Zone, [], all_pairs_push, answer_at, answer_before, arith, by_lt_z, cases_lt, cut_of, index_of, inl, inr, length, length_push, linear},
-  Words.{slice_get, suc, together, ℕ, ℤ, ⊎_elim, ◌*◌, ◌++◌, ◌+◌, ◌-◌, ◌<ℤ◌, ◌<◌, ◌∷◌, ◌≡◌, ◌≤ℤ◌, ◌≤◌, refl},
+  Words.{Transition, Zone, [], all_pairs_push, answer_at, answer_before, arith, by_lt_z, cases_lt, cut_of, index_of, inl, inr, ints, length, length_push},
+  Words.{linear, slice_get, slice_get_read, suc, together, ℕ, ℤ, ⊎_elim, ◌*◌, ◌++◌, ◌+◌, ◌-◌, ◌<ℤ◌, ◌<◌, ◌∷◌, ◌≡◌, ◌≤ℤ◌, ◌≤◌, refl},
 }
 use Rattle.tz_info.specs.{Steps.SegmentEnds.end_of, declared.zone.made.shown.Shown.TheVariants.{Less, Once, Skipped}}
 
 pub end_before : (types : List LocalType) (ts : List Transition) (place : ℕ) (t : LocalType) → slice_get types (index_of ts (place - 1)) ≡ Some t
     → end_of types ts place ≡ cut_of ts place t.offset
 end_before types ts place t has = rw has refl
+
+pub ruleset ends = (end_before, fits, ints, slice_get_read)
 
 -- the pieces of the first `place` segments, the last of which, s, is taken to have no end; the latest of them starts at `latest`
 pub record AreOpen (z : Zone) (ts : List Transition) (place : ℕ) (s : Segment) (first : ℕ) (pieces : List Piece) (latest : ℤ) : Type 0 where
@@ -40,13 +43,13 @@ open_first z ts top s latest table own any is = let index = is.index in record {
   last = grind arith;
   cut = grind arith;
   unended = grind arith;
-  inside = λ l wide until. rw index at (shown_inside z ts top 0 s table own is l wide (λ m. absurd (omega arith)) (λ m. until (omega arith)));
-  behind = λ l wide inner after. shown_behind z ts top 0 s table own is l wide (omega arith);
+  inside = grind (arith, shown_inside table own is);
+  behind = grind (arith, shown_behind table own is);
   rising = grind arith;
   ended = grind arith;
 }
 
-module _ (z : Zone) (ts : List Transition) (place : ℕ) (s : Segment) (i : ℕ) (ps : List Piece) (latest : ℤ) (o : AreOpen z ts place s i ps latest) where
+module _ {z : Zone} {ts : List Transition} {place : ℕ} {s : Segment} {i : ℕ} {ps : List Piece} {latest : ℤ} (o : AreOpen z ts place s i ps latest) where
   -- the table's last segment may have no end
   pub whole : 0 < length ts → length ts < place → ArePieces z ts 0 place (Once i) ps
   whole some more = grind arith
@@ -116,17 +119,17 @@ module _ (z : Zone) (ts : List Transition) (place : ℕ) (s : Segment) (i : ℕ)
           unended = λ l j. grind (linear, at_earlier, at_later, o.unended);
           inside = λ l wide until. by_lt_z l p.start
               (λ less. joined l (answer_at b ps l) (Skipped place) _ (grind (linear, at_earlier, o.unended)) (o.inside l wide (λ _. omega linear))
-              (shown_before z ts top place next table own is l wide some (omega linear)))
+              (shown_before table own is l wide some (omega linear)))
               (λ from. by_lt_z l q.start
               (λ amid. ⊎_elim
               (λ gap. joined l Less (Skipped place) _ (grind (linear, at_earlier, at_later)) (over l wide (grind linear))
-              (shown_before z ts top place next table own is l wide some (grind linear)))
+              (shown_before table own is l wide some (grind linear)))
               (λ fold. joined l (Once s.index) (Once next.index) _ (grind (linear, at_earlier, at_later)) (grind (linear, at_all, o.inside l wide))
-              (shown_inside z ts top place next table own is l wide (grind linear) (grind linear))) a)
+              (shown_inside table own is l wide (grind linear) (grind linear))) a)
               (λ late. joined l Less (Once next.index) _ (grind (linear, at_later)) (over l wide (omega linear))
-              (shown_inside z ts top place next table own is l wide (λ _ _. omega linear) (λ m. until (omega arith)))));
+              (shown_inside table own is l wide (λ _ _. omega linear) (λ m. until (omega arith)))));
           behind = λ l wide inner after from. let late = after (omega arith) in joined l Less Less Less refl (over l wide (omega linear))
-              (shown_behind z ts top place next table own is l wide (omega arith) from);
+              (shown_behind table own is l wide (omega arith) from);
           rising = λ k s inner. ends_rise (omega arith) (grind linear) k s (omega arith);
           ended = λ m. grind (linear, end_before _ ts place _ o.segment.listed);
         })

@@ -136,7 +136,7 @@ pub asked_for_window : (z : Zone) (l low high : ℤ) (n : ℕ) (d : Transition) 
 asked_for_window z l low _ n d p q valid w h later e = nowhere _ p q (λ u k.
     let among = Contains-append_right (offsets_of z.types) (rule_offsets z.rule) _ k.of_rule in
     let least = All-contains (λ x. w.least ≤ℤ x) (offsets _ z.rule) _ w.is_least.fewest among in
-    let most = window_most z l low _ n valid w d h later u _ least (omega linear) in grind (arith, by_rule_segment)) e
+    let most = window_most n valid w d h later u _ least (omega linear) in grind (arith, by_rule_segment)) e
 
 -- ---- by instant
 pub asked_at_time : (z : Zone) (u x : ℤ) (p q : ℕ) → (0 < length z.transitions → IsLeapTime z.leaps u x) → IsAskedAtLeapTime z x p q → IsAskedAt z u p q

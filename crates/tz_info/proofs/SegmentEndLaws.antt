@@ -1,5 +1,6 @@
 -- The first second at which clocks show a local time or a later one: that of the first segment that ends later.
 use Rattle.tz_info.proofs.{
+  DigitLaws.{digits-le, digits-less},
   ExtremeLaws.at_least_least,
   GapLaws.near_type,
   LeapStarts.saturated,
@@ -11,6 +12,9 @@ use Rattle.tz_info.proofs.{
   Words.{◌≤ℤ◌, ◌≤◌, ◌⊎◌},
 }
 use Rattle.tz_info.specs.Steps.SegmentEnds.{AreEndsRising, IsFirstOf, IsFirstSegment, IsReached, end_of}
+
+-- the numbers of steps of a search
+pub ruleset steps = (digits-le, digits-less)
 
 -- ---- ends
 pub end_at : (types : List LocalType) (ts : List Transition) (j : ℕ) (t : LocalType) → slice_get types (index_of ts j) ≡ Some t

@@ -21,7 +21,7 @@ pub none_left : (z : Zone) (from until low high : ℤ) → AreWithin z from unti
 none_left z from until low high all h u t k = grind linear
 
 -- what shows a local time of the stretch lies between two seconds, and a run has one type
-module _ (z : Zone) (from until low high start end : ℤ) (t : LocalType) (all : AreWithin z from until low high)
+module _ {z : Zone} {from until low high : ℤ} (start end : ℤ) (t : LocalType) (all : AreWithin z from until low high)
     (type : HaveOneTypeFrom (TypeAt z) start end t) where
   -- in the run a second shows a local time of the stretch if and only if it lies between two seconds
   in_run : (u : ℤ) (s : LocalType) → start ≤ℤ u → u <ℤ end → ShowsWithin (TypeAt z) from until u s

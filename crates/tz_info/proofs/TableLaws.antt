@@ -135,4 +135,4 @@ module _ (z : Zone) (e : Entries) (s : ℤ) (none : length e.items ≡ 0) (begun
   one_segment a valid made some is =
       let table = table_of z e valid made in
       let top : top_of z.rule e ≡ 1 = omega arith in
-      is_plain _ (rw top (grind (arith, shown_inside z e.items (top_of z.rule e) 0 a table some is)))
+      is_plain _ (rw top (grind (arith, shown_inside table some is)))

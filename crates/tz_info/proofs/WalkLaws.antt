@@ -7,12 +7,11 @@ use Rattle.tz_info.proofs.{
   SegmentLaws.{between_of, later_segment, segment_at, segment_here, segment_is, segments_rise, type_from, type_in_from, within_of},
   TableSearch.Between,
   WallSegments.{leap_time_of, near_of, offset_in_table, rule_begun, type_of_table},
-  Words.{AreRising, AreUtOffsets, Bool, Counts, IsNear, IsShownIn, IsStart, IsTried, IsValid, IsWallAnswer, IsWide, IsWindow, List, LocalResult, LocalType},
+  Words.{AreUtOffsets, Bool, Counts, IsNear, IsShownIn, IsStart, IsTried, IsValid, IsWallAnswer, IsWide, IsWindow, List, LocalResult, LocalType},
   Words.{None, Option, RoseByWalk, RoseWithin, RuleAt, Shows, Some, Transition, TransitionRule, TypeAt, TypeFrom, Zone, [], arith, begin_of, cases_lt},
-  Words.{come_between, digits, digits-le, filter, get_or, get_or_default, index_of, inl, inr, least_time, length, linear, reads_more, segment_of, suc, sym},
+  Words.{come_between, digits, digits-le, filter, get_or, get_or_default, index_of, inl, inr, length, linear, reads_more, segment_of, suc, sym},
   Words.{table_count, true, zero, ℕ, ℤ, ⊎_elim, ◌+ℤ◌, ◌+◌, ◌-ℤ◌, ◌<ℤ◌, ◌<◌, ◌∷◌, ◌≡◌, ◌≤ℤ◌, ◌≤◌, ◌⊎◌},
 }
-use Rattle.tz_info.specs.Steps.Walk.{IsTimeWithin}
 
 -- a number has fewer digits than a list can have items
 pub ruleset room = digits-le
@@ -23,23 +22,14 @@ abbrev pub IsNextAt : Zone → ℕ → Option ℤ → Type 0
 IsNextAt z i until = ((d : Transition) × (i < length z.transitions) × (until ≡ Some (get_or z.transitions i d).unix_leap_time))
     ⊎ ((i ≡ length z.transitions) × (until ≡ None))
 
--- from the segment's begin on, and before the next transition, the leap times are those of its seconds
-tested : (z : Zone) (i : ℕ) (since x : ℤ) (until : Option ℤ) → AreRising z.transitions → i ≤ length z.transitions
-    → since ≡ begin_of z.transitions i → IsNextAt z i until
-    → (IsTimeWithin since until x → Between z.transitions x i i) × (least_time ≤ℤ x → Between z.transitions x i i → IsTimeWithin since until x)
-tested z i since x until r w b n = grind (linear, between_of, within_of, get_or_default)
-
 -- one segment more of the table was tried, of whose seconds at most one shows the local time
-pub tried_segment : (z : Zone) (l : ℤ) (i : ℕ) (since : ℤ) (until : Option ℤ) (before after : LocalResult LocalType) → IsValid z → i ≤ length z.transitions
+pub tried_segment : (z : Zone) (l : ℤ) (i : ℕ) {since : ℤ} {until : Option ℤ} {before after : LocalResult LocalType} → IsValid z → i ≤ length z.transitions
     → i < table_count z → since ≡ begin_of z.transitions i
     → IsNextAt z i until → IsTried z l (index_of z.transitions i) since until before after → IsWallAnswer (IsShownIn z l i) before
     → IsWallAnswer (IsShownIn z l (i + 1)) after
-tried_segment z l i _ _ _ _ valid inside own begin next k s =
+tried_segment z l i valid inside own begin next k s =
     let rising = valid.transitions.rising in
     let c = l -ℤ k.type.offset in
-    let test = tested z i _ _ _ rising inside begin next in
-    let old : (u : ℤ) (f : LocalType) → IsShownIn z l i u f → IsShownIn z l (i + 1) u f =
-    λ u f h. grind arith in
     let only : (u : ℤ) (f : LocalType) → IsShownIn z l (i + 1) u f → IsShownIn z l i u f ⊎ ((u ≡ c) × (segment_of z u ≡ i)) = λ u f h. ⊎_elim
     (λ m. inl (grind arith))
     (λ m.
@@ -48,12 +38,14 @@ tried_segment z l i _ _ _ _ valid inside own begin next k s =
     (cases_lt (segment_of z u) i) in
     ⊎_elim
     (λ h.
-    let there = type_of_table z i c _ _ own k.candidate.of_second (test.0 h.0) k.candidate.listed in
-    rw h.1 (behind_answer _ _ c _ _ old (λ u f m. ⊎_elim (λ a. inl a) (λ a. inr a.0) (only u f m))
+    let b : Between z.transitions k.leap_time i i = grind (linear, between_of z.transitions i k.leap_time, get_or_default z.transitions i) in
+    let there = type_of_table z i c _ _ own k.candidate.of_second b k.candidate.listed in
+    rw h.1 (behind_answer _ _ c _ _ (λ u f m. grind arith) (λ u f m. ⊎_elim (λ a. inl a) (λ a. inr a.0) (only u f m))
     (record { shows = record { fits = k.candidate.fits; type = there.type; shown = omega linear }; from = omega arith; below = omega arith })
     (λ u f m. later_segment z u c valid (omega arith)) s))
-    (λ h. rw h.1 (same_answer _ _ _ old (λ u f m. ⊎_elim (λ a. a)
-    (λ a. absurd (h.0 (test.1 k.candidate.leap_fits (rw (sym k.candidate.of_second.sum) at (segment_at z c i rising (rw a.0 at a.1)))))) (only u f m)) s))
+    (λ h. rw h.1 (same_answer _ _ _ (λ u f m. grind arith) (λ u f m. ⊎_elim (λ a. a)
+    (λ a. let w = within_of _ _ _ k.candidate.leap_fits (rw (sym k.candidate.of_second.sum) at (segment_at z c i rising (rw a.0 at a.1))) in
+    absurd (h.0 (grind (linear, get_or_default z.transitions i)))) (only u f m)) s))
     k.tried
 
 -- ---- the rule after the last transition
@@ -77,14 +69,14 @@ with_rule z rule start l valid is begun wide offsets = record {
         let type = rw is at (type_from z u t valid.transitions.rising (record { type = k.shows.type; segment = there })) in
         let n = rule_begun z u start valid (near u t type k.shows.shown) begun in grind linear
   ];
-  order = λ u v s t a b. let n = rule_begun z v start valid (near v t b.type.type b.shown) begun in later_segment z u v valid (grind linear);
+  order = λ u v s t a b. let n = near v t b.type.type b.shown in grind (linear, rule_begun z v start valid, later_segment z u v);
 } where
   near : (u : ℤ) (t : LocalType) → RuleAt rule u t → u +ℤ t.offset ≡ l → IsNear u
   near u t k e = grind (linear, near_of l t.offset wide, offsets t.offset, offset_of_rule _ u t k)
 
 -- ---- nothing lies outside
 -- a local time's window
-module _ (z : Zone) (l low high : ℤ) (n : ℕ) (valid : IsValid z) (w : IsWindow z l low high) where
+module _ {z : Zone} {l low high : ℤ} (n : ℕ) (valid : IsValid z) (w : IsWindow z l low high) where
   pub none_before : Between z.transitions low n n → IsWallAnswer (IsShownIn z l n) Never
   none_before b = λ u t k. let e = segment_is z _ n (rw w.is_low.sum at b) in
       grind (linear, segments_rise z (l -ℤ w.greatest) u valid.transitions.rising valid.leaps, at_most_greatest z u _ t w.is_greatest k.shows.type)
@@ -120,9 +112,9 @@ pub record Walked (z : Zone) (high : ℤ) (first place : ℕ) (a b : Counts) : T
   pub pieces : b.piece_reads ≡ a.piece_reads
   pub looked : 0 < length z.transitions → a.reads < b.reads
 
-pub walked_more : (z : Zone) (high : ℤ) (first place : ℕ) (x : Transition) (a b c : Counts) → place < length z.transitions → Walked z high first place a b
+pub walked_more : {z : Zone} {high : ℤ} {first place : ℕ} {x : Transition} {a b c : Counts} → place < length z.transitions → Walked z high first place a b
     → x ≡ get_or z.transitions place x → x.unix_leap_time ≤ℤ high → c ≡ reads_more b 1 → Walked z high first (place + 1) a c
-walked_more z h first place x a b c within w item le cost = grind (linear, get_or_default)
+walked_more within w item le cost = grind (linear, get_or_default)
 
 pub one_look : (b c : Counts) → c ≡ reads_more b 1 → RoseWithin b c 1 2
 one_look b c cost = grind linear

@@ -1,9 +1,10 @@
 -- Pieces of the wall-clock axis: one piece more, and two runs of pieces together.
 use Rattle.tz_info.proofs.{
   Prefixes.last_taken,
-  Words.{All-push, AreInOrder, AreOrdered, ArePassed, IsLastOf, IsNext, IsStep, List, None as none, Piece, Shown, Some as some, [], all_pairs_push, answer_at},
-  Words.{answer_before, ap, arith, by_lt_z, cases_lt, first_come, get_or, get_or_append_left, get_or_push, inl, inr, le_false, le_true, length, length-map},
-  Words.{length_push, linear, map, pos, refl, suc, take, take_more, times_ordered, together, ℕ, ℤ, ◌++◌, ◌+◌, ◌-◌, ◌<ℤ◌, ◌<◌, ◌∷◌, ◌≡◌, ◌≤ℤ◌, ◌≤◌},
+  Words.{All-push, AreInOrder, AreOrdered, ArePassed, IsLastOf, IsNext, IsStep, List, None as none, Piece, Shown, Some as some, [], all_pairs_push},
+  Words.{answer_at, answer_before, ap, arith, by_lt_z, cases_lt, first_come, get_or, get_or_append_left, get_or_push, inl, inr, le_false, le_true, length},
+  Words.{length-map, length_push, linear, map, pos, refl, suc, take, take_more, times_ordered, together, ℕ, ℤ, ◌++◌, ◌+◌, ◌-◌, ◌<ℤ◌, ◌<◌, ◌∷◌, ◌≡◌, ◌≤ℤ◌},
+  Words.{◌≤◌},
 }
 use Rattle.tz_info.specs.declared.zone.made.shown.Shown.TheVariants.{Once}
 
@@ -50,7 +51,7 @@ pub record Merging (join : Join) (bx : Shown) (xs : List Piece) (by : Shown) (ys
   pub started : (l : ℤ) → StartBy out l → StartBy (take i xs) l × StartBy (take j ys) l
   pub answers : (l : ℤ) → answer_at (join bx by) out l ≡ join (answer_at bx (take i xs) l) (answer_at by (take j ys) l)
 
-module _ (join : Join) (bx : Shown) (xs : List Piece) (by : Shown) (ys out : List Piece) (i j : ℕ) (m : Merging join bx xs by ys out i j) where
+module _ {join : Join} {bx : Shown} {xs : List Piece} {by : Shown} {ys out : List Piece} {i j : ℕ} (m : Merging join bx xs by ys out i j) where
   -- so are those of ys and those of xs
   merging_turned : Merging (λ a b. join b a) by ys bx xs out j i
   merging_turned = grind linear
@@ -78,18 +79,14 @@ module _ (join : Join) (bx : Shown) (xs : List Piece) (by : Shown) (ys out : Lis
       }
 
 -- the piece that comes next is added
-pub merging_more : (bx : Shown) (xs : List Piece) (by : Shown) (ys out after : List Piece) (i j i_after j_after : ℕ) (start : ℤ) (a : Shown) → AreInOrder xs
+pub merging_more : {bx : Shown} {xs : List Piece} {by : Shown} {ys out after : List Piece} {i j i_after j_after : ℕ} {start : ℤ} {a : Shown} → AreInOrder xs
     → AreInOrder ys → Merging together bx xs by ys out i j → IsStep xs i ys j start i_after j_after
     → a ≡ together (answer_before bx (take i_after xs)) (answer_before by (take j_after ys)) → after ≡ out ++ (record { start = start; answer = a } ∷ [])
     → Merging together bx xs by ys after i_after j_after
-merging_more bx xs by ys out _ i j _ _ _ a in_x in_y m (inl s) is e =
-    rw (e, s.passed, s.stays) (merging_x _ bx xs by ys out i j m _ in_x s.next s.starts (rw (s.passed, s.stays) at is))
-merging_more bx xs by ys out _ i j _ _ _ a in_x in_y m (inr s) is e =
-    rw (e, s.passed, s.stays) (merging_turned _ by ys bx xs _ _ i
-    (merging_x _ by ys bx xs out j i (merging_turned _ bx xs by ys out i j m) _ in_y s.next s.starts (rw (s.stays, s.passed) at is)))
-
-pub step_count : (xs ys : List Piece) (i j i_after j_after : ℕ) (start : ℤ) → IsStep xs i ys j start i_after j_after → i_after + j_after ≡ i + j + 1
-step_count xs ys i j i_after j_after start s = grind arith
+merging_more in_x in_y m (inl s) is e =
+    rw (e, s.passed, s.stays) (merging_x m _ in_x s.next s.starts (rw (s.passed, s.stays) at is))
+merging_more in_x in_y m (inr s) is e =
+    rw (e, s.passed, s.stays) (merging_turned (merging_x (merging_turned m) _ in_y s.next s.starts (rw (s.stays, s.passed) at is)))
 
 -- pieces in order, by the list of their starts
 pub starts_in_order : (ps : List Piece) → AreInOrder ps → AreOrdered (map (λ (p : Piece). p.start) ps)

@@ -7,11 +7,11 @@ use Rattle.tz_info.proofs.{
   LeapStarts.{saturated, saturated_rise},
   SegmentLaws.{begins_rise, come_at_time, come_from, place_most, places_rise, segment_most, type_before, type_from, type_in_before, type_in_from},
   TableSearch.Between,
-  Words.{AreBelow, AreListed, ArePieces, AreRising, HasType, IsLeapTime, IsMerged, IsNear, IsSegment, IsShownAmong, IsShownIn, IsSideAmong, IsStart, IsTable, IsUtOffset, IsValid},
-  Words.{IsWallAnswer, IsWide, List, ListedAmong, LocalResult, LocalType, None as none, Option, Piece, SFits, Segment, Shown, ShownAmong, Shows, Some as some},
-  Words.{Transition, TransitionRule, TypeAt, TypeIn, Zone, [], arith, begin_of, by_lt_z, cases_lt, cut_of, index_of, inl, inr, joined, le_false, le_true, length},
-  Words.{linear, place_at, refl, segment_of, shown_indexes, suc, table_count, table_count_by, together, w64, zero, ℕ, ℤ, ⊎_elim, ◌+ℤ◌, ◌+◌, ◌-ℤ◌, ◌<ℤ◌, ◌<◌, ◌↔◌, ◌∷◌, ◌≡◌},
-  Words.{◌≤ℤ◌, ◌≤◌, ◌⊎◌},
+  Words.{AreBelow, AreListed, ArePieces, AreRising, HasType, IsLeapTime, IsMerged, IsNear, IsSegment, IsShownAmong, IsShownIn, IsSideAmong, IsStart, IsTable},
+  Words.{IsUtOffset, IsValid, IsWallAnswer, IsWide, List, ListedAmong, LocalResult, LocalType, None as none, Option, Piece, SFits, Segment, Shown},
+  Words.{ShownAmong, Shows, Some as some, Transition, TransitionRule, TypeAt, TypeIn, Zone, [], arith, begin_of, by_lt_z, cases_lt, cut_of, index_of, inl},
+  Words.{inr, joined, le_false, le_true, length, linear, place_at, refl, segment_of, shown_indexes, suc, table_count, table_count_by, together, w64, zero, ℕ},
+  Words.{ℤ, ⊎_elim, ◌+ℤ◌, ◌+◌, ◌-ℤ◌, ◌<ℤ◌, ◌<◌, ◌↔◌, ◌∷◌, ◌≡◌, ◌≤ℤ◌, ◌≤◌, ◌⊎◌},
   ZoneLaws.leap_time_decided,
 }
 use Rattle.tz_info.specs.{Steps.Pieces.opening, declared.zone.made.shown.Shown.TheVariants.{Less, Once, Skipped}}
@@ -81,10 +81,10 @@ shown_joined z ts low middle high l a b rising h k x y = record {
   side = side_together z ts low l _ _ a b k x.side y.side;
 }
 
-pub pieces_joined : (z : Zone) (ts : List Transition) (low middle high : ℕ) (bx by : Shown) (xs ys out : List Piece) → AreRising ts → low < middle
+pub pieces_joined : {z : Zone} {ts : List Transition} {low middle high : ℕ} {bx by : Shown} {xs ys out : List Piece} → AreRising ts → low < middle
     → middle < high → ArePieces z ts low middle bx xs → ArePieces z ts middle high by ys → IsMerged bx xs by ys out
     → ArePieces z ts low high (together bx by) out
-pieces_joined z ts low _ _ bx by xs ys out rising h k a b m = grind (arith, shown_joined)
+pieces_joined rising h k a b m = grind (arith, shown_joined)
 
 -- ---- one segment between entries
 
@@ -106,7 +106,7 @@ opening_none zero h = absurd (omega arith)
 opening_none (suc k) h = refl
 
 -- a segment of a table
-module _ (z : Zone) (ts : List Transition) (top k : ℕ) (s : Segment) (table : IsTable z ts top) (own : k < top) (is : IsSegment z.types ts k s) where
+module _ {z : Zone} {ts : List Transition} {top k : ℕ} {s : Segment} (table : IsTable z ts top) (own : k < top) (is : IsSegment z.types ts k s) where
   offset_here : (u : ℤ) (f : LocalType) → SFits w64 u → place_at ts u ≡ k → TypeAt z u f → f.offset ≡ s.offset
   offset_here u f fits e h = let a = table.listed u f fits (omega arith) h in cc
 

@@ -23,12 +23,6 @@ abbrev pub IsEndOfRun : Bool → ℤ → ℤ → ℤ → ℤ → Option ℤ → 
 IsEndOfRun forward start end from until found = MatchOption found ((u : ℤ) → IsWithinRun start end from until u → ⊥)
     (λ u. IsWithinRun start end from until u × ((v : ℤ) → IsWithinRun start end from until v → Precedes forward u v))
 
-abbrev pub IsFirstOfRun : ℤ → ℤ → ℤ → ℤ → Option ℤ → Type 0
-IsFirstOfRun = IsEndOfRun true
-
-abbrev pub IsLastOfRun : ℤ → ℤ → ℤ → ℤ → Option ℤ → Type 0
-IsLastOfRun = IsEndOfRun false
-
 -- by no type clocks show local times of the stretch before `low`, and by none from `high` on
 pub record IsWindowOf (z : Zone) (from until low high : ℤ) : Type 0 where
   pub greatest : IsGreatest (offsets z.types z.rule) (from -ℤ low)

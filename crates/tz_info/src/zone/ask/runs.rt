@@ -1,8 +1,8 @@
 //! Runs: of a stretch of time, the seconds of one span of the zone.
 
-ghost use Rattle.std.specs.Prelude.{◌↔◌, ◌<ℤ◌, ◌≤ℤ◌, ℤ};
+ghost use Rattle.std.specs.Prelude.{◌↔◌, ◌<ℤ◌, ◌≤ℤ◌, ℤ, true, false};
 ghost use Rattle.tz_info.specs.{HeldChanges.{span_held}, Leaps.{IsNear}, Zones.{TypeAt}};
-ghost use Rattle.tz_info.specs.{Spans.{IsSince, IsSpanAt, IsUntil}, Steps.Runs.{IsFirstOfRun, IsLastOfRun}};
+ghost use Rattle.tz_info.specs.{Spans.{IsSince, IsSpanAt, IsUntil}, Steps.Runs.{IsEndOfRun}};
 
 use crate::change::HeldSpan;
 use crate::zone::time_zone::TimeZone;
@@ -56,7 +56,7 @@ pub(super) fn end_by(until: Option<i64>, limit: i64) -> i64
 
 // The first second of a run that is `from` or later and comes before `until`.
 pub(super) fn first_of_run(start: i64, end: i64, from: i64, until: i64) -> Option<i64>
-    ensures { IsFirstOfRun start end from until result }
+    ensures { IsEndOfRun true start end from until result }
 {
     let first = if start < from { from } else { start };
     if first < end && first < until {
@@ -68,7 +68,7 @@ pub(super) fn first_of_run(start: i64, end: i64, from: i64, until: i64) -> Optio
 
 // The last second of a run that is `from` or later and comes before `until`.
 pub(super) fn last_of_run(start: i64, end: i64, from: i64, until: i64) -> Option<i64>
-    ensures { IsLastOfRun start end from until result }
+    ensures { IsEndOfRun false start end from until result }
 {
     let beyond = if until < end { until } else { end };
     if start < beyond && from < beyond {

@@ -18,6 +18,7 @@ use tz_base::LocalTimeType;
 // What a clock would show at the end of the segment before that place: later local times aren't
 // shown in it. One probe is counted.
 #[inline(always)]
+#[tactic(auto, using(crate::proofs::OnePass::ends))]
 fn end_at(types: &[LocalTimeType], changes: &ChangeTable, place: usize, probes: &mut Probes) -> i64
     requires some { 0 < length types.now }
     requires named { NameTypes (length types.now) changes.now.items }
@@ -34,6 +35,7 @@ fn end_at(types: &[LocalTimeType], changes: &ChangeTable, place: usize, probes: 
 // The place of the first segment in which clocks show the local time or a later one, or that of the
 // last segment if they do so in none before. If the index has no latest ends, the segments end later and
 // later.
+#[tactic(auto, using(crate::proofs::SegmentEndLaws::steps))]
 pub(super) fn first_reaching(
     types: &[LocalTimeType],
     changes: &ChangeTable,

@@ -19,8 +19,7 @@ loop-place-preserved c =
     let fl : SFits w64 c.pieces_at-first.result.1.start = search rules in
     let strict = simp fits at (c.is_crossed.ensures.behind c.if-is_crossed.false) in
     rw add-one (record {
-      pieces = simp fits (open_more (zone_in c.args.lists) c.args.entries.now c.loop-place.place _ _ c.loop-place.pieces.items
-          _ c.loop-place.invariant.pieces _ _ _ c.pieces_at-first.ensures c.segment_at-behind.ensures c.args.count _ strict c.requires.table
+      pieces = simp fits (open_more c.loop-place.invariant.pieces _ _ _ c.pieces_at-first.ensures c.segment_at-behind.ensures c.args.count _ strict c.requires.table
           (omega arith) (omega arith) (grind arith));
       room = grind arith;
     })
@@ -30,8 +29,8 @@ returns-then-is_crossed c =
     let ff : SFits w64 c.pieces_at-first.result.0.start = search rules in
     let within = c.requires.table.within in
     let crossed = simp fits at (c.is_crossed.ensures.crossed c.if-is_crossed.true) in
-    crossed_by (zone_in c.args.lists) _ c.loop-place.place _ _ _ _ c.loop-place.invariant.pieces _ (omega arith) crossed.0
-    (cuts_of (zone_in c.args.lists) _ _ _ _ _ _ c.loop-place.invariant.pieces _ _ _ c.pieces_at-first.ensures c.segment_at-behind.ensures).0 crossed.1
+    crossed_by c.loop-place.invariant.pieces _ (omega arith) crossed.0
+    (cuts_of c.loop-place.invariant.pieces _ _ _ c.pieces_at-first.ensures c.segment_at-behind.ensures).0 crossed.1
 
 pub returns-then-is_crossed-2 : goal.returns-then-is_crossed-2
 returns-then-is_crossed-2 c =
@@ -42,7 +41,7 @@ returns-then-is_crossed-2 c =
     let crossed = rw here at (simp fits at (c.is_crossed-then-count-entries.ensures.crossed c.if-is_crossed-2.true)) in
     let last = c.if-count-entries.true in
     let o = c.loop-place.invariant.pieces in
-    crossed_by (zone_in c.args.lists) _ c.loop-place.place _ _ _ _ o _ (omega arith) crossed.0
+    crossed_by o _ (omega arith) crossed.0
     (record { segment = _; beside = inl o.segment; is_cut = rw here at (simp fits at c.cut_of-end.ensures) }) crossed.1
 
 pub returns : goal.returns
@@ -61,11 +60,11 @@ returns c =
           let cut = rw here at (simp fits at w.cut_of-end.ensures) in
           let strict = rw (here, cut) at (simp fits at (w.is_crossed-then-count-entries.ensures.behind w.if-is_crossed-2.false)) in (
             rw (w.pieces-is, w.push_reserved-then-count-entries.ensures.items, simp fits at w.small-piece.ensures, cut, here, c.segment_at.ensures.index)
-                (closed (zone_in c.args.lists) _ _ _ _ _ _ inv (omega arith) strict (omega arith)),
-            λ k first below. ends_rise (zone_in c.args.lists) _ c.loop-place.place _ _ _ _ inv (omega arith) strict k first (omega arith),
+                (closed inv (omega arith) strict (omega arith)),
+            λ k first below. ends_rise inv (omega arith) strict k first (omega arith),
           )
       | else-count-entries w ↦ let more = w.if-count-entries.false in (
-        rw (w.pieces-is, here, c.segment_at.ensures.index) (whole (zone_in c.args.lists) _ _ _ _ _ _ inv some (omega arith)),
+        rw (w.pieces-is, here, c.segment_at.ensures.index) (whole inv some (omega arith)),
         λ k first below. inv.rising k first (omega arith),
       )
     ]

@@ -6,6 +6,5 @@ returns-in-None-clause-found c =
     let fl = c.ranges.local in
     let z = c.args.self.now in
     let table : table_count z ≡ suc (length z.transitions) = rw (ap (λ z. z.rule) (sym c.self.view_is) ∙ c.in-None.is) refl in
-    tried_segment _ _ _ _ _ _ _
-    (rw (← c.self.view_is) c.self.invariant.valid) (omega arith) (omega arith)
+    tried_segment _ _ _ (rw (← c.self.view_is) c.self.invariant.valid) (omega arith) (omega arith)
     c.requires.begin (inr (refl, refl)) (rw c.requires.index at (simp fits at c.try_until.ensures)) c.requires.seen

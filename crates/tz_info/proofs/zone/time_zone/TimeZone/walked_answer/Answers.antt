@@ -5,15 +5,11 @@ use Rattle.tz_info.proofs.{
   TableSearch.Between,
   WalkLaws.{none_before, none_behind, one_look, rose_by_walk, tried_segment, walked_more},
   WallSegments.all_segments,
-  Words.{IsShownIn, IsWallAnswer, IsWindow, SFits, Some, Zone, ap, arith, digits-le, inl, length, linear, map_of, rules, sym, table_count, w32, w64, ◌+◌, ◌∙◌},
-  Words.{◌≡◌, ◌≤◌},
+  Words.{IsShownIn, IsWallAnswer, IsWindow, SFits, Some, ap, arith, digits-le, inl, length, linear, map_of, rules, sym, w32, w64, ◌+◌, ◌∙◌},
+  Words.{◌≡◌},
   zone.time_zone.TimeZone.walked_answer.Goals.{After-passed_count-first, After-try_until-answer},
 }
 use Rattle.tz_info.proofs.zone.time_zone.TimeZone.walked_answer.Goals as goal
-
--- the table has all segments but the rule's, which is the last
-table_most : (z : Zone) → length z.transitions ≤ table_count z
-table_most z = grind arith
 
 -- the window, and the first transitions, before it
 begun : (c : After-passed_count-first) → IsWindow c.args.self.now c.args.local c.leap_time_near-low.result c.leap_time_near-high.result
@@ -46,8 +42,8 @@ tried : (c : After-try_until-answer)
 tried c =
     let fl = c.ranges.local in
     let fn : SFits w64 c.transition-next.result.unix_leap_time = search rules in
-    let i = c.loop-place.invariant in let own = table_most c.args.self.now in
-    tried_segment _ _ _ _ _ _ _ (rw c.self.view_is at c.self.invariant.valid) (omega arith) (omega arith) i.begin
+    let i = c.loop-place.invariant in
+    tried_segment _ _ _ (rw c.self.view_is at c.self.invariant.valid) (omega arith) (grind arith) i.begin
     (inl (c.transition-next.result, omega arith, ap (λ t. Some t.unix_leap_time) c.transition-next.ensures.item))
     (rw i.index at (simp fits at c.try_until-answer.ensures)) (simp fits at i.found)
 
@@ -60,7 +56,7 @@ loop-place-init c =
     let (window, split) = begun (goal.at.loop-place-init c).After-passed_count-first in
     let p = c.passed_count-first.ensures.cost in let q = c.latest-current.ensures.cost in
     record {
-      found = simp fits (none_before _ _ _ _ _ (rw (← c.self.view_is) c.self.invariant.valid) window split);
+      found = simp fits (none_before _ (rw (← c.self.view_is) c.self.invariant.valid) window split);
       begin = c.latest-current.ensures.begin;
       index = c.latest-current.ensures.index;
       listed = c.latest-current.ensures.listed;
@@ -86,7 +82,7 @@ returns-then-high-next c =
     let walked = simp fits at c.loop-place.invariant.walked in
     let time = ap (λ t. t.unix_leap_time) c.transition-next.ensures.item in
     record {
-      found = none_behind _ _ _ _ c.loop-place.place valid window c.transition-next.result (omega arith) (omega linear) _
+      found = none_behind c.loop-place.place valid window c.transition-next.result (omega arith) (omega linear) _
           (tried at.After-try_until-answer);
       cost = rose_by_walk _ _ _ _ _ _ 1 _ _ _ window split (omega arith) walked (omega arith) (one_look _ _ c.transition-next.ensures.cost);
       counted = asked_for_window _ _ _ c.leap_time_near-high.result c.loop-place.place c.transition-next.result _ _
@@ -105,8 +101,7 @@ loop-place-preserved c =
       index = ap (λ t. t.type_index) item ∙ sym (index_next ts _ _ (omega arith));
       listed = c.transition-next.ensures.index;
       walked =
-          simp fits (walked_more _ _ _ _ _ _ _ _ (omega arith)
-          (simp fits at c.loop-place.invariant.walked) item (omega linear) c.transition-next.ensures.cost);
+          simp fits (walked_more (omega arith) (simp fits at c.loop-place.invariant.walked) item (omega linear) c.transition-next.ensures.cost);
     }
 
 pub try_last-requires-clause-seen : goal.try_last-requires-clause-seen
