@@ -1,9 +1,9 @@
 -- A second has one amount, which is what the code finds.
 use Rattle.tz_saving.proofs.{
   SideLaws.{candidates_once, only_once, the_found},
-  Words.{AreCandidates, At_a_second, Change, HasNoStandard, IsAfter, IsAmount, IsByCandidates, IsFlaggedAmount, IsFound, IsNextCandidate, IsNextUse, IsOfTwo},
-  Words.{IsOnly, IsRuleStandard, IsSavingAt, IsSoonAfter, LocalType, None, Of_rule, Option, Saving, Some, TransitionRule, TypeAt, Zone, ap, arith, ints, sym},
-  Words.{type_once, ℤ, ◌-ℤ◌, ◌∙◌, ◌≡◌},
+  Words.{AreCandidates, AreTurnsFar, Change, IsAmount, IsByCandidates, IsFlaggedAmount, IsFound, IsNearestTurn},
+  Words.{IsNextCandidate, IsNextUse, IsOfTwo, IsOnly, IsSavingAt, LocalType, None, Option, Saving, Some},
+  Words.{TransitionRule, TypeAt, Zone, ap, arith, ints, sym, true, type_once, ℤ, ◌-ℤ◌, ◌∙◌, ◌≡◌},
 }
 
 -- there is one amount by the candidates
@@ -39,25 +39,25 @@ saving_once z u s t h k =
     let standard = h.standard_is type at ∙ ap (λ a. type.offset -ℤ a) same ∙ sym (k.standard_is type at) in
     λ i. record { standard_offset = standard i; amount = same i }
 
--- standard time of the rule, if no standard second comes after u
-pub after_of_rule : (z : Zone) (u : ℤ) (found : Option ℤ) → HasNoStandard (TypeAt z) (IsSoonAfter (TypeAt z) u) → IsFound (IsRuleStandard z.rule) found
-    → IsFound (IsAfter (TypeAt z) z.rule u) found
-after_of_rule z u None none h = λ a k. elim k [ At_a_second k ↦ none k.at a k.is k.after | Of_rule m k ↦ h a k ]
-after_of_rule z u (Some a) none h = Of_rule none h
-
 -- the next use of the type t after u
 module _ (z : Zone) (t : LocalType) (u : ℤ) where
   abbrev IsNext : ℤ → Type 0
   IsNext a = IsNextCandidate (TypeAt z) z.rule t u a
 
-  pub next_found : (at : ℤ) (early late found : Option ℤ) → (c : Change) × IsNextUse (TypeAt z) t u c × (c.at ≡ at)
-      → AreCandidates (TypeAt z) z.rule at t.offset early late → IsFound (IsOnly early late) found → IsFound IsNext found
-  next_found at early late None (c, next, same) candidates none = λ a h.
-      let there = next_once (TypeAt z) t u h.change c h.next next ∙ same in
-      let both = candidates_once (TypeAt z) (type_once z) z.rule at t.offset h.early h.late early late (rw there at h.candidates) candidates in
+  pub no_next : AreTurnsFar true (TypeAt z) (λ s. s ≡ t) u → (a : ℤ) → IsNext a → ⊥
+  no_next far a h = grind (arith, far h.change)
+
+  next_is : (c : Change) → IsNearestTurn true (TypeAt z) (λ s. s ≡ t) u c → IsNextUse (TypeAt z) t u c
+  next_is c n = grind arith
+
+  pub next_found : (c : Change) (early late found : Option ℤ) → IsNearestTurn true (TypeAt z) (λ s. s ≡ t) u c
+      → AreCandidates (TypeAt z) z.rule c.at t.offset early late → IsFound (IsOnly early late) found → IsFound IsNext found
+  next_found c early late None n candidates none = λ a h.
+      let there = next_once (TypeAt z) t u h.change c h.next (next_is c n) in
+      let both = candidates_once (TypeAt z) (type_once z) z.rule c.at t.offset h.early h.late early late (rw there at h.candidates) candidates in
       grind arith
-  next_found at early late (Some a) (c, next, same) candidates only =
-      record { change = c; next = next; early = early; late = late; candidates = rw same candidates; only = only }
+  next_found c early late (Some a) n candidates only =
+      record { change = c; next = next_is c n; early = early; late = late; candidates = candidates; only = only }
 
   -- the choice by what was found
   pub of_two_found : (p q a : ℤ) (found : Option ℤ) → IsFound IsNext found → IsOfTwo (λ x. found ≡ Some x) p q a → IsOfTwo IsNext p q a

@@ -1,7 +1,8 @@
 -- A second has one standard offset on each side, and one candidate of each.
 use Rattle.tz_saving.proofs.{
-  Words.{AreCandidates, At_a_second, IsAfter, IsBefore, IsCandidate, IsFound, IsOnly, IsRuleStandard, IsStandard, IsWithinDay, LocalType, None, Of_rule},
-  Words.{Option, Some, TransitionRule, TypeAt, Zone, arith, ints, pos, refl, type_once, ℤ, ◌-ℤ◌, ◌≡◌, ◌≢◌},
+  Words.{AreCandidates, At_a_second, HasNoStandard, IsAfter, IsBefore, IsCandidate, IsFound, IsNear, IsNearestStandard, IsOnly, IsRuleStandard, IsStandard},
+  Words.{IsWithinDay, LocalType, MatchOption, None, Of_rule, Option, Some, TransitionRule, TypeAt, Zone, arith, false, ints, pos, true, type_once, ℤ},
+  Words.{◌-ℤ◌, ◌≡◌, ◌≢◌},
 }
 
 rule_once : (rule : Option TransitionRule) (a b : ℤ) → IsRuleStandard rule a → IsRuleStandard rule b → a ≡ b
@@ -34,16 +35,11 @@ module _ (is : ℤ → Type 0) (once : (a b : ℤ) → is a → is b → a ≡ b
 
 -- a second has one type
 module _ (f : ℤ → LocalType → Type 0) (one : (u : ℤ) (s t : LocalType) → f u s → f u t → s ≡ t) where
-  standard_once : (u v a b : ℤ) → u ≡ v → IsStandard f a u → IsStandard f b v → a ≡ b
-  standard_once u v a b same h k = grind (arith, ints)
-
   pub before_once : (u a b : ℤ) → IsBefore f u a → IsBefore f u b → a ≡ b
-  before_once u a b h k =
-      grind (arith, ints, h.last k.at b, k.last h.at a)
+  before_once u a b h k = grind (arith, ints, h.last k.at b, k.last h.at a)
 
   pub after_once : (rule : Option TransitionRule) (u a b : ℤ) → IsAfter f rule u a → IsAfter f rule u b → a ≡ b
-  after_once rule u a b (At_a_second h) (At_a_second k) =
-      standard_once h.at k.at a b (omega (arith, ints, h.first k.at b k.is k.after.0, k.first h.at a h.is h.after.0)) h.is k.is
+  after_once rule u a b (At_a_second h) (At_a_second k) = grind (arith, ints, h.first k.at b, k.first h.at a)
   after_once rule u a b (At_a_second h) (Of_rule none k) = absurd (none h.at a h.is h.after)
   after_once rule u a b (Of_rule none h) (At_a_second k) = absurd (none k.at b k.is k.after)
   after_once rule u a b (Of_rule none h) (Of_rule m k) = rule_once rule a b h k
@@ -55,18 +51,34 @@ module _ (f : ℤ → LocalType → Type 0) (one : (u : ℤ) (s t : LocalType) �
     found_once _ (after_once rule u) offset q s h.late_is k.late_is,
   )
 
-pub candidates_found : (z : Zone) (u offset : ℤ) (before after early late : Option ℤ) → IsFound (IsBefore (TypeAt z) u) before
+-- ---- what the code finds
+before_found : (f : ℤ → LocalType → Type 0) (u : ℤ) (found : Option ℤ) → MatchOption found (HasNoStandard f (IsNear false f u)) (IsNearestStandard false f u)
+    → IsFound (IsBefore f u) found
+before_found f u None none = λ a k. none k.at a k.is (k.before, k.near)
+before_found f u (Some a) h = record { at = h.at; before = h.near.0; near = h.near.1; is = h.is; last = h.nearest }
+
+pub after_found : (z : Zone) (u a : ℤ) → IsNearestStandard true (TypeAt z) u a → IsAfter (TypeAt z) z.rule u a
+after_found z u a h = At_a_second (record { at = h.at; after = h.near; is = h.is; first = h.nearest })
+
+-- standard time of the rule, if no standard second comes after u
+pub after_of_rule : (z : Zone) (u : ℤ) (found : Option ℤ) → HasNoStandard (TypeAt z) (IsNear true (TypeAt z) u) → IsFound (IsRuleStandard z.rule) found
+    → IsFound (IsAfter (TypeAt z) z.rule u) found
+after_of_rule z u None none h = λ a k. elim k [ At_a_second k ↦ none k.at a k.is k.after | Of_rule m k ↦ h a k ]
+after_of_rule z u (Some a) none h = Of_rule none h
+
+pub candidates_found : (z : Zone) (u offset : ℤ) (before after early late : Option ℤ)
+    → MatchOption before (HasNoStandard (TypeAt z) (IsNear false (TypeAt z) u)) (IsNearestStandard false (TypeAt z) u)
     → IsFound (IsAfter (TypeAt z) z.rule u) after → IsFound (IsCandidate (λ s. before ≡ Some s) offset) early
     → IsFound (IsCandidate (λ s. after ≡ Some s) offset) late → AreCandidates (TypeAt z) z.rule u offset early late
 candidates_found z u offset before after early late b a e l = record {
-  early_is = found_candidate _ (before_once _ (type_once z) u) offset before early b e;
+  early_is = found_candidate _ (before_once _ (type_once z) u) offset before early (before_found _ u before b) e;
   late_is = found_candidate _ (after_once _ (type_once z) z.rule u) offset after late a l;
 }
 
 -- ---- the candidate by an offset
 module _ (offset standard : ℤ) where
   pub candidate_is : (offset -ℤ standard ≢ pos 0) → IsWithinDay (offset -ℤ standard) → IsCandidate (λ s. s ≡ standard) offset (offset -ℤ standard)
-  candidate_is some within = record { standard = standard; of_side = refl; difference = refl; some = some; within = within }
+  candidate_is some within = grind arith
 
   pub no_candidate : ((offset -ℤ standard ≢ pos 0) × IsWithinDay (offset -ℤ standard) → ⊥) → (a : ℤ) → IsCandidate (λ s. s ≡ standard) offset a → ⊥
   no_candidate none a r = grind (arith, ints)

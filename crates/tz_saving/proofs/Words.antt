@@ -1,6 +1,6 @@
 -- The words that this crate's proofs cite, passed on from the crates below and from specs/.
 pub use Rattle.offset_core.specs.Offset.{IsWithinDay}
-pub use Rattle.std.specs.Prelude.{Bool, FitsSigned, MatchOption, option_map, suc, zero, ℕ, ◌+ℤ◌, ◌-◌, ◌<◌, ◌↔◌}
+pub use Rattle.std.specs.Prelude.{Bool, FitsSigned, MatchOption, not, option_map, suc, zero, ℕ, ◌+ℤ◌, ◌-◌, ◌<◌, ◌↔◌, ◌⊎◌}
 pub use Rattle.tz_info.{
   proofs.ChangeLaws.{one_change},
   proofs.SpanLaws.{typed_between},
@@ -20,8 +20,9 @@ pub use Rattle.tz_saving.specs.{
   Savings.{IsSavingAt},
   Sides.{HasNoStandard, IsAfter, IsBefore, IsFirstAfter, IsFound, IsRuleStandard, IsSoonAfter, IsStandard},
   Sides.IsAfter.{At_a_second, Of_rule},
-  Steps.Walks.{HasBetween, HasNoTurn, IsBeyond, IsNearestTurn, IsTurn, IsWalkedTo, IsWanted, far_second, far_type},
+  Steps.Walks.{AreTurnsFar, HasBetween, HasFlag, IsAhead, IsBeyond, IsNear, IsNearestStandard, IsNearestTurn, IsTurn, IsWalkedTo, IsWanted, far_second, far_type, is_forward},
   declared.saving.Saving.{Saving},
+  declared.sides.Wanted.TheVariants.{Standard},
 }
 unfoldable pub use Rattle.tz_saving.specs.Reach.{HasChanges}
 

@@ -5,7 +5,7 @@ ghost use Rattle.offset_core.specs.Offset.{IsWithinDay};
 ghost use Rattle.tz_info.specs.Zones.{TypeAt};
 ghost use Rattle.tz_saving.specs.{Candidates.{AreCandidates, IsCandidate, IsOnly}, Sides.{IsFound}};
 
-use crate::sides::{standard_after, standard_before};
+use crate::sides::{Side, nearest_standard, standard_after};
 use tz_info::{LocalTimeType, TimeZone};
 
 // The two candidates of a second at which that type is in force, with the DST flag.
@@ -18,8 +18,8 @@ pub(crate) fn candidates_at(
     requires flagged { local.now.dst ≡ true }
     ensures { AreCandidates (TypeAt zone.now) zone.now.rule second local.now.offset result.0 result.1 }
 {
-    let before = standard_before(zone, second, local);
-    let after = standard_after(zone, second, local);
+    let before = nearest_standard(zone, second, Side::Before);
+    let after = standard_after(zone, second);
     let offset = local.offset();
     (candidate_of(offset, before), candidate_of(offset, after))
 }

@@ -1,56 +1,52 @@
 //! Standard time on both sides of a second of daylight saving time, and changes to a type.
 
-ghost use Rattle.std.specs.{Int.{w64}, Prelude.{◌≡◌, ◌↔◌, ◌-ℤ◌, pos, true, FitsSigned, IsTrue}};
-ghost use Rattle.std.specs.Prelude.{MatchOption, option_map};
+ghost use Rattle.std.specs.{Int.{w64}, Prelude.{◌≡◌, ◌↔◌, ◌-ℤ◌, pos, true, FitsSigned, IsTrue, MatchOption, option_map}};
 ghost use Rattle.tz_info.specs.{Changes.{IsNearest}, HeldChanges.{change_held}, Zones.{TypeAt}};
-ghost use Rattle.tz_saving.specs.Sides.{HasNoStandard, IsAfter, IsBefore, IsFirstAfter, IsFound};
-ghost use Rattle.tz_saving.specs.Sides.{IsRuleStandard, IsSoonAfter};
-ghost use Rattle.tz_saving.specs.Steps.Walks.{far_second, far_type, HasNoTurn, IsBeyond, IsNearestTurn, IsWanted};
+ghost use Rattle.tz_saving.specs.Sides.{HasNoStandard, IsAfter, IsFound, IsRuleStandard};
+ghost use Rattle.tz_saving.specs.Steps.Walks.{far_second, far_type, is_forward, AreTurnsFar, HasFlag, IsBeyond, IsNear};
+ghost use Rattle.tz_saving.specs.Steps.Walks.{IsNearestStandard, IsNearestTurn, IsWanted};
 
 use tz_info::{HeldChange, LocalTimeType, TimeZone, TransitionRule};
 
 // How many clock changes away standard time, or the next use of a type, may be.
 const REACH: u32 = 64;
 
-// The offset of the last standard second before that one, at which a type with the DST flag is in
-// force; none if it is out of reach.
-#[tactic(auto, using(crate::proofs::Words::fitted, crate::proofs::Walks::standard_back))]
-pub(crate) fn standard_before(zone: &TimeZone, second: i64, local: &LocalTimeType) -> Option<i32>
-    requires in_force { TypeAt zone.now second local.now }
-    requires flagged { local.now.dst ≡ true }
-    ensures { IsFound (IsBefore (TypeAt zone.now) second) result }
-{
-    zone.valid_law();
-    match nearest_turn(zone, second, false, true, local) {
-        Some(change) => Some(change.before.offset()),
-        None => None,
-    }
+// A side of a second.
+#[derive(Clone, Copy)]
+pub(crate) enum Side {
+    Before,
+    After,
 }
 
-// The offset of the first standard second after it or, if none is within reach, that of the rule's
-// standard time.
-pub(crate) fn standard_after(zone: &TimeZone, second: i64, local: &LocalTimeType) -> Option<i32>
-    requires in_force { TypeAt zone.now second local.now }
-    requires flagged { local.now.dst ≡ true }
+// The types that a change may lead to: those of standard time, or one.
+#[derive(Clone, Copy)]
+pub(crate) enum Wanted<'a> {
+    Standard,
+    Same(&'a LocalTimeType),
+}
+
+// The offset of the first standard second after that one, at which a type with the DST flag is in
+// force, or, if none is within reach, that of the rule's standard time.
+#[tactic(auto, using(crate::proofs::Words::fitted, crate::proofs::SideLaws::after_found))]
+pub(crate) fn standard_after(zone: &TimeZone, second: i64) -> Option<i32>
+    requires { HasFlag (TypeAt zone.now) true second }
     ensures { IsFound (IsAfter (TypeAt zone.now) zone.now.rule second) result }
 {
-    match first_standard_after(zone, second, local) {
+    match nearest_standard(zone, second, Side::After) {
         Some(offset) => Some(offset),
         None => rule_standard(zone),
     }
 }
 
-// The offset of the first standard second after it; none if it is out of reach.
-#[tactic(auto, using(crate::proofs::Words::fitted, crate::proofs::Walks::standard_on))]
-fn first_standard_after(zone: &TimeZone, second: i64, local: &LocalTimeType) -> Option<i32>
-    requires in_force { TypeAt zone.now second local.now }
-    requires flagged { local.now.dst ≡ true }
-    ensures { MatchOption result (HasNoStandard (TypeAt zone.now) (IsSoonAfter (TypeAt zone.now) second))
-        (IsFirstAfter (TypeAt zone.now) second) }
+// The offset of the nearest standard second on that side; none if it is out of reach.
+pub(crate) fn nearest_standard(zone: &TimeZone, second: i64, side: Side) -> Option<i32>
+    requires { HasFlag (TypeAt zone.now) true second }
+    ensures { MatchOption result (HasNoStandard (TypeAt zone.now) (IsNear (is_forward side) (TypeAt zone.now) second))
+        (IsNearestStandard (is_forward side) (TypeAt zone.now) second) }
 {
     zone.valid_law();
-    match nearest_turn(zone, second, true, true, local) {
-        Some(change) => Some(change.after.offset()),
+    match nearest_turn(zone, second, side, Wanted::Standard) {
+        Some(turn) => Some(far_side(turn, side).1.offset()),
         None => None,
     }
 }
@@ -65,27 +61,26 @@ fn rule_standard(zone: &TimeZone) -> Option<i32>
     }
 }
 
-// The first change after the second, or the last one up to it, that has standard time or that type
-// on its far side; none if it is out of reach.
+// The first change after the second, or the last one up to it, that has a wanted type on its far
+// side; none if it is out of reach.
 pub(crate) fn nearest_turn<'a>(
     zone: &'a TimeZone,
     second: i64,
-    forward: bool,
-    standard: bool,
-    local: &LocalTimeType,
+    side: Side,
+    wanted: Wanted<'_>,
 ) -> Option<HeldChange<'a>>
     ensures { MatchOption (option_map change_held result)
-        (HasNoTurn forward (TypeAt zone.now) (IsWanted standard local.now) second)
-        (IsNearestTurn forward (TypeAt zone.now) (IsWanted standard local.now) second) }
+        (AreTurnsFar (is_forward side) (TypeAt zone.now) (IsWanted wanted.entry) second)
+        (IsNearestTurn (is_forward side) (TypeAt zone.now) (IsWanted wanted.entry) second) }
 {
     let mut reached = second;
     let mut left = REACH;
     'changes: while left > 0 {
-        let Some(change) = nearest_change(zone, reached, forward) else {
+        let Some(change) = nearest_change(zone, reached, side) else {
             return None;
         };
-        let (at, found) = far_side(change, forward);
-        if is_wanted(found, standard, local) {
+        let (at, found) = far_side(change, side);
+        if is_wanted(found, wanted) {
             return Some(change);
         }
         reached = at;
@@ -95,37 +90,33 @@ pub(crate) fn nearest_turn<'a>(
 }
 
 // The first change after the second, or the last one up to it.
-fn nearest_change(zone: &TimeZone, second: i64, forward: bool) -> Option<HeldChange<'_>>
-    ensures { IsNearest forward (TypeAt zone.now) (IsBeyond forward second)
+fn nearest_change(zone: &TimeZone, second: i64, side: Side) -> Option<HeldChange<'_>>
+    ensures { IsNearest (is_forward side) (TypeAt zone.now) (IsBeyond (is_forward side) second)
         (option_map change_held result) }
 {
-    if forward {
-        zone.next_held_change(second)
-    } else {
-        zone.previous_held_change(second)
+    match side {
+        Side::Before => zone.previous_held_change(second),
+        Side::After => zone.next_held_change(second),
     }
 }
 
 // The nearest second on the far side of the change, and the type there.
-fn far_side<'a>(change: HeldChange<'a>, forward: bool) -> (i64, &'a LocalTimeType)
+fn far_side<'a>(change: HeldChange<'a>, side: Side) -> (i64, &'a LocalTimeType)
     requires { FitsSigned w64 (change.at -ℤ pos 1) }
-    ensures second { result.0 ≡ far_second forward change.entry.at }
-    ensures far { result.1.now ≡ far_type forward (change_held change.entry) }
+    ensures second { result.0 ≡ far_second (is_forward side) change.entry.at }
+    ensures far { result.1.now ≡ far_type (is_forward side) (change_held change.entry) }
 {
-    if forward {
-        (change.at, change.after)
-    } else {
-        (change.at - 1, change.before)
+    match side {
+        Side::Before => (change.at - 1, change.before),
+        Side::After => (change.at, change.after),
     }
 }
 
-// Whether the type has no DST flag, or is that one.
-fn is_wanted(found: &LocalTimeType, standard: bool, local: &LocalTimeType) -> bool
-    ensures { IsTrue result ↔ IsWanted standard local.now found.now }
+fn is_wanted(found: &LocalTimeType, wanted: Wanted<'_>) -> bool
+    ensures { IsTrue result ↔ IsWanted wanted.entry found.now }
 {
-    if standard {
-        !found.is_dst()
-    } else {
-        *found == *local
+    match wanted {
+        Wanted::Standard => !found.is_dst(),
+        Wanted::Same(local) => *found == *local,
     }
 }

@@ -1,13 +1,23 @@
 -- Walks from a second to the nearest change that has standard time, or a type, on its far side.
-use Rattle.std.specs.Prelude.{ℕ, suc, ℤ, pos, Bool, true, false, ◌↔◌, ◌≡◌, ◌-ℤ◌, ◌≤ℤ◌, ◌<ℤ◌, Option, MatchOption}
+use Rattle.std.specs.Prelude.{ℕ, suc, ℤ, pos, Bool, true, false, ◌↔◌, ◌≡◌, ◌-ℤ◌, ◌≤ℤ◌, ◌<ℤ◌}
 use Rattle.tz_base.specs.{LocalTypes.{LocalType}, declared.change.Change.{Change}}
 use Rattle.tz_info.specs.Changes.{IsChange, Precedes}
-use Rattle.tz_saving.specs.{Amounts.{IsNextUse}, Reach.{HasChanges, reach}}
+use Rattle.tz_saving.specs.{Reach.{HasChanges, reach}, Sides.{IsStandard}, declared.sides.{Side.{Side, TheVariants.{Before, After}}, Wanted.{Wanted, TheVariants.{Standard, Same}}}}
+
+-- whether that side of a second is the one that clocks go to
+abbrev pub is_forward : Side → Bool
+is_forward Before = false
+is_forward After = true
 
 -- in that direction, which is forward or back, a change at that second comes after u
 abbrev pub IsBeyond : Bool → ℤ → ℤ → Type 0
 IsBeyond true u at = u <ℤ at
 IsBeyond false u at = at ≤ℤ u
+
+-- and the second v does
+abbrev pub IsAhead : Bool → ℤ → ℤ → Type 0
+IsAhead true u v = u <ℤ v
+IsAhead false u v = v <ℤ u
 
 -- the type on the far side of the change, and the nearest second there
 abbrev pub far_type : Bool → Change → LocalType
@@ -23,10 +33,14 @@ abbrev pub HasBetween : Bool → (ℤ → LocalType → Type 0) → ℕ → ℤ 
 HasBetween true in_force n u v = HasChanges in_force n u v
 HasBetween false in_force n u v = HasChanges in_force n v u
 
+-- more changes than within reach
+abbrev pub IsFar : Bool → (ℤ → LocalType → Type 0) → ℤ → ℤ → Type 0
+IsFar forward in_force u v = HasBetween forward in_force (suc reach) u v
+
 -- a type without the DST flag, or that type
-abbrev pub IsWanted : Bool → LocalType → LocalType → Type 0
-IsWanted true t other = other.dst ≡ false
-IsWanted false t other = other ≡ t
+abbrev pub IsWanted : Wanted → LocalType → Type 0
+IsWanted Standard other = other.dst ≡ false
+IsWanted (Same t) other = other ≡ t.now
 
 -- a change beyond u to a wanted type
 pub record IsTurn (forward : Bool) (in_force : ℤ → LocalType → Type 0) (wanted : LocalType → Type 0) (u : ℤ) (c : Change) : Type 0 where
@@ -37,23 +51,33 @@ pub record IsTurn (forward : Bool) (in_force : ℤ → LocalType → Type 0) (wa
 -- it is within reach, and the first in that direction
 pub record IsNearestTurn (forward : Bool) (in_force : ℤ → LocalType → Type 0) (wanted : LocalType → Type 0) (u : ℤ) (c : Change) : Type 0 where
   pub turn : IsTurn forward in_force wanted u c
-  pub near : ¬ (HasBetween forward in_force (suc reach) u (far_second forward c.at))
+  pub near : ¬ (IsFar forward in_force u (far_second forward c.at))
   pub first : (d : Change) → IsTurn forward in_force wanted u d → Precedes forward c.at d.at
 
--- none is within reach
-abbrev pub HasNoTurn : Bool → (ℤ → LocalType → Type 0) → (LocalType → Type 0) → ℤ → Type 0
-HasNoTurn forward in_force wanted u =
-    (d : Change) → IsTurn forward in_force wanted u d → ¬ (¬ (HasBetween forward in_force (suc reach) u (far_second forward d.at)))
+-- each is out of reach
+abbrev pub AreTurnsFar : Bool → (ℤ → LocalType → Type 0) → (LocalType → Type 0) → ℤ → Type 0
+AreTurnsFar forward in_force wanted u = (d : Change) → IsTurn forward in_force wanted u d → IsFar forward in_force u (far_second forward d.at)
 
 -- the walk from u has reached that second: more than `left` changes lie between it and a second if that is beyond the reach of u, and
 -- only then; and each turn is beyond it
 pub record IsWalkedTo (forward : Bool) (in_force : ℤ → LocalType → Type 0) (wanted : LocalType → Type 0) (left : ℕ) (u reached : ℤ) : Type 0 where
   pub order : Precedes forward u reached
-  pub reach_left : (v : ℤ) → HasBetween forward in_force (suc left) reached v ↔ HasBetween forward in_force (suc reach) u v
+  pub reach_left : (v : ℤ) → HasBetween forward in_force (suc left) reached v ↔ IsFar forward in_force u v
   pub later : (d : Change) → IsTurn forward in_force wanted u d → IsBeyond forward reached d.at
 
--- the second of the next use, or nothing if the type is not used again
-abbrev pub IsSecondOfNextUse : (ℤ → LocalType → Type 0) → LocalType → ℤ → Option ℤ → Type 0
-IsSecondOfNextUse in_force t u found = MatchOption found
-    ((c : Change) → IsNextUse in_force t u c → ⊥)
-    (λ at. (c : Change) × IsNextUse in_force t u c × (c.at ≡ at))
+-- at the second u a type is in force that has the flag, or has it not
+pub record HasFlag (in_force : ℤ → LocalType → Type 0) (flag_is : Bool) (u : ℤ) : Type 0 where
+  pub type : LocalType
+  pub in_force_then : in_force u type
+  pub flag : type.dst ≡ flag_is
+
+-- the second v comes after u in that direction, and is within reach
+abbrev pub IsNear : Bool → (ℤ → LocalType → Type 0) → ℤ → ℤ → Type 0
+IsNear forward in_force u v = IsAhead forward u v × ¬ (IsFar forward in_force u v)
+
+-- the offset of the standard second that is nearest to u in that direction, if that is within reach
+pub record IsNearestStandard (forward : Bool) (in_force : ℤ → LocalType → Type 0) (u offset : ℤ) : Type 0 where
+  pub at : ℤ
+  pub near : IsNear forward in_force u at
+  pub is : IsStandard in_force offset at
+  pub nearest : (v other : ℤ) → IsStandard in_force other v → IsAhead forward u v → Precedes forward at v
