@@ -1,23 +1,31 @@
 -- What is written of a zone.
-use Rattle.std.proofs.{Math.Nat.{mul-div_cancel}, lemmas.Int.{to_z-of_z}, lemmas.List.{get_or-map}}
-use Rattle.tz_base.specs.Grammar.{At, Byte, Check, Ended, Exact, Grammar, Here, Marked, Nothing, Number, Refused, Rest, Run, Then}
-use Rattle.tz_info.specs.declared.file.header.{Place.TheVariants.{First, Second}, Version.TheVariants.{One, Three, Two}}
-use Rattle.tz_info.proofs.Words.{AreRecords, FitsSigned, SpellLeapSeconds, take_more, w32, w64}
-use Rattle.tz_write.proofs.{
-  FileLayouts.{AreLaid, has_text, laid_of, laid_size, no_zero},
-  RuleTexts.{extensions, rule_named, rule_text, text_are, text_begins, text_some},
-  TextBytes.{AreTextBytes, begins_bare, ends_bare, limits, no_zeros},
-  Words.{All, All-cons, All-more, All-nil, All-tail, AreBytes, AreNamesIn, Bool, Counts, CountsAgree, FilePieces, Fits-of_z, HasCounts, HasPieces, HasPlace},
-  Words.{HasTimeOf64Bits, HavePlaces, Header, IsAscii-from_all, IsEntry, IsFooter, IsNamedIn, IsRoomOf, IsRuleOrNone, IsSound, IsType, IsTzFile},
-  Words.{IsUtf8-from_ascii, IsWritable, LeapSecond, List, LocalType, None, Option, Parts, Place, Room, SaysRule, Some, SpellTransitions, SpellTypes, Spells},
-  Words.{SpellsLeapSecond, Transition, TransitionRule, Version, Zone, [], after_first_block, ap, arith, be_u32, block, both_ways, counts_bytes, counts_test},
-  Words.{false, file, file_bytes, first_half, first_version, flat_map, flat_map_more, from_be_bytes-to_be_bytes_4, from_be_bytes-to_be_bytes_8, get_or},
-  Words.{get_or_append_left, header, header_bytes, index_bytes, inl, inr, later_pieces, later_version, leap_bytes, length, length-append, length-map, magic},
-  Words.{number_bytes, refl, second_half, signed, signed_bytes, six_counts, subst, suc, sym, take, time_bytes, true, type_bytes, tzif, version, ℕ, ℤ, ◌*◌},
-  Words.{◌++◌, ◌+◌, ◌<◌, ◌^◌, ◌↔◌, ◌∙◌, ◌∷◌, ◌≡◌, ◌≢◌, ◌≤◌, ◌⊎◌},
+use Rattle.std.proofs.{
+  Math.{Facts.Fits-of_z, Nat.mul-div_cancel},
+  lemmas.{Int.to_z-of_z, List.{flat_map_more, get_or-map, get_or_append_left}, Nat.{from_be_bytes-to_be_bytes_4, from_be_bytes-to_be_bytes_8}},
+  lemmas.Str.{Ascii.IsAscii-from_all, IsUtf8-from_ascii},
 }
-use Rattle.tz_write.specs.FileBytes.{block_bytes, footer_bytes, least_block, least_counts, unused, zone_counts, zone_parts}
-use Rattle.tz_write.specs.WrittenFiles.{HaveVersion, IsFooterText, IsInNoFile, IsSpellableOrNone, IsWrittenFile, NeedsExtensions}
+use Rattle.tz_base.specs.Grammar.{At, Byte, Check, Ended, Exact, Grammar, Here, Marked, Nothing, Number, Refused, Rest, Run, Then}
+use Rattle.tz_info.{
+  proofs.Words.{AreRecords, FilePieces, FitsSigned, IsFooter, IsTzFile, SaysRule, SpellLeapSeconds, SpellsLeapSecond, length-map, take_more, w32},
+  proofs.Words.w64,
+  specs.declared.file.header.{Counts.Counts, Header.Header, Place.{TheVariants.{First, Second}, Place}, Version.TheVariants.{One, Three, Two}},
+  specs.declared.zone.lists.{leap_second.LeapSecond.LeapSecond, transition.Transition.Transition},
+  specs.{FileHeaders.CountsAgree, FilePieces.later_pieces},
+}
+use Rattle.tz_write.{
+  proofs.Words.{[], All, All-cons, All-more, All-nil, All-tail, AreNamesIn, Bool, HasPieces, HasPlace, HasTimeOf64Bits, HavePlaces, IsEntry},
+  proofs.Words.{IsNamedIn, IsRuleOrNone, IsType, List, LocalType, None, Option, Parts, Room, Some, SpellTransitions, SpellTypes, Spells},
+  proofs.Words.{TransitionRule, Version, Zone, after_first_block, ap, arith, be_u32, block, both_ways, counts_bytes, counts_test, false, file},
+  proofs.Words.{file_bytes, first_half, first_version, flat_map, get_or, header, header_bytes, index_bytes, inl, inr, later_version, leap_bytes},
+  proofs.Words.{length, length-append, magic, number_bytes, refl, second_half, signed, signed_bytes, six_counts, subst, suc, sym, take, time_bytes},
+  proofs.Words.{true, type_bytes, tzif, version, ℕ, ℤ, ◌*◌, ◌++◌, ◌+◌, ◌<◌, ◌^◌, ◌↔◌, ◌∙◌, ◌∷◌, ◌≡◌, ◌≢◌, ◌≤◌, ◌⊎◌},
+  proofs.FileLayouts.{AreLaid, has_text, laid_of, laid_size, no_zero},
+  proofs.RuleTexts.{extensions, rule_named, rule_text, text_are, text_begins, text_some},
+  proofs.TextBytes.{AreTextBytes, begins_bare, ends_bare, limits, no_zeros},
+  specs.WrittenFiles.{AreBytes, HasCounts, HaveVersion, IsFooterText, IsInNoFile, IsSound, IsSpellableOrNone, IsWritable, IsWrittenFile},
+  specs.WrittenFiles.NeedsExtensions,
+  specs.{FileBytes.{block_bytes, footer_bytes, least_block, least_counts, unused, zone_counts, zone_parts}, Steps.FileParts.IsRoomOf},
+}
 
 -- a count
 number_is : (n : ℕ) (rest : List ℕ) → n < 2 ^ 32 → Spells be_u32 (number_bytes n ++ rest) n rest

@@ -1,21 +1,25 @@
 -- The text of a rule, and of a zone: it spells the rule, or gives the zone, and each other one is longer.
-use Rattle.tz_base.{proofs.RunLaws.{all_of}, specs.Grammar.{Number, Run, Then}}
-use Rattle.tz_info.specs.declared.rule.day.DayForm.TheVariants.{Julian0, Julian1, MonthWeekday}
-use Rattle.tz_write.proofs.{
-  TextBytes.{AreTextBytes, Begins, Best, Front, Writes, all_others, first_optional, front_cons, front_longer, front_nothing, front_optional, front_then},
-  TextBytes.{front_unless, front_whole, names_are, number_begins, number_front, number_writes, pair_front, pair_writes, pairs_over, pairs_rest, trimmed_text},
-  TextBytes.{two_digits, writes_byte, writes_check, writes_colon, writes_first, writes_here, writes_last, writes_mark, writes_more, writes_nothing},
-  TextBytes.{writes_optional, writes_other, writes_then},
-  Words.{AllOf, Alternate, AreInPairs, AreTimesOf, Bool, CanBeSpelled, DayForm, DayTime, Decides-int_eq, HasZoneText, IsAlternateRule, IsName, IsNamed},
-  Words.{IsNoPosixZone, IsOfText, IsPlainTime, IsPosixZone, IsRule, IsRuleDay, IsRuleOrNone, IsSpace, IsTextTime, IsTrimmed, IsTzText, IsWithinDay},
-  Words.{IsWrittenText, IsWrittenZone, List, LocalType, None, NoneFirst, OnErr, Option, Result, Some, Spells, TransitionRule, Without, Zone, [], and_from},
-  Words.{and_parts, ap, append-nil, append_assoc, arith, both_ways, clock_max, colon, comma, cond, false, greater, inl, inr, int_eq, ints, is_digit, is_letter},
-  Words.{is_name_byte, is_not_greater, le-ltb, length, length-append, less, list_all, minus, name_of, name_or_none, named_type, nat_tests, neg_ℤ, not},
-  Words.{offset_fits, pos, refl, slash, spelled_clock, spelled_date, spelled_day, spelled_dst_offset, spelled_name, spelled_offset, spelled_pair, spelled_rule},
-  Words.{spelled_time, time_after, time_limit, true, unsigned_abs, zone_of_rule, ℕ, ℤ, ◌%◌, ◌&&◌, ◌*◌, ◌++◌, ◌+ℤ◌, ◌+◌, ◌/◌, ◌<ℤ◌, ◌<◌, ◌==◌, ◌↔◌, ◌∙◌, ◌∷◌},
-  Words.{◌≡◌, ◌≤◌, ◌⊎◌},
+use Rattle.tz_base.{proofs.RunLaws.all_of, specs.{Grammar.{Number, Run, Then}, Names.IsName}}
+use Rattle.tz_info.{
+  proofs.Words.{Alternate, Decides-int_eq, IsAlternateRule, IsPosixZone, IsRuleDay, IsSpace, IsWithinDay, and_parts, int_eq, is_letter},
+  proofs.Words.{is_not_greater, named_type, neg_ℤ, time_limit, zone_of_rule},
+  proofs.ForCallers.offset_fits,
+  specs.{TzGrammar.{clock_max, minus}, declared.rule.day.{DayForm.{TheVariants.{Julian0, Julian1, MonthWeekday}, DayForm}, DayTime.DayTime}},
 }
-use Rattle.tz_write.specs.Steps.TextPieces.{is_negative, is_positive, spelled_hands, spelled_minutes, spelled_seconds, spelled_signed}
+use Rattle.tz_write.{
+  proofs.TextBytes.{AreTextBytes, Begins, Best, Front, Writes, all_others, first_optional, front_cons, front_longer, front_nothing, front_optional},
+  proofs.TextBytes.{front_then, front_unless, front_whole, names_are, number_begins, number_front, number_writes, pair_front, pair_writes},
+  proofs.TextBytes.{pairs_over, pairs_rest, trimmed_text, two_digits, writes_byte, writes_check, writes_colon, writes_first, writes_here},
+  proofs.TextBytes.{writes_last, writes_mark, writes_more, writes_nothing, writes_optional, writes_other, writes_then},
+  proofs.Words.{[], AllOf, AreInPairs, Bool, IsRule, IsRuleOrNone, IsTrimmed, IsTzText, IsWrittenText, IsWrittenZone, List, LocalType, None},
+  proofs.Words.{NoneFirst, OnErr, Option, Result, Some, Spells, TransitionRule, Without, Zone, and_from, ap, append-nil, append_assoc, arith},
+  proofs.Words.{both_ways, colon, comma, cond, false, greater, inl, inr, ints, is_digit, is_name_byte, le-ltb, length, length-append, less, list_all},
+  proofs.Words.{name_of, name_or_none, nat_tests, not, pos, refl, slash, spelled_pair, spelled_rule, true, unsigned_abs, ℕ, ℤ, ◌%◌, ◌&&◌, ◌*◌, ◌++◌},
+  proofs.Words.{◌+ℤ◌, ◌+◌, ◌/◌, ◌<ℤ◌, ◌<◌, ◌==◌, ◌↔◌, ◌∙◌, ◌∷◌, ◌≡◌, ◌≤◌, ◌⊎◌},
+  specs.Steps.TextPieces.{is_negative, is_positive, spelled_clock, spelled_date, spelled_day, spelled_dst_offset, spelled_hands, spelled_minutes},
+  specs.Steps.TextPieces.{spelled_name, spelled_offset, spelled_seconds, spelled_signed, spelled_time, time_after},
+  specs.WrittenTexts.{AreTimesOf, CanBeSpelled, HasZoneText, IsNamed, IsNoPosixZone, IsOfText, IsPlainTime, IsTextTime},
+}
 use Rattle.tz_info.specs.TzGrammar as tz
 use Rattle.tz_info.specs.declared.rule.transition_rule.TransitionRule.TheVariants as rules
 

@@ -1,4 +1,4 @@
-use Rattle.tz_write.proofs.{FileWritten.{flat_map_next}, Words.{arith, index_bytes}}
+use Rattle.tz_write.proofs.{FileWritten.flat_map_next, Words.{arith, index_bytes}}
 use Rattle.tz_write.proofs.file.contents.push_indexes.Goals as goal
 
 pub overflow_cast-index : goal.overflow_cast-index

@@ -1,4 +1,4 @@
-use Rattle.tz_write.proofs.{FileWritten.{pushed_next}, Words.{IsEntry, leap_bytes, refl}}
+use Rattle.tz_write.proofs.{FileWritten.pushed_next, Words.{IsEntry, leap_bytes, refl}}
 use Rattle.tz_write.proofs.file.contents.push_leap_seconds.Goals as goal
 
 pub loop-leap-preserved : goal.loop-leap-preserved

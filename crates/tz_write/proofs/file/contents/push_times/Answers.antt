@@ -1,4 +1,4 @@
-use Rattle.tz_write.proofs.{FileWritten.{pushed_next}, Words.{HasTimeOf64Bits, arith, time_bytes}}
+use Rattle.tz_write.proofs.{FileWritten.pushed_next, Words.{HasTimeOf64Bits, arith, time_bytes}}
 use Rattle.tz_write.proofs.file.contents.push_times.Goals as goal
 
 pub loop-place-preserved : goal.loop-place-preserved

@@ -1,4 +1,4 @@
-use Rattle.tz_write.proofs.{FileWritten.{pushed_next}, Words.{IsType, type_bytes}}
+use Rattle.tz_write.proofs.{FileWritten.pushed_next, Words.{IsType, type_bytes}}
 use Rattle.tz_write.proofs.file.types.push_types.Goals as goal
 
 pub loop-local-preserved : goal.loop-local-preserved
