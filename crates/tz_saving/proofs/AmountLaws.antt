@@ -1,9 +1,8 @@
 -- A second has one amount, which is what the code finds.
 use Rattle.tz_saving.proofs.{
-  SideLaws.{candidates_once, only_once, the_found},
-  Words.{AreCandidates, AreTurnsFar, Change, IsAmount, IsByCandidates, IsFlaggedAmount, IsFound, IsNearestTurn},
-  Words.{IsNextCandidate, IsNextUse, IsOfTwo, IsOnly, IsSavingAt, LocalType, None, Option, Saving, Some},
-  Words.{TransitionRule, TypeAt, Zone, ap, arith, ints, sym, true, type_once, ℤ, ◌-ℤ◌, ◌∙◌, ◌≡◌},
+  SideLaws.{candidates_once, the_found},
+  Words.{AreCandidates, AreTurnsFar, Change, IsAmount, IsByCandidates, IsFlaggedAmount, IsFound, IsNearestTurn, IsNextCandidate, IsNextUse, IsOfTwo},
+  Words.{IsOnly, IsSavingAt, LocalType, None, Option, Saving, Some, TransitionRule, TypeAt, Zone, arith, ints, true, type_once, ℤ, ◌≡◌},
 }
 
 -- there is one amount by the candidates
@@ -20,7 +19,7 @@ module _ (f : ℤ → LocalType → Type 0) (one : (u : ℤ) (s t : LocalType) �
   next_candidate_once t u a b h k =
       let same = next_once f t u h.change k.change h.next k.next in
       let both = candidates_once f one rule k.change.at t.offset h.early h.late k.early k.late (rw same at h.candidates) k.candidates in
-      grind (arith, only_once)
+      grind arith
 
   flagged_once : (u : ℤ) (t : LocalType) (a b : ℤ) → IsFlaggedAmount f rule u t a → IsFlaggedAmount f rule u t b → a ≡ b
   flagged_once u t a b h k = let next = next_candidate_once t u in grind (arith, candidates_once, by_candidates_once)
@@ -35,9 +34,7 @@ amount_once z = one_amount (TypeAt z) (type_once z) z.rule
 pub saving_once : (z : Zone) (u : ℤ) (s t : Saving) → IsSavingAt z u s → IsSavingAt z u t → s ≡ t
 saving_once z u s t h k =
     let same = amount_once z u s.amount t.amount h.amount_is k.amount_is in
-    let type = h.amount_is.type in let at = h.amount_is.in_force_then in
-    let standard = h.standard_is type at ∙ ap (λ a. type.offset -ℤ a) same ∙ sym (k.standard_is type at) in
-    λ i. record { standard_offset = standard i; amount = same i }
+    let type = h.amount_is.type in let at = h.amount_is.in_force_then in grind (arith, h.standard_is type at, k.standard_is type at)
 
 -- the next use of the type t after u
 module _ (z : Zone) (t : LocalType) (u : ℤ) where

@@ -1,4 +1,4 @@
-use Rattle.tz_saving.proofs.{Walks.{standard_is}, Words.{None, SFits, Some, change_held, rules, to_z-of_z, w32}}
+use Rattle.tz_saving.proofs.{SideLaws.standard_is, Words.{None, SFits, Some, change_held, rules, to_z-of_z, w32}}
 use Rattle.tz_saving.proofs.sides.nearest_standard.Goals as goal
 
 pub returns-in-Some : goal.returns-in-Some

@@ -1,4 +1,4 @@
-use Rattle.tz_saving.proofs.{Walks.{far, goes, turns}, Words.{SFits, arith, change_held, rules, to_z-of_z, w64, ◌≡◌}}
+use Rattle.tz_saving.proofs.{SideLaws.{far, goes, turns}, Words.{SFits, arith, change_held, rules, to_z-of_z, w64, ◌≡◌}}
 use Rattle.tz_saving.proofs.sides.nearest_turn.Goals as goal
 
 pub returns-then-is_wanted : goal.returns-then-is_wanted

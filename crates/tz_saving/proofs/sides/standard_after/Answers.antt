@@ -1,4 +1,4 @@
-use Rattle.tz_saving.proofs.{SideLaws.{after_of_rule}, Words.{to_z-of_z}}
+use Rattle.tz_saving.proofs.{SideLaws.after_of_rule, Words.to_z-of_z}
 use Rattle.tz_saving.proofs.sides.standard_after.Goals as goal
 
 pub returns-in-None : goal.returns-in-None
