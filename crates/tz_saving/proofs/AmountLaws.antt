@@ -41,13 +41,13 @@ module _ (z : Zone) (t : LocalType) (u : ℤ) where
   abbrev IsNext : ℤ → Type 0
   IsNext a = IsNextCandidate (TypeAt z) z.rule t u a
 
-  pub no_next : AreTurnsFar true (TypeAt z) (λ s. s ≡ t) u → (a : ℤ) → IsNext a → ⊥
+  pub no_next : AreTurnsFar true z (λ s. s ≡ t) u → (a : ℤ) → IsNext a → ⊥
   no_next far a h = grind (arith, far h.change)
 
-  next_is : (c : Change) → IsNearestTurn true (TypeAt z) (λ s. s ≡ t) u c → IsNextUse (TypeAt z) t u c
+  next_is : (c : Change) → IsNearestTurn true z (λ s. s ≡ t) u c → IsNextUse (TypeAt z) t u c
   next_is c n = grind arith
 
-  pub next_found : (c : Change) (early late found : Option ℤ) → IsNearestTurn true (TypeAt z) (λ s. s ≡ t) u c
+  pub next_found : (c : Change) (early late found : Option ℤ) → IsNearestTurn true z (λ s. s ≡ t) u c
       → AreCandidates (TypeAt z) z.rule c.at t.offset early late → IsFound (IsOnly early late) found → IsFound IsNext found
   next_found c early late None n candidates none = λ a h.
       let there = next_once (TypeAt z) t u h.change c h.next (next_is c n) in

@@ -7,26 +7,24 @@ use Rattle.tz_saving.{
   proofs.Words.{IsStandard, IsWalkedTo, IsWanted, LocalType, None, Option, SFits, Some, Standard, TransitionRule, TypeAt, Zone, arith, false, inl},
   proofs.Words.{inr, ints, pos, suc, true, type_once, w64, zero, ℕ, ℤ, ◌-ℤ◌, ◌<ℤ◌, ◌≡◌, ◌≤ℤ◌},
   specs.{Reach.reach, Sides.{IsAfter.Of_rule, HasNoStandard, IsRuleStandard}},
-  specs.Steps.Walks.{HasBetween, HasFlag, IsAhead, IsBeyond, IsNear, IsNearestStandard, IsTurn, far_second, far_type},
+  specs.Steps.Walks.{HasBetween, HasFlag, IsAhead, IsBeyond, IsFar, IsNear, IsNearestStandard, IsStandardFound, IsTurn, IsTurnFound, far_second, far_type},
 }
 
 -- ---- counts of changes: a walk from change to change uses up one at each step
-
--- f says which type is in force at a second
-module _ (f : ℤ → LocalType → Type 0) where
+module _ (z : Zone) where
   -- seconds that are farther apart have no fewer between them
-  wider : (n : ℕ) (v w a b : ℤ) → w ≤ℤ v → a ≤ℤ b → HasChanges f n v a → HasChanges f n w b
+  wider : (n : ℕ) (v w a b : ℤ) → w ≤ℤ v → a ≤ℤ b → HasChanges (TypeAt z) n v a → HasChanges (TypeAt z) n w b
   unfolding HasChanges
   wider zero v w a b l m h = tt
   wider (suc n) v w a b l m h = grind (arith, ints, wider n v w (h.0.at -ℤ pos 1) (h.0.at -ℤ pos 1))
 
-  has_one : (forward : Bool) (r : ℤ) (c : Change) → IsChange f c → IsBeyond forward r c.at → HasBetween forward f 1 r (far_second forward c.at)
+  has_one : (forward : Bool) (r : ℤ) (c : Change) → IsChange (TypeAt z) c → IsBeyond forward r c.at → HasBetween forward z 1 r (far_second forward c.at)
   unfolding HasChanges
   has_one forward r c is l = grind (arith, ints)
 
   -- over the nearest change
-  steps : (forward : Bool) (n : ℕ) (r v : ℤ) (c : Change) → IsNearestChange forward f (IsBeyond forward r) c
-      → HasBetween forward f (suc (suc n)) r v ↔ HasBetween forward f (suc n) (far_second forward c.at) v
+  steps : (forward : Bool) (n : ℕ) (r v : ℤ) (c : Change) → IsNearestChange forward (TypeAt z) (IsBeyond forward r) c
+      → HasBetween forward z (suc (suc n)) r v ↔ HasBetween forward z (suc n) (far_second forward c.at) v
   unfolding HasChanges
   steps false n r v c last = grind (arith, ints, wider)
   steps true zero r v c next = grind (arith, ints)
@@ -36,14 +34,14 @@ module _ (f : ℤ → LocalType → Type 0) where
   )
 
 -- the walk from u has come to r
-module _ (z : Zone) (forward : Bool) (wanted : LocalType → Type 0) (u r : ℤ) where
+module _ {z : Zone} {forward : Bool} {wanted : LocalType → Type 0} {u r : ℤ} where
   -- some changes are left, and c is the nearest
-  module _ (left : ℕ) (some : 0 < left) (c : Change) (h : IsWalkedTo forward (TypeAt z) wanted left u r)
+  module _ {left : ℕ} {c : Change} (some : 0 < left) (h : IsWalkedTo forward z wanted left u r)
       (next : IsNearestChange forward (TypeAt z) (IsBeyond forward r) c) where
-    left_far : (v : ℤ) → HasBetween forward (TypeAt z) (suc (left - 1)) (far_second forward c.at) v ↔ HasBetween forward (TypeAt z) (suc reach) u v
+    left_far : (v : ℤ) → HasBetween forward z (suc (left - 1)) (far_second forward c.at) v ↔ IsFar forward z u v
     left_far v = let e : left ≡ suc (left - 1) = omega arith in let both = (rw e at h.reach_left) v in grind (arith, steps)
 
-    pub goes : (wanted (far_type forward c) → ⊥) → IsWalkedTo forward (TypeAt z) wanted (left - 1) u (far_second forward c.at)
+    pub goes : (wanted (far_type forward c) → ⊥) → IsWalkedTo forward z wanted (left - 1) u (far_second forward c.at)
     goes other = record {
       order = grind (arith, ints, next.inside);
       reach_left = left_far;
@@ -52,7 +50,7 @@ module _ (z : Zone) (forward : Bool) (wanted : LocalType → Type 0) (u r : ℤ)
           let apart : c.at ≢ d.at = λ e. other (rw (one_change z c d next.is t.is e) t.to) in grind (arith, ints);
     }
 
-    pub turns : wanted (far_type forward c) → IsNearestTurn forward (TypeAt z) wanted u c
+    pub turns : wanted (far_type forward c) → IsNearestTurn forward z wanted u c
     unfolding HasChanges
     turns to = record {
       turn = record { is = next.is; to = to; beyond = grind (arith, ints, next.inside) };
@@ -61,46 +59,48 @@ module _ (z : Zone) (forward : Bool) (wanted : LocalType → Type 0) (u r : ℤ)
     }
 
   -- out of reach
-  pub far : IsWalkedTo forward (TypeAt z) wanted 0 u r → AreTurnsFar forward (TypeAt z) wanted u
-  far h d t = (h.reach_left _).0 (has_one (TypeAt z) forward r d t.is (h.later d t))
+  pub far : IsWalkedTo forward z wanted 0 u r → AreTurnsFar forward z wanted u
+  far h d t = (h.reach_left _).0 (has_one z forward r d t.is (h.later d t))
 
 -- ---- standard time
-standard_flag : {f : ℤ → LocalType → Type 0} {offset v : ℤ} → IsStandard f offset v → HasFlag f false v
-standard_flag s = record { type = s.type; in_force_then = s.in_force_then; flag = s.standard }
+standard_flag : {z : Zone} {offset v : ℤ} → IsStandard (TypeAt z) offset v → HasFlag z false v
+standard_flag s = record { fits = s.fits; type = s.type; in_force_then = s.in_force_then; flag = s.standard }
 
 -- in a valid zone
 module _ (z : Zone) (valid : IsValid z) (limits : IsRuleOrNone z.rule) where
   -- between seconds of which one is standard comes a change of the flag; they are n seconds apart
-  flips : (b : Bool) (n : ℕ) (u v : ℤ) → v ≡ u +ℤ pos n → SFits w64 u → SFits w64 v → HasFlag (TypeAt z) b u → HasFlag (TypeAt z) (not b) v
+  flips : (b : Bool) (n : ℕ) (u v : ℤ) → v ≡ u +ℤ pos n → HasFlag z b u → HasFlag z (not b) v
       → (d : Change) × IsChange (TypeAt z) d × (u <ℤ d.at) × (d.at ≤ℤ v) × (d.before.dst ≡ b) × (d.after.dst ≡ not b)
-  flips b zero u v e low high h k = let here : v ≡ u = omega (arith, ints) in let same = type_once z u _ _ h.in_force_then (rw here at k.in_force_then) in absurd (grind arith)
-  flips b (suc n) u v e low high h k =
+  flips b zero u v e h k =
+      let here : v ≡ u = omega (arith, ints) in let same = type_once z u _ _ h.in_force_then (rw here at k.in_force_then) in absurd (grind arith)
+  flips b (suc n) u v e h k =
       let (q, at) = typed_between z u v (v -ℤ pos 1) _ _ valid (omega (arith, ints)) (omega (arith, ints)) h.in_force_then k.in_force_then limits in
-      let fits : SFits w64 (v -ℤ pos 1) = omega (arith, ints) in
+      let low = h.fits in let high = k.fits in let fits : SFits w64 (v -ℤ pos 1) = omega (arith, ints) in
       let flag : (q.dst ≡ b) ⊎ (q.dst ≡ not b) = grind arith in elim flag [
-        | inl same ↦ (record { at = v; before = q; after = k.type }, record { fits = high; fits_before = fits; before = at; after = k.in_force_then; differ = λ e. grind arith }, omega (arith, ints),
-            omega (arith, ints), same, k.flag)
-        | inr other ↦ let (d, is, from, to, before, after) = flips b n u (v -ℤ pos 1) (omega (arith, ints)) low fits h (record { type = q; in_force_then = at; flag = other }) in
-            (d, is, from, omega (arith, ints), before, after)
+        | inl same ↦ (record { at = v; before = q; after = k.type },
+            record { fits = high; fits_before = fits; before = at; after = k.in_force_then; differ = λ e. grind arith },
+            omega (arith, ints), omega (arith, ints), same, k.flag)
+        | inr other ↦
+            let before = flips b n u (v -ℤ pos 1) (omega (arith, ints)) h (record { fits = fits; type = q; in_force_then = at; flag = other }) in
+            (before.0, before.1, before.2, omega (arith, ints), before.4, before.5)
       ]
 
   -- at the second u a type that has the flag is in force
-  module _ (u : ℤ) (fits : SFits w64 u) (now : HasFlag (TypeAt z) true u) where
+  module _ (u : ℤ) (now : HasFlag z true u) where
     -- towards a standard second comes a turn to standard time
     turn_to : (forward : Bool) (v offset : ℤ) → IsStandard (TypeAt z) offset v → IsAhead forward u v
-        → (d : Change) × IsTurn forward (TypeAt z) (IsWanted Standard) u d × Precedes forward (far_second forward d.at) v
+        → (d : Change) × IsTurn forward z (IsWanted Standard) u d × Precedes forward (far_second forward d.at) v
     turn_to true v offset s l =
-        let turn = flips true (unsigned_abs (v -ℤ u)) u v (omega (arith, ints)) fits s.fits now (standard_flag s) in
+        let turn = flips true (unsigned_abs (v -ℤ u)) u v (omega (arith, ints)) now (standard_flag s) in
         (turn.0, record { is = turn.1; to = turn.5; beyond = turn.2 }, turn.3)
     turn_to false v offset s l =
-        let turn = flips false (unsigned_abs (u -ℤ v)) v u (omega (arith, ints)) s.fits fits (standard_flag s) now in
+        let turn = flips false (unsigned_abs (u -ℤ v)) v u (omega (arith, ints)) (standard_flag s) now in
         (turn.0, record { is = turn.1; to = turn.4; beyond = turn.3 }, omega (arith, ints))
 
-    pub standard_is : (forward : Bool) (found : Option Change) → MatchOption found (AreTurnsFar forward (TypeAt z) (IsWanted Standard) u)
-        (IsNearestTurn forward (TypeAt z) (IsWanted Standard) u)
-        → MatchOption (option_map (λ c. (far_type forward c).offset) found) (HasNoStandard (TypeAt z) (IsNear forward (TypeAt z) u))
-        (IsNearestStandard forward (TypeAt z) u)
-    standard_is forward None far = λ v offset s near. let turn = turn_to forward v offset s near.0 in let beyond = far turn.0 turn.1 in grind (arith, ints, wider)
+    pub standard_is : (forward : Bool) (found : Option Change) → IsTurnFound forward z (IsWanted Standard) u found
+        → IsStandardFound forward z u (option_map (λ c. (far_type forward c).offset) found)
+    standard_is forward None far = λ v offset s near.
+        let turn = turn_to forward v offset s near.0 in let beyond = far turn.0 turn.1 in grind (arith, ints, wider)
     standard_is forward (Some c) n = record {
       at = far_second forward c.at;
       near = (grind (arith, ints, n.turn.beyond), n.near);
@@ -146,16 +146,15 @@ module _ (f : ℤ → LocalType → Type 0) (one : (u : ℤ) (s t : LocalType) �
   )
 
 -- ---- what the code finds
-pub before_found : (f : ℤ → LocalType → Type 0) (u : ℤ) (found : Option ℤ) → MatchOption found (HasNoStandard f (IsNear false f u)) (IsNearestStandard false f u)
-    → IsFound (IsBefore f u) found
-before_found f u None none = λ a k. none k.at a k.is (k.before, k.near)
-before_found f u (Some a) h = record { at = h.at; before = h.near.0; near = h.near.1; is = h.is; last = h.nearest }
+pub before_found : (z : Zone) (u : ℤ) (found : Option ℤ) → IsStandardFound false z u found → IsFound (IsBefore (TypeAt z) u) found
+before_found z u None none = λ a k. none k.at a k.is (k.before, k.near)
+before_found z u (Some a) h = record { at = h.at; before = h.near.0; near = h.near.1; is = h.is; last = h.nearest }
 
-pub after_found : (z : Zone) (u a : ℤ) → IsNearestStandard true (TypeAt z) u a → IsAfter (TypeAt z) z.rule u a
+pub after_found : (z : Zone) (u a : ℤ) → IsNearestStandard true z u a → IsAfter (TypeAt z) z.rule u a
 after_found z u a h = At_a_second (record { at = h.at; after = h.near; is = h.is; first = h.nearest })
 
 -- standard time of the rule, if no standard second comes after u
-pub after_of_rule : (z : Zone) (u : ℤ) (found : Option ℤ) → HasNoStandard (TypeAt z) (IsNear true (TypeAt z) u) → IsFound (IsRuleStandard z.rule) found
+pub after_of_rule : (z : Zone) (u : ℤ) (found : Option ℤ) → HasNoStandard (TypeAt z) (IsNear true z u) → IsFound (IsRuleStandard z.rule) found
     → IsFound (IsAfter (TypeAt z) z.rule u) found
 after_of_rule z u None none h = λ a k. elim k [ At_a_second k ↦ none k.at a k.is k.after | Of_rule m k ↦ h a k ]
 after_of_rule z u (Some a) none h = Of_rule none h

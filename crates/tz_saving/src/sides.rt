@@ -1,10 +1,9 @@
 //! Standard time on both sides of a second of daylight saving time, and changes to a type.
 
-ghost use Rattle.std.specs.{Int.{w64}, Prelude.{◌≡◌, ◌↔◌, ◌-ℤ◌, pos, true, FitsSigned, IsTrue, MatchOption, option_map}};
+ghost use Rattle.std.specs.{Int.{w64}, Prelude.{◌≡◌, ◌↔◌, ◌-ℤ◌, pos, true, FitsSigned, IsTrue, option_map}};
 ghost use Rattle.tz_info.specs.{Changes.{IsNearest}, HeldChanges.{change_held}, Zones.{TypeAt}};
-ghost use Rattle.tz_saving.specs.Sides.{HasNoStandard, IsAfter, IsFound, IsRuleStandard};
-ghost use Rattle.tz_saving.specs.Steps.Walks.{far_second, far_type, is_forward, AreTurnsFar, HasFlag, IsBeyond, IsNear};
-ghost use Rattle.tz_saving.specs.Steps.Walks.{IsNearestStandard, IsNearestTurn, IsWanted};
+ghost use Rattle.tz_saving.specs.{Sides.{IsAfter, IsFound, IsRuleStandard}, Steps.Walks.{far_second, far_type, is_forward}};
+ghost use Rattle.tz_saving.specs.Steps.Walks.{HasFlag, IsBeyond, IsStandardFound, IsTurnFound, IsWanted};
 
 use tz_info::{HeldChange, LocalTimeType, TimeZone, TransitionRule};
 
@@ -29,7 +28,7 @@ pub(crate) enum Wanted<'a> {
 // force, or, if none is within reach, that of the rule's standard time.
 #[tactic(auto, using(crate::proofs::Words::fitted, crate::proofs::SideLaws::after_found))]
 pub(crate) fn standard_after(zone: &TimeZone, second: i64) -> Option<i32>
-    requires { HasFlag (TypeAt zone.now) true second }
+    requires { HasFlag zone.now true second }
     ensures { IsFound (IsAfter (TypeAt zone.now) zone.now.rule second) result }
 {
     match nearest_standard(zone, second, Side::After) {
@@ -40,15 +39,11 @@ pub(crate) fn standard_after(zone: &TimeZone, second: i64) -> Option<i32>
 
 // The offset of the nearest standard second on that side; none if it is out of reach.
 pub(crate) fn nearest_standard(zone: &TimeZone, second: i64, side: Side) -> Option<i32>
-    requires { HasFlag (TypeAt zone.now) true second }
-    ensures { MatchOption result (HasNoStandard (TypeAt zone.now) (IsNear (is_forward side) (TypeAt zone.now) second))
-        (IsNearestStandard (is_forward side) (TypeAt zone.now) second) }
+    requires { HasFlag zone.now true second }
+    ensures { IsStandardFound (is_forward side) zone.now second result }
 {
     zone.valid_law();
-    match nearest_turn(zone, second, side, Wanted::Standard) {
-        Some(turn) => Some(far_side(turn, side).1.offset()),
-        None => None,
-    }
+    far_offset(nearest_turn(zone, second, side, Wanted::Standard), side)
 }
 
 // The offset of standard time of the zone's rule, if that has two types.
@@ -69,9 +64,8 @@ pub(crate) fn nearest_turn<'a>(
     side: Side,
     wanted: Wanted<'_>,
 ) -> Option<HeldChange<'a>>
-    ensures { MatchOption (option_map change_held result)
-        (AreTurnsFar (is_forward side) (TypeAt zone.now) (IsWanted wanted.entry) second)
-        (IsNearestTurn (is_forward side) (TypeAt zone.now) (IsWanted wanted.entry) second) }
+    ensures { IsTurnFound (is_forward side) zone.now (IsWanted wanted.entry) second
+        (option_map change_held result) }
 {
     let mut reached = second;
     let mut left = REACH;
@@ -79,11 +73,10 @@ pub(crate) fn nearest_turn<'a>(
         let Some(change) = nearest_change(zone, reached, side) else {
             return None;
         };
-        let (at, found) = far_side(change, side);
-        if is_wanted(found, wanted) {
+        if is_wanted(far_type(change, side), wanted) {
             return Some(change);
         }
-        reached = at;
+        reached = far_second(change, side);
         left -= 1;
     }
     None
@@ -100,15 +93,36 @@ fn nearest_change(zone: &TimeZone, second: i64, side: Side) -> Option<HeldChange
     }
 }
 
-// The nearest second on the far side of the change, and the type there.
-fn far_side<'a>(change: HeldChange<'a>, side: Side) -> (i64, &'a LocalTimeType)
+// The nearest second on the far side of the change.
+fn far_second(change: HeldChange<'_>, side: Side) -> i64
     requires { FitsSigned w64 (change.at -ℤ pos 1) }
-    ensures second { result.0 ≡ far_second (is_forward side) change.entry.at }
-    ensures far { result.1.now ≡ far_type (is_forward side) (change_held change.entry) }
+    ensures { result ≡ far_second (is_forward side) change.entry.at }
 {
     match side {
-        Side::Before => (change.at - 1, change.before),
-        Side::After => (change.at, change.after),
+        Side::Before => change.at - 1,
+        Side::After => change.at,
+    }
+}
+
+// The type on the far side of the change.
+fn far_type<'a>(change: HeldChange<'a>, side: Side) -> &'a LocalTimeType
+    ensures { result.now ≡ far_type (is_forward side) (change_held change.entry) }
+{
+    match side {
+        Side::Before => change.before,
+        Side::After => change.after,
+    }
+}
+
+// The offset on the far side of the change, if there is one.
+#[tactic(auto, using(crate::proofs::Words::fitted))]
+fn far_offset(change: Option<HeldChange<'_>>, side: Side) -> Option<i32>
+    ensures { result ≡ option_map (λ c. (far_type (is_forward side) c).offset)
+        (option_map change_held change.entry) }
+{
+    match change {
+        Some(change) => Some(far_type(change, side).offset()),
+        None => None,
     }
 }
 

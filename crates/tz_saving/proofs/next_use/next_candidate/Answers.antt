@@ -5,4 +5,4 @@ pub returns-in-Some : goal.returns-in-Some
 returns-in-Some c =
     let fits = c.ranges.second in
     let fa : SFits w64 c.in-Some.change.at = search rules in
-    next_found _ _ _ (change_held c.in-Some.change) _ _ _ (simp to_z-of_z at c.in-Some.ensures) (simp to_z-of_z at c.candidates_at-early.ensures) c.only_of.ensures
+    next_found _ _ _ _ _ _ _ (simp to_z-of_z at c.in-Some.ensures) (simp to_z-of_z at c.candidates_at-early.ensures) c.only_of.ensures
