@@ -146,18 +146,18 @@ module _ (f : ℤ → LocalType → Type 0) (one : (u : ℤ) (s t : LocalType) �
   )
 
 -- ---- what the code finds
-pub before_found : (z : Zone) (u : ℤ) (found : Option ℤ) → IsStandardFound false z u found → IsFound (IsBefore (TypeAt z) u) found
-before_found z u None none = λ a k. none k.at a k.is (k.before, k.near)
-before_found z u (Some a) h = record { at = h.at; before = h.near.0; near = h.near.1; is = h.is; last = h.nearest }
+module _ (z : Zone) (u : ℤ) where
+  pub before_found : (found : Option ℤ) → IsStandardFound false z u found → IsFound (IsBefore (TypeAt z) u) found
+  before_found None none = λ a k. none k.at a k.is (k.before, k.near)
+  before_found (Some a) h = record { at = h.at; before = h.near.0; near = h.near.1; is = h.is; last = h.nearest }
 
-pub after_found : (z : Zone) (u a : ℤ) → IsNearestStandard true z u a → IsAfter (TypeAt z) z.rule u a
-after_found z u a h = At_a_second (record { at = h.at; after = h.near; is = h.is; first = h.nearest })
+  pub after_found : (a : ℤ) → IsNearestStandard true z u a → IsAfter (TypeAt z) z.rule u a
+  after_found a h = At_a_second (record { at = h.at; after = h.near; is = h.is; first = h.nearest })
 
--- standard time of the rule, if no standard second comes after u
-pub after_of_rule : (z : Zone) (u : ℤ) (found : Option ℤ) → HasNoStandard (TypeAt z) (IsNear true z u) → IsFound (IsRuleStandard z.rule) found
-    → IsFound (IsAfter (TypeAt z) z.rule u) found
-after_of_rule z u None none h = λ a k. elim k [ At_a_second k ↦ none k.at a k.is k.after | Of_rule m k ↦ h a k ]
-after_of_rule z u (Some a) none h = Of_rule none h
+  -- standard time of the rule, if no standard second comes after u
+  pub after_of_rule : (ruled : Option ℤ) → IsStandardFound true z u None → IsFound (IsRuleStandard z.rule) ruled → IsFound (IsAfter (TypeAt z) z.rule u) ruled
+  after_of_rule None none h = λ a k. elim k [ At_a_second k ↦ none k.at a k.is k.after | Of_rule m k ↦ h a k ]
+  after_of_rule (Some a) none h = Of_rule none h
 
 -- ---- the candidate by an offset
 module _ (offset standard : ℤ) where
