@@ -1,34 +1,34 @@
 -- A second has one amount, which is what the code finds.
+use Rattle.tz_info.proofs.ChangeSearch.{InForce, IsOnce}
 use Rattle.tz_saving.proofs.{
-  SideLaws.{candidates_once, the_found},
+  SideLaws.{Once, candidates_once, the_found},
   Words.{AreCandidates, AreTurnsFar, Change, IsAmount, IsByCandidates, IsFlaggedAmount, IsFound, IsNearestTurn, IsNextCandidate, IsNextUse, IsOfTwo},
   Words.{IsOnly, IsSavingAt, LocalType, None, Option, Saving, Some, TransitionRule, TypeAt, Zone, arith, ints, true, type_once, ℤ, ◌≡◌},
 }
 
 -- there is one amount by the candidates
-by_candidates_once : (is_next : ℤ → Type 0) (once : (x y : ℤ) → is_next x → is_next y → x ≡ y) (p q : Option ℤ) (a b : ℤ) → IsByCandidates is_next p q a
-    → IsByCandidates is_next p q b → a ≡ b
+by_candidates_once : (is_next : ℤ → Type 0) (once : Once is_next) (p q : Option ℤ) → Once (IsByCandidates is_next p q)
 by_candidates_once is_next once p q a b h k = grind arith
 
-next_once : (f : ℤ → LocalType → Type 0) (t : LocalType) (u : ℤ) (c d : Change) → IsNextUse f t u c → IsNextUse f t u d → c.at ≡ d.at
+next_once : (f : InForce) (t : LocalType) (u : ℤ) (c d : Change) → IsNextUse f t u c → IsNextUse f t u d → c.at ≡ d.at
 next_once f t u c d h k = omega (arith, ints, h.first d k.is k.to k.later, k.first c h.is h.to h.later)
 
 -- a second has one type
-module _ (f : ℤ → LocalType → Type 0) (one : (u : ℤ) (s t : LocalType) → f u s → f u t → s ≡ t) (rule : Option TransitionRule) where
-  next_candidate_once : (t : LocalType) (u a b : ℤ) → IsNextCandidate f rule t u a → IsNextCandidate f rule t u b → a ≡ b
+module _ (f : InForce) (one : IsOnce f) (rule : Option TransitionRule) where
+  next_candidate_once : (t : LocalType) (u : ℤ) → Once (IsNextCandidate f rule t u)
   next_candidate_once t u a b h k =
       let same = next_once f t u h.change k.change h.next k.next in
       let both = candidates_once f one rule k.change.at t.offset h.early h.late k.early k.late (rw same at h.candidates) k.candidates in
       grind arith
 
-  flagged_once : (u : ℤ) (t : LocalType) (a b : ℤ) → IsFlaggedAmount f rule u t a → IsFlaggedAmount f rule u t b → a ≡ b
+  flagged_once : (u : ℤ) (t : LocalType) → Once (IsFlaggedAmount f rule u t)
   flagged_once u t a b h k = let next = next_candidate_once t u in grind (arith, candidates_once, by_candidates_once)
 
-  pub one_amount : (u a b : ℤ) → IsAmount f rule u a → IsAmount f rule u b → a ≡ b
+  pub one_amount : (u : ℤ) → Once (IsAmount f rule u)
   one_amount u a b h k = grind (arith, flagged_once)
 
 -- ---- in a zone
-pub amount_once : (z : Zone) (u a b : ℤ) → IsAmount (TypeAt z) z.rule u a → IsAmount (TypeAt z) z.rule u b → a ≡ b
+pub amount_once : (z : Zone) (u : ℤ) → Once (IsAmount (TypeAt z) z.rule u)
 amount_once z = one_amount (TypeAt z) (type_once z) z.rule
 
 pub saving_once : (z : Zone) (u : ℤ) (s t : Saving) → IsSavingAt z u s → IsSavingAt z u t → s ≡ t

@@ -1,7 +1,7 @@
 -- Walks from change to change, standard time on both sides of a second of daylight saving time, and candidates: a second has one of each side.
 use Rattle.offset_core.specs.Offset.{IsWithinDay}
 use Rattle.std.specs.Prelude.{Bool, MatchOption, not, option_map, ◌+ℤ◌, ◌-◌, ◌<◌, ◌↔◌, ◌⊎◌}
-use Rattle.tz_info.proofs.{ChangeLaws.one_change, SpanLaws.typed_between, Words.{IsNearestChange, IsRuleOrNone, IsValid, Precedes, unsigned_abs, ◌≢◌}}
+use Rattle.tz_info.proofs.{ChangeLaws.one_change, ChangeSearch.{InForce, IsOnce}, SpanLaws.typed_between, Words.{IsNearestChange, IsRuleOrNone, IsValid, Precedes, unsigned_abs, ◌≢◌}}
 use Rattle.tz_saving.{
   proofs.Words.{AreCandidates, AreTurnsFar, At_a_second, Change, HasChanges, IsAfter, IsBefore, IsCandidate, IsChange, IsFound, IsNearestTurn},
   proofs.Words.{IsStandard, IsWalkedTo, IsWanted, LocalType, None, Option, SFits, Some, Standard, TransitionRule, TypeAt, Zone, arith, false, inl},
@@ -110,8 +110,11 @@ module _ (z : Zone) (valid : IsValid z) (limits : IsRuleOrNone z.rule) where
 
 -- ---- one of each
 -- one number has the property
-module _ (is : ℤ → Type 0) (once : (a b : ℤ) → is a → is b → a ≡ b) where
-  candidate_once : (offset a b : ℤ) → IsCandidate is offset a → IsCandidate is offset b → a ≡ b
+abbrev pub Once : (ℤ → Type 0) → Type 0
+Once is = (a b : ℤ) → is a → is b → a ≡ b
+
+module _ (is : ℤ → Type 0) (once : Once is) where
+  candidate_once : (offset : ℤ) → Once (IsCandidate is offset)
   candidate_once offset a b h k = let same = once h.standard k.standard h.of_side k.of_side in omega (arith, ints)
 
   found_once : (offset : ℤ) (p q : Option ℤ) → IsFound (IsCandidate is offset) p → IsFound (IsCandidate is offset) q → p ≡ q
@@ -128,11 +131,11 @@ module _ (is : ℤ → Type 0) (once : (a b : ℤ) → is a → is b → a ≡ b
   found_candidate offset standard (Some a) h k = grind arith
 
 -- a second has one type
-module _ (f : ℤ → LocalType → Type 0) (one : (u : ℤ) (s t : LocalType) → f u s → f u t → s ≡ t) where
-  pub before_once : (u a b : ℤ) → IsBefore f u a → IsBefore f u b → a ≡ b
+module _ (f : InForce) (one : IsOnce f) where
+  pub before_once : (u : ℤ) → Once (IsBefore f u)
   before_once u a b h k = grind (arith, ints, h.last k.at b, k.last h.at a)
 
-  pub after_once : (rule : Option TransitionRule) (u a b : ℤ) → IsAfter f rule u a → IsAfter f rule u b → a ≡ b
+  pub after_once : (rule : Option TransitionRule) (u : ℤ) → Once (IsAfter f rule u)
   after_once rule u a b (At_a_second h) (At_a_second k) = grind (arith, ints, h.first k.at b, k.first h.at a)
   after_once rule u a b (At_a_second h) (Of_rule none k) = absurd (none h.at a h.is h.after)
   after_once rule u a b (Of_rule none h) (At_a_second k) = absurd (none k.at b k.is k.after)
