@@ -73,17 +73,17 @@ types_are designations types p h = grind (arith, records_are, signed_32, has_tex
 
 -- ---- items appended one after another
 -- the pieces of the items are appended, and each is sound
-abbrev pub ArePushed : {X : Type 0} → (X → List ℕ) → (X → Type 0) → List ℕ → List ℕ → List X → Type 0
-ArePushed f P old now xs = (now ≡ old ++ flat_map f xs) × All P xs
+pub record ArePushed {X : Type 0} (f : X → List ℕ) (P : X → Type 0) (old now : List ℕ) (xs : List X) : Type 0 where
+  pub appended : now ≡ old ++ flat_map f xs
+  pub sound : All P xs
 
 -- the item t comes next
-module _ {X : Type 0} {now later : List ℕ} {i : ℕ} {t : X} (f : X → List ℕ) (old : List ℕ) (xs : List X) (d : X) (l : i < length xs)
-    (is : t ≡ get_or xs i d) where
-  pub flat_map_next : now ≡ old ++ flat_map f (take i xs) → later ≡ now ++ f t → later ≡ old ++ flat_map f (take (i + 1) xs)
-  flat_map_next e g = grind (arith, take_more, flat_map_more)
+module _ {X : Type 0} {now later : List ℕ} {i : ℕ} {t : X} (xs : List X) (d : X) (l : i < length xs) (is : t ≡ get_or xs i d) where
+  pub flat_map_next : (f : X → List ℕ) (old : List ℕ) → now ≡ old ++ flat_map f (take i xs) → later ≡ now ++ f t → later ≡ old ++ flat_map f (take (i + 1) xs)
+  flat_map_next f old e g = grind (arith, take_more, flat_map_more)
 
-  pub pushed_next : (P : X → Type 0) → ArePushed f P old now (take i xs) → later ≡ now ++ f t → P t → ArePushed f P old later (take (i + 1) xs)
-  pushed_next P (e, all) g p = (flat_map_next e g, All-more P xs i d l all (rw is at p))
+  pub pushed_next : {f : X → List ℕ} {P : X → Type 0} {old : List ℕ} → ArePushed f P old now (take i xs) → later ≡ now ++ f t → P t → ArePushed f P old later (take (i + 1) xs)
+  pushed_next {P = P} h g p = record { appended = flat_map_next _ _ h.appended g; sound = All-more P xs i d l h.sound (rw is at p) }
 
 -- ---- headers
 -- counts of four bytes
@@ -217,8 +217,7 @@ values (Nothing v) bytes x rest h b = (h.0, rw h.1 at b)
 values (Then g f) bytes y rest (x, after, p, q) b = let (v, c) = values g bytes x after p b in let (w, d) = values (f x) after y rest q c in ((x, v, w), d)
 values (Marked tag g h) bytes x rest (inl (after, is, p)) b = let (v, c) = values g after x rest p (behind (tag ∷ []) after (rw is at b)) in (inl v, c)
 values (Marked tag g h) bytes x rest (inr (_, p)) b = let (v, c) = values h bytes x rest p b in (inr v, c)
-values (Ended g h) bytes x rest (inl (_, p)) b = let (v, c) = values g bytes x rest p b in (inl v, c)
-values (Ended g h) bytes x rest (inr (_, p)) b = let (v, c) = values h bytes x rest p b in (inr v, c)
+values (Ended g h) bytes x rest p b = grind (arith, values g bytes x rest, values h bytes x rest)
 values (Byte tag) bytes x rest h b = (tt, behind (tag ∷ []) rest (rw h at b))
 values (Run p) bytes x rest h b = (tt, behind x rest (rw h.whole at b))
 values (Number max) bytes x rest h b = (tt, behind h.digits rest (rw h.whole at b))

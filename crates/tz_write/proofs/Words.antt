@@ -1,7 +1,7 @@
 -- The words that this crate's proofs cite, passed on from std, from the crates below and from specs/.
 pub use Rattle.naive_base.proofs.Words.{decimal, ◌^◌}
 pub use Rattle.std.{
-  proofs.lemmas.{Bool.{and_from, both_ways, le-ltb}, List.{Elements.{All-cons, All-more, All-nil, All-tail}, Sums.fold_more, drop_more}},
+  proofs.lemmas.{Bool.{both_ways, le-ltb}, List.{Elements.{All-cons, All-more, All-nil, All-tail}, Sums.fold_more, drop_more}},
   proofs.lemmas.Result.on_err_weaker,
   proofs.Common.{Err, None, Ok, OnErr, Option, Result, Some},
   specs.{Bool.Decides, List.{flat_map, fold}},

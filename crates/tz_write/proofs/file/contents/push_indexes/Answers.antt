@@ -8,5 +8,5 @@ overflow_cast-index c =
 
 pub loop-place-preserved : goal.loop-place-preserved
 loop-place-preserved c =
-    flat_map_next index_bytes _ _ _ (grind arith) (c.transition-index.ensures c.transition-index.result)
+    flat_map_next _ _ (grind arith) (c.transition-index.ensures c.transition-index.result) index_bytes _
     c.loop-place.invariant c.in_ok-extend_from_slice.ensures.items
