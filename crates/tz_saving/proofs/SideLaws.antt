@@ -1,13 +1,18 @@
 -- Walks from change to change, standard time on both sides of a second of daylight saving time, and candidates: a second has one of each side.
 use Rattle.offset_core.specs.Offset.{IsWithinDay}
-use Rattle.std.specs.Prelude.{Bool, MatchOption, not, option_map, ◌+ℤ◌, ◌-◌, ◌<◌, ◌↔◌, ◌⊎◌}
-use Rattle.tz_info.proofs.{ChangeLaws.one_change, ChangeSearch.{InForce, IsOnce}, SpanLaws.typed_between, Words.{IsNearestChange, IsRuleOrNone, IsValid, Precedes, unsigned_abs, ◌≢◌}}
+use Rattle.std.specs.Prelude.{Bool, not, option_map, ◌+ℤ◌, ◌-◌, ◌<◌, ◌↔◌, ◌⊎◌}
+use Rattle.tz_info.proofs.{
+  ChangeLaws.one_change,
+  ChangeSearch.{InForce, IsOnce},
+  SpanLaws.typed_between,
+  Words.{IsNearestChange, IsRuleOrNone, IsValid, Precedes, unsigned_abs, ◌≢◌},
+}
 use Rattle.tz_saving.{
   proofs.Words.{AreCandidates, AreTurnsFar, At_a_second, Change, HasChanges, IsAfter, IsBefore, IsCandidate, IsChange, IsFound, IsNearestTurn},
   proofs.Words.{IsStandard, IsWalkedTo, IsWanted, LocalType, None, Option, SFits, Some, Standard, TransitionRule, TypeAt, Zone, arith, false, inl},
   proofs.Words.{inr, ints, pos, suc, true, type_once, w64, zero, ℕ, ℤ, ◌-ℤ◌, ◌<ℤ◌, ◌≡◌, ◌≤ℤ◌},
-  specs.{Reach.reach, Sides.{IsAfter.Of_rule, HasNoStandard, IsRuleStandard}},
-  specs.Steps.Walks.{HasBetween, HasFlag, IsAhead, IsBeyond, IsFar, IsNear, IsNearestStandard, IsStandardFound, IsTurn, IsTurnFound, far_second, far_type},
+  specs.Sides.{IsAfter.Of_rule, IsRuleStandard},
+  specs.Steps.Walks.{HasBetween, HasFlag, IsAhead, IsBeyond, IsFar, IsNearestStandard, IsStandardFound, IsTurn, IsTurnFound, far_second, far_type},
 }
 
 -- ---- counts of changes: a walk from change to change uses up one at each step

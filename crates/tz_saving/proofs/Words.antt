@@ -4,7 +4,7 @@ pub use Rattle.tz_info.{
   proofs.Words.{Change, LocalType, None, Option, SFits, Some, TypeAt, Zone, ap, arith, by_lt_z, false, false≢true, inl, inr, ints, neg_ℤ, pos, refl},
   proofs.Words.{rules, subst, sym, to_z-of_z, true, w32, w64, ℤ, ◌-ℤ◌, ◌<ℤ◌, ◌∙◌, ◌≡◌, ◌≤ℤ◌},
   proofs.ZoneLaws.type_once,
-  specs.{Changes.IsChange, HeldChanges.change_held, declared.rule.transition_rule.TransitionRule.TransitionRule},
+  specs.{Changes.IsChange, declared.rule.transition_rule.TransitionRule.TransitionRule},
 }
 pub use Rattle.tz_saving.specs.{
   Amounts.{IsOfTwo.{Both, Of_next, Usual}, IsAmount, IsByCandidates, IsFlaggedAmount, IsNextCandidate, IsNextUse, IsOfTwo},

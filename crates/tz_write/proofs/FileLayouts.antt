@@ -320,7 +320,7 @@ module _ (others : List ℕ) where
   greatest d t [] = (0, omega arith, grind arith)
   greatest d t (u ∷ us) =
       let (place, inside, above) = greatest d u us in let m = get_or (u ∷ us) place d in elim (cases_lt (key_in m) (key_in t)) [
-        | inl l ↦ (0, omega arith, All-cons (IsBelow t) t (u ∷ us) (omega arith) (All-weaker (IsBelow m) (IsBelow t) (λ x k. omega arith) (u ∷ us) above))
+        | inl l ↦ (0, omega arith, All-cons (IsBelow t) t (u ∷ us) (omega arith) (λ i e k. let low = above i e k in omega arith))
         | inr k ↦ (suc place, omega arith, All-cons (IsBelow m) t (u ∷ us) k above)
       ]
 

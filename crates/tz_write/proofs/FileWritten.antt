@@ -121,18 +121,26 @@ record IsPlain (text : List ℕ) : Type 0 where
   no_colon : get_or text 0 0 ≢ 58
 
 ascii : (text : List ℕ) → AreTextBytes text → All (λ b. b < 128) (text ++ 10 ∷ [])
-ascii [] h = All-cons (λ b. b < 128) 10 [] (omega arith) (All-nil (λ b. b < 128))
+ascii [] h = grind (arith, All-cons)
 ascii (b ∷ bs) h = All-cons (λ b. b < 128) b (bs ++ 10 ∷ []) (limits b h.0).1 (ascii bs h.1)
 
 footer_is : (extended : Bool) (text : List ℕ) (rule : Option TransitionRule) → IsPlain text → SaysRule extended text rule
     → IsFooter extended (footer_bytes text) rule
-footer_is extended text rule p says = let first = begins_bare text p.bytes in let last = ends_bare text p.bytes in record {
+footer_is extended text rule p says = record {
   text = text;
   has_text = record {
     utf8 = IsUtf8-from_ascii (footer_bytes text)
         (IsAscii-from_all (footer_bytes text) (All-cons (λ b. b < 128) 10 (text ++ 10 ∷ []) (omega arith) (ascii text p.bytes)));
     newlines = record { after_first = text ++ 10 ∷ []; before_last = 10 ∷ text; starts = refl; ends = refl };
-    trimmed = record { before = 10 ∷ []; after = 10 ∷ []; whole = refl; space_before = (refl, tt); space_after = (refl, tt); first = first; last = last };
+    trimmed = record {
+      before = 10 ∷ [];
+      after = 10 ∷ [];
+      whole = refl;
+      space_before = (refl, tt);
+      space_after = (refl, tt);
+      first = begins_bare text p.bytes;
+      last = ends_bare text p.bytes;
+    };
   };
   no_colon = p.no_colon;
   no_zero = no_zeros text p.bytes;
@@ -214,9 +222,9 @@ Values g x = Unit {0}
 
 values : {X : Type 0} (g : Grammar X) (bytes : List ℕ) (x : X) (rest : List ℕ) → Spells g bytes x rest → AreBytes bytes → Values g x × AreBytes rest
 values (Nothing v) bytes x rest h b = (h.0, rw h.1 at b)
-values (Then g f) bytes y rest (x, after, p, q) b = let (v, c) = values g bytes x after p b in let (w, d) = values (f x) after y rest q c in ((x, v, w), d)
-values (Marked tag g h) bytes x rest (inl (after, is, p)) b = let (v, c) = values g after x rest p (behind (tag ∷ []) after (rw is at b)) in (inl v, c)
-values (Marked tag g h) bytes x rest (inr (_, p)) b = let (v, c) = values h bytes x rest p b in (inr v, c)
+values (Then g f) bytes y rest (x, after, p, q) b = let v = values g bytes x after p b in let w = values (f x) after y rest q v.1 in ((x, v.0, w.0), w.1)
+values (Marked tag g h) bytes x rest (inl (after, is, p)) b = grind (arith, values g after x rest p (behind (tag ∷ []) after (rw is at b)))
+values (Marked tag g h) bytes x rest (inr (_, p)) b = grind (arith, values h bytes x rest p b)
 values (Ended g h) bytes x rest p b = grind (arith, values g bytes x rest, values h bytes x rest)
 values (Byte tag) bytes x rest h b = (tt, behind (tag ∷ []) rest (rw h at b))
 values (Run p) bytes x rest h b = (tt, behind x rest (rw h.whole at b))
@@ -225,7 +233,7 @@ values (Exact n) bytes x rest h b = let c = rw h.0 at b in ((front x rest c, h.1
 values Rest bytes x rest h b = (rw h.0 b, rw h.1 (All-nil IsByte))
 values (Refused refusal) bytes x rest h b = absurd h
 values (Check P test refusal v) bytes x rest h b = ((h.0, h.1), rw h.2 at b)
-values (Here f) bytes x rest h b = let (v, c) = values (f bytes) bytes x rest h b in ((bytes, v), c)
+values (Here f) bytes x rest h b = let v = values (f bytes) bytes x rest h b in ((bytes, v.0), v.1)
 values (At place g) bytes x rest h b = values g bytes x rest h b
 
 -- ---- counts

@@ -1,4 +1,4 @@
-use Rattle.tz_saving.proofs.{AmountLaws.next_found, Words.{SFits, change_held, rules, to_z-of_z, w64}}
+use Rattle.tz_saving.proofs.{AmountLaws.next_found, Words.{SFits, rules, to_z-of_z, w64}}
 use Rattle.tz_saving.proofs.next_use.next_candidate.Goals as goal
 
 pub returns-in-Some : goal.returns-in-Some
