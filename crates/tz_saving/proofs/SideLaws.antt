@@ -82,9 +82,14 @@ module _ (z : Zone) (valid : IsValid z) (limits : IsRuleOrNone z.rule) where
       let (q, at) = typed_between z u v (v -ℤ pos 1) _ _ valid (omega (arith, ints)) (omega (arith, ints)) h.in_force_then k.in_force_then limits in
       let low = h.fits in let high = k.fits in let fits : SFits w64 (v -ℤ pos 1) = omega (arith, ints) in
       let flag : (q.dst ≡ b) ⊎ (q.dst ≡ not b) = grind arith in elim flag [
-        | inl same ↦ (record { at = v; before = q; after = k.type },
-            record { fits = high; fits_before = fits; before = at; after = k.in_force_then; differ = λ e. grind arith },
-            omega (arith, ints), omega (arith, ints), same, k.flag)
+        | inl same ↦ (
+          record { at = v; before = q; after = k.type },
+          record { fits = high; fits_before = fits; before = at; after = k.in_force_then; differ = λ e. grind arith },
+          omega (arith, ints),
+          omega (arith, ints),
+          same,
+          k.flag,
+        )
         | inr other ↦
             let before = flips b n u (v -ℤ pos 1) (omega (arith, ints)) h (record { fits = fits; type = q; in_force_then = at; flag = other }) in
             (before.0, before.1, before.2, omega (arith, ints), before.4, before.5)
