@@ -18,7 +18,7 @@ module _ (f : InForce) (one : IsOnce f) (rule : Option TransitionRule) where
   next_candidate_once : (t : LocalType) (u : ℤ) → Once (IsNextCandidate f rule t u)
   next_candidate_once t u a b h k =
       let same = next_once f t u h.change k.change h.next k.next in
-      let both = candidates_once f one rule k.change.at t.offset h.early h.late k.early k.late (rw same at h.candidates) k.candidates in
+      let both = candidates_once f one _ _ _ _ _ _ _ (rw same at h.candidates) k.candidates in
       grind arith
 
   flagged_once : (u : ℤ) (t : LocalType) → Once (IsFlaggedAmount f rule u t)
@@ -33,7 +33,7 @@ amount_once z = one_amount (TypeAt z) (type_once z) z.rule
 
 pub saving_once : (z : Zone) (u : ℤ) (s t : Saving) → IsSavingAt z u s → IsSavingAt z u t → s ≡ t
 saving_once z u s t h k =
-    let same = amount_once z u s.amount t.amount h.amount_is k.amount_is in
+    let same = amount_once z u _ _ h.amount_is k.amount_is in
     let type = h.amount_is.type in let at = h.amount_is.in_force_then in grind (arith, h.standard_is type at, k.standard_is type at)
 
 -- the next use of the type t after u
@@ -50,8 +50,8 @@ module _ (z : Zone) (t : LocalType) (u : ℤ) where
   pub next_found : (c : Change) (early late found : Option ℤ) → IsNearestTurn true z (λ s. s ≡ t) u c
       → AreCandidates (TypeAt z) z.rule c.at t.offset early late → IsFound (IsOnly early late) found → IsFound IsNext found
   next_found c early late None n candidates none = λ a h.
-      let there = next_once (TypeAt z) t u h.change c h.next (next_is c n) in
-      let both = candidates_once (TypeAt z) (type_once z) z.rule c.at t.offset h.early h.late early late (rw there at h.candidates) candidates in
+      let there = next_once _ t u h.change c h.next (next_is c n) in
+      let both = candidates_once _ (type_once z) _ _ _ _ _ _ _ (rw there at h.candidates) candidates in
       grind arith
   next_found c early late (Some a) n candidates only =
       record { change = c; next = next_is c n; early = early; late = late; candidates = candidates; only = only }

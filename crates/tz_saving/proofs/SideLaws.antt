@@ -1,4 +1,4 @@
--- Walks from change to change, standard time on both sides of a second of daylight saving time, and candidates: a second has one of each side.
+-- Walks from change to change, and standard time on both sides of a second of daylight saving time: a second has one candidate of each.
 use Rattle.offset_core.specs.Offset.{IsWithinDay}
 use Rattle.std.specs.Prelude.{Bool, not, option_map, ◌+ℤ◌, ◌-◌, ◌<◌, ◌↔◌, ◌⊎◌}
 use Rattle.tz_info.proofs.{
@@ -23,7 +23,8 @@ module _ (z : Zone) where
   wider zero v w a b l m h = tt
   wider (suc n) v w a b l m h = grind (arith, ints, wider n v w (h.0.at -ℤ pos 1) (h.0.at -ℤ pos 1))
 
-  has_one : (forward : Bool) (r : ℤ) (c : Change) → IsChange (TypeAt z) c → IsBeyond forward r c.at → HasBetween forward z 1 r (far_second forward c.at)
+  has_one : (forward : Bool) (r : ℤ) (c : Change) → IsChange (TypeAt z) c → IsBeyond forward r c.at
+      → HasBetween forward z 1 r (far_second forward c.at)
   unfolding HasChanges
   has_one forward r c is l = grind (arith, ints)
 
@@ -168,7 +169,8 @@ module _ (z : Zone) (u : ℤ) where
   after_found a h = At_a_second (record { at = h.at; after = h.near; is = h.is; first = h.nearest })
 
   -- standard time of the rule, if no standard second comes after u
-  pub after_of_rule : (ruled : Option ℤ) → IsStandardFound true z u None → IsFound (IsRuleStandard z.rule) ruled → IsFound (IsAfter (TypeAt z) z.rule u) ruled
+  pub after_of_rule : (ruled : Option ℤ) → IsStandardFound true z u None → IsFound (IsRuleStandard z.rule) ruled
+      → IsFound (IsAfter (TypeAt z) z.rule u) ruled
   after_of_rule None none h = λ a k. elim k [ At_a_second k ↦ none k.at a k.is k.after | Of_rule m k ↦ h a k ]
   after_of_rule (Some a) none h = Of_rule none h
 

@@ -79,10 +79,12 @@ pub record ArePushed {X : Type 0} (f : X → List ℕ) (P : X → Type 0) (old n
 
 -- the item t comes next
 module _ {X : Type 0} {now later : List ℕ} {i : ℕ} {t : X} (xs : List X) (d : X) (l : i < length xs) (is : t ≡ get_or xs i d) where
-  pub flat_map_next : (f : X → List ℕ) (old : List ℕ) → now ≡ old ++ flat_map f (take i xs) → later ≡ now ++ f t → later ≡ old ++ flat_map f (take (i + 1) xs)
+  pub flat_map_next : (f : X → List ℕ) (old : List ℕ) → now ≡ old ++ flat_map f (take i xs) → later ≡ now ++ f t
+      → later ≡ old ++ flat_map f (take (i + 1) xs)
   flat_map_next f old e g = grind (arith, take_more, flat_map_more)
 
-  pub pushed_next : {f : X → List ℕ} {P : X → Type 0} {old : List ℕ} → ArePushed f P old now (take i xs) → later ≡ now ++ f t → P t → ArePushed f P old later (take (i + 1) xs)
+  pub pushed_next : {f : X → List ℕ} {P : X → Type 0} {old : List ℕ} → ArePushed f P old now (take i xs) → later ≡ now ++ f t → P t
+      → ArePushed f P old later (take (i + 1) xs)
   pushed_next {P = P} h g p = record { appended = flat_map_next _ _ h.appended g; sound = All-more P xs i d l h.sound (rw is at p) }
 
 -- ---- headers
