@@ -1,63 +1,60 @@
 -- A second has one amount, which is what the code finds.
+use Rattle.tz_info.proofs.ChangeSearch.{InForce, IsOnce}
 use Rattle.tz_saving.proofs.{
-  SideLaws.{candidates_once, only_once, the_found},
-  Words.{AreCandidates, At_a_second, Change, HasNoStandard, IsAfter, IsAmount, IsByCandidates, IsFlaggedAmount, IsFound, IsNextCandidate, IsNextUse, IsOfTwo},
-  Words.{IsOnly, IsRuleStandard, IsSavingAt, IsSoonAfter, LocalType, None, Of_rule, Option, Saving, Some, TransitionRule, TypeAt, Zone, ap, arith, ints, sym},
-  Words.{type_once, ℤ, ◌-ℤ◌, ◌∙◌, ◌≡◌},
+  SideLaws.{Once, candidates_once, the_found},
+  Words.{AreCandidates, AreTurnsFar, Change, IsAmount, IsByCandidates, IsFlaggedAmount, IsFound, IsNearestTurn, IsNextCandidate, IsNextUse, IsOfTwo},
+  Words.{IsOnly, IsSavingAt, LocalType, None, Option, Saving, Some, TransitionRule, TypeAt, Zone, arith, ints, true, type_once, ℤ, ◌≡◌},
 }
 
 -- there is one amount by the candidates
-by_candidates_once : (is_next : ℤ → Type 0) (once : (x y : ℤ) → is_next x → is_next y → x ≡ y) (p q : Option ℤ) (a b : ℤ) → IsByCandidates is_next p q a
-    → IsByCandidates is_next p q b → a ≡ b
+by_candidates_once : (is_next : ℤ → Type 0) (once : Once is_next) (p q : Option ℤ) → Once (IsByCandidates is_next p q)
 by_candidates_once is_next once p q a b h k = grind arith
 
-next_once : (f : ℤ → LocalType → Type 0) (t : LocalType) (u : ℤ) (c d : Change) → IsNextUse f t u c → IsNextUse f t u d → c.at ≡ d.at
+next_once : (f : InForce) (t : LocalType) (u : ℤ) (c d : Change) → IsNextUse f t u c → IsNextUse f t u d → c.at ≡ d.at
 next_once f t u c d h k = omega (arith, ints, h.first d k.is k.to k.later, k.first c h.is h.to h.later)
 
 -- a second has one type
-module _ (f : ℤ → LocalType → Type 0) (one : (u : ℤ) (s t : LocalType) → f u s → f u t → s ≡ t) (rule : Option TransitionRule) where
-  next_candidate_once : (t : LocalType) (u a b : ℤ) → IsNextCandidate f rule t u a → IsNextCandidate f rule t u b → a ≡ b
+module _ (f : InForce) (one : IsOnce f) (rule : Option TransitionRule) where
+  next_candidate_once : (t : LocalType) (u : ℤ) → Once (IsNextCandidate f rule t u)
   next_candidate_once t u a b h k =
       let same = next_once f t u h.change k.change h.next k.next in
-      let both = candidates_once f one rule k.change.at t.offset h.early h.late k.early k.late (rw same at h.candidates) k.candidates in
-      grind (arith, only_once)
+      let both = candidates_once f one _ _ _ _ _ _ _ (rw same at h.candidates) k.candidates in
+      grind arith
 
-  flagged_once : (u : ℤ) (t : LocalType) (a b : ℤ) → IsFlaggedAmount f rule u t a → IsFlaggedAmount f rule u t b → a ≡ b
+  flagged_once : (u : ℤ) (t : LocalType) → Once (IsFlaggedAmount f rule u t)
   flagged_once u t a b h k = let next = next_candidate_once t u in grind (arith, candidates_once, by_candidates_once)
 
-  pub one_amount : (u a b : ℤ) → IsAmount f rule u a → IsAmount f rule u b → a ≡ b
+  pub one_amount : (u : ℤ) → Once (IsAmount f rule u)
   one_amount u a b h k = grind (arith, flagged_once)
 
 -- ---- in a zone
-pub amount_once : (z : Zone) (u a b : ℤ) → IsAmount (TypeAt z) z.rule u a → IsAmount (TypeAt z) z.rule u b → a ≡ b
+pub amount_once : (z : Zone) (u : ℤ) → Once (IsAmount (TypeAt z) z.rule u)
 amount_once z = one_amount (TypeAt z) (type_once z) z.rule
 
 pub saving_once : (z : Zone) (u : ℤ) (s t : Saving) → IsSavingAt z u s → IsSavingAt z u t → s ≡ t
 saving_once z u s t h k =
-    let same = amount_once z u s.amount t.amount h.amount_is k.amount_is in
-    let type = h.amount_is.type in let at = h.amount_is.in_force_then in
-    let standard = h.standard_is type at ∙ ap (λ a. type.offset -ℤ a) same ∙ sym (k.standard_is type at) in
-    λ i. record { standard_offset = standard i; amount = same i }
-
--- standard time of the rule, if no standard second comes after u
-pub after_of_rule : (z : Zone) (u : ℤ) (found : Option ℤ) → HasNoStandard (TypeAt z) (IsSoonAfter (TypeAt z) u) → IsFound (IsRuleStandard z.rule) found
-    → IsFound (IsAfter (TypeAt z) z.rule u) found
-after_of_rule z u None none h = λ a k. elim k [ At_a_second k ↦ none k.at a k.is k.after | Of_rule m k ↦ h a k ]
-after_of_rule z u (Some a) none h = Of_rule none h
+    let same = amount_once z u _ _ h.amount_is k.amount_is in
+    let type = h.amount_is.type in let at = h.amount_is.in_force_then in grind (arith, h.standard_is type at, k.standard_is type at)
 
 -- the next use of the type t after u
 module _ (z : Zone) (t : LocalType) (u : ℤ) where
   abbrev IsNext : ℤ → Type 0
   IsNext a = IsNextCandidate (TypeAt z) z.rule t u a
 
-  pub next_found : (at : ℤ) (early late found : Option ℤ) → (c : Change) × IsNextUse (TypeAt z) t u c × (c.at ≡ at)
-      → AreCandidates (TypeAt z) z.rule at t.offset early late → IsFound (IsOnly early late) found → IsFound IsNext found
-  next_found at early late None (c, next, same) candidates none = λ a h.
-      let there = next_once (TypeAt z) t u h.change c h.next next ∙ same in
-      let both = candidates_once (TypeAt z) (type_once z) z.rule at t.offset h.early h.late early late (rw there at h.candidates) candidates in
+  pub no_next : AreTurnsFar true z (λ s. s ≡ t) u → (a : ℤ) → IsNext a → ⊥
+  no_next far a h = grind (arith, far h.change)
+
+  next_is : (c : Change) → IsNearestTurn true z (λ s. s ≡ t) u c → IsNextUse (TypeAt z) t u c
+  next_is c n = grind arith
+
+  pub next_found : (c : Change) (early late found : Option ℤ) → IsNearestTurn true z (λ s. s ≡ t) u c
+      → AreCandidates (TypeAt z) z.rule c.at t.offset early late → IsFound (IsOnly early late) found → IsFound IsNext found
+  next_found c early late None n candidates none = λ a h.
+      let there = next_once _ t u h.change c h.next (next_is c n) in
+      let both = candidates_once _ (type_once z) _ _ _ _ _ _ _ (rw there at h.candidates) candidates in
       grind arith
-  next_found at early late (Some a) (c, next, same) candidates only =
-      record { change = c; next = next; early = early; late = late; candidates = rw same candidates; only = only }
+  next_found c early late (Some a) n candidates only =
+      record { change = c; next = next_is c n; early = early; late = late; candidates = candidates; only = only }
 
   -- the choice by what was found
   pub of_two_found : (p q a : ℤ) (found : Option ℤ) → IsFound IsNext found → IsOfTwo (λ x. found ≡ Some x) p q a → IsOfTwo IsNext p q a

@@ -1,4 +1,3 @@
 pub mod Words
 pub mod SideLaws
 pub mod AmountLaws
-mod Walks

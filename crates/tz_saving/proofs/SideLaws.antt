@@ -1,22 +1,131 @@
--- A second has one standard offset on each side, and one candidate of each.
-use Rattle.tz_saving.proofs.{
-  Words.{AreCandidates, At_a_second, IsAfter, IsBefore, IsCandidate, IsFound, IsOnly, IsRuleStandard, IsStandard, IsWithinDay, LocalType, None, Of_rule},
-  Words.{Option, Some, TransitionRule, TypeAt, Zone, arith, ints, pos, refl, type_once, ℤ, ◌-ℤ◌, ◌≡◌, ◌≢◌},
+-- Walks from change to change, and standard time on both sides of a second of daylight saving time: a second has one candidate of each.
+use Rattle.offset_core.specs.Offset.{IsWithinDay}
+use Rattle.std.specs.Prelude.{Bool, not, option_map, ◌+ℤ◌, ◌-◌, ◌<◌, ◌↔◌, ◌⊎◌}
+use Rattle.tz_info.proofs.{
+  ChangeLaws.one_change,
+  ChangeSearch.{InForce, IsOnce},
+  SpanLaws.typed_between,
+  Words.{IsNearestChange, IsRuleOrNone, IsValid, Precedes, unsigned_abs, ◌≢◌},
+}
+use Rattle.tz_saving.{
+  proofs.Words.{AreCandidates, AreTurnsFar, At_a_second, Change, HasChanges, IsAfter, IsBefore, IsCandidate, IsChange, IsFound, IsNearestTurn},
+  proofs.Words.{IsStandard, IsWalkedTo, IsWanted, LocalType, None, Option, SFits, Some, Standard, TransitionRule, TypeAt, Zone, arith, false, inl},
+  proofs.Words.{inr, ints, pos, suc, true, type_once, w64, zero, ℕ, ℤ, ◌-ℤ◌, ◌<ℤ◌, ◌≡◌, ◌≤ℤ◌},
+  specs.Sides.{IsAfter.Of_rule, IsRuleStandard},
+  specs.Steps.Walks.{HasBetween, HasFlag, IsAhead, IsBeyond, IsFar, IsNearestStandard, IsStandardFound, IsTurn, IsTurnFound, far_second, far_type},
 }
 
-rule_once : (rule : Option TransitionRule) (a b : ℤ) → IsRuleStandard rule a → IsRuleStandard rule b → a ≡ b
-rule_once rule a b h k = grind arith
+-- ---- counts of changes: a walk from change to change uses up one at each step
+module _ (z : Zone) where
+  -- seconds that are farther apart have no fewer between them
+  wider : (n : ℕ) (v w a b : ℤ) → w ≤ℤ v → a ≤ℤ b → HasChanges (TypeAt z) n v a → HasChanges (TypeAt z) n w b
+  unfolding HasChanges
+  wider zero v w a b l m h = tt
+  wider (suc n) v w a b l m h = grind (arith, ints, wider n v w (h.0.at -ℤ pos 1) (h.0.at -ℤ pos 1))
 
-pub only_once : (p q : Option ℤ) (a b : ℤ) → IsOnly p q a → IsOnly p q b → a ≡ b
-only_once p q a b h k = grind arith
+  has_one : (forward : Bool) (r : ℤ) (c : Change) → IsChange (TypeAt z) c → IsBeyond forward r c.at
+      → HasBetween forward z 1 r (far_second forward c.at)
+  unfolding HasChanges
+  has_one forward r c is l = grind (arith, ints)
 
--- with the same property a side has the same candidates
-candidate_by : {P Q : ℤ → Type 0} {offset a : ℤ} → ((s : ℤ) → P s → Q s) → IsCandidate P offset a → IsCandidate Q offset a
-candidate_by by r = record { standard = r.standard; of_side = by _ r.of_side; difference = r.difference; some = r.some; within = r.within }
+  -- over the nearest change
+  steps : (forward : Bool) (n : ℕ) (r v : ℤ) (c : Change) → IsNearestChange forward (TypeAt z) (IsBeyond forward r) c
+      → HasBetween forward z (suc (suc n)) r v ↔ HasBetween forward z (suc n) (far_second forward c.at) v
+  unfolding HasChanges
+  steps false n r v c last = grind (arith, ints, wider)
+  steps true zero r v c next = grind (arith, ints)
+  steps true (suc n) r v c next = (
+    λ (d, is, from, to, rest). grind (arith, ints, (steps true n r (d.at -ℤ pos 1) c next).0 rest),
+    λ (d, is, from, to, rest). grind (arith, ints, (steps true n r (d.at -ℤ pos 1) c next).1 rest),
+  )
 
+-- the walk from u has come to r
+module _ {z : Zone} {forward : Bool} {wanted : LocalType → Type 0} {u r : ℤ} where
+  -- some changes are left, and c is the nearest
+  module _ {left : ℕ} {c : Change} (some : 0 < left) (h : IsWalkedTo forward z wanted left u r)
+      (next : IsNearestChange forward (TypeAt z) (IsBeyond forward r) c) where
+    left_far : (v : ℤ) → HasBetween forward z (suc (left - 1)) (far_second forward c.at) v ↔ IsFar forward z u v
+    left_far v = let e : left ≡ suc (left - 1) = omega arith in let both = (rw e at h.reach_left) v in grind (arith, steps)
+
+    pub goes : (wanted (far_type forward c) → ⊥) → IsWalkedTo forward z wanted (left - 1) u (far_second forward c.at)
+    goes other = record {
+      order = grind (arith, ints, next.inside);
+      reach_left = left_far;
+      later = λ d t.
+          let l = next.nearest d t.is (h.later d t) in
+          let apart : c.at ≢ d.at = λ e. other (rw (one_change z c d next.is t.is e) t.to) in grind (arith, ints);
+    }
+
+    pub turns : wanted (far_type forward c) → IsNearestTurn forward z wanted u c
+    unfolding HasChanges
+    turns to = record {
+      turn = record { is = next.is; to = to; beyond = grind (arith, ints, next.inside) };
+      near = λ k. let some = (left_far _).1 k in grind (arith, ints);
+      first = λ d t. next.nearest d t.is (h.later d t);
+    }
+
+  -- out of reach
+  pub far : IsWalkedTo forward z wanted 0 u r → AreTurnsFar forward z wanted u
+  far h d t = (h.reach_left _).0 (has_one z forward r d t.is (h.later d t))
+
+-- ---- standard time
+standard_flag : {z : Zone} {offset v : ℤ} → IsStandard (TypeAt z) offset v → HasFlag z false v
+standard_flag s = record { fits = s.fits; type = s.type; in_force_then = s.in_force_then; flag = s.standard }
+
+-- in a valid zone
+module _ (z : Zone) (valid : IsValid z) (limits : IsRuleOrNone z.rule) where
+  -- between seconds of which one is standard comes a change of the flag; they are n seconds apart
+  flips : (b : Bool) (n : ℕ) (u v : ℤ) → v ≡ u +ℤ pos n → HasFlag z b u → HasFlag z (not b) v
+      → (d : Change) × IsChange (TypeAt z) d × (u <ℤ d.at) × (d.at ≤ℤ v) × (d.before.dst ≡ b) × (d.after.dst ≡ not b)
+  flips b zero u v e h k =
+      let here : v ≡ u = omega (arith, ints) in let same = type_once z u _ _ h.in_force_then (rw here at k.in_force_then) in absurd (grind arith)
+  flips b (suc n) u v e h k =
+      let (q, at) = typed_between z u v (v -ℤ pos 1) _ _ valid (omega (arith, ints)) (omega (arith, ints)) h.in_force_then k.in_force_then limits in
+      let low = h.fits in let high = k.fits in let fits : SFits w64 (v -ℤ pos 1) = omega (arith, ints) in
+      let flag : (q.dst ≡ b) ⊎ (q.dst ≡ not b) = grind arith in elim flag [
+        | inl same ↦ (
+          record { at = v; before = q; after = k.type },
+          record { fits = high; fits_before = fits; before = at; after = k.in_force_then; differ = λ e. grind arith },
+          omega (arith, ints),
+          omega (arith, ints),
+          same,
+          k.flag,
+        )
+        | inr other ↦
+            let before = flips b n u (v -ℤ pos 1) (omega (arith, ints)) h (record { fits = fits; type = q; in_force_then = at; flag = other }) in
+            (before.0, before.1, before.2, omega (arith, ints), before.4, before.5)
+      ]
+
+  -- at the second u a type that has the flag is in force
+  module _ (u : ℤ) (now : HasFlag z true u) where
+    -- towards a standard second comes a turn to standard time
+    turn_to : (forward : Bool) (v offset : ℤ) → IsStandard (TypeAt z) offset v → IsAhead forward u v
+        → (d : Change) × IsTurn forward z (IsWanted Standard) u d × Precedes forward (far_second forward d.at) v
+    turn_to true v offset s l =
+        let turn = flips true (unsigned_abs (v -ℤ u)) u v (omega (arith, ints)) now (standard_flag s) in
+        (turn.0, record { is = turn.1; to = turn.5; beyond = turn.2 }, turn.3)
+    turn_to false v offset s l =
+        let turn = flips false (unsigned_abs (u -ℤ v)) v u (omega (arith, ints)) (standard_flag s) now in
+        (turn.0, record { is = turn.1; to = turn.4; beyond = turn.3 }, omega (arith, ints))
+
+    pub standard_is : (forward : Bool) (found : Option Change) → IsTurnFound forward z (IsWanted Standard) u found
+        → IsStandardFound forward z u (option_map (λ c. (far_type forward c).offset) found)
+    standard_is forward None far = λ v offset s near.
+        let turn = turn_to forward v offset s near.0 in let beyond = far turn.0 turn.1 in grind (arith, ints, wider)
+    standard_is forward (Some c) n = record {
+      at = far_second forward c.at;
+      near = (grind (arith, ints, n.turn.beyond), n.near);
+      is = let is = n.turn.is in let to = n.turn.to in grind arith;
+      nearest = λ v other s l. let turn = turn_to forward v other s l in let first = n.first turn.0 turn.1 in grind (arith, ints);
+    }
+
+-- ---- one of each
 -- one number has the property
-module _ (is : ℤ → Type 0) (once : (a b : ℤ) → is a → is b → a ≡ b) where
-  candidate_once : (offset a b : ℤ) → IsCandidate is offset a → IsCandidate is offset b → a ≡ b
+abbrev pub Once : (ℤ → Type 0) → Type 0
+Once is = (a b : ℤ) → is a → is b → a ≡ b
+
+module _ (is : ℤ → Type 0) (once : Once is) where
+  candidate_once : (offset : ℤ) → Once (IsCandidate is offset)
   candidate_once offset a b h k = let same = once h.standard k.standard h.of_side k.of_side in omega (arith, ints)
 
   found_once : (offset : ℤ) (p q : Option ℤ) → IsFound (IsCandidate is offset) p → IsFound (IsCandidate is offset) q → p ≡ q
@@ -27,26 +136,21 @@ module _ (is : ℤ → Type 0) (once : (a b : ℤ) → is a → is b → a ≡ b
   the_found found s h k = grind arith
 
   -- a candidate by the offset that was found is one by that side
-  found_candidate : (offset : ℤ) (standard result : Option ℤ) → IsFound is standard → IsFound (IsCandidate (λ s. standard ≡ Some s) offset) result
+  pub found_candidate : (offset : ℤ) (standard result : Option ℤ) → IsFound is standard → IsFound (IsCandidate (λ s. standard ≡ Some s) offset) result
       → IsFound (IsCandidate is offset) result
-  found_candidate offset standard None h k = λ a r. k a (candidate_by (λ s. the_found standard s h) r)
-  found_candidate offset standard (Some a) h k = candidate_by (λ s e. rw e at h) k
+  found_candidate offset standard None h k = λ a r. let found = the_found standard r.standard h r.of_side in grind (arith, k a)
+  found_candidate offset standard (Some a) h k = grind arith
 
 -- a second has one type
-module _ (f : ℤ → LocalType → Type 0) (one : (u : ℤ) (s t : LocalType) → f u s → f u t → s ≡ t) where
-  standard_once : (u v a b : ℤ) → u ≡ v → IsStandard f a u → IsStandard f b v → a ≡ b
-  standard_once u v a b same h k = grind (arith, ints)
+module _ (f : InForce) (one : IsOnce f) where
+  pub before_once : (u : ℤ) → Once (IsBefore f u)
+  before_once u a b h k = grind (arith, ints, h.last k.at b, k.last h.at a)
 
-  pub before_once : (u a b : ℤ) → IsBefore f u a → IsBefore f u b → a ≡ b
-  before_once u a b h k =
-      grind (arith, ints, h.last k.at b, k.last h.at a)
-
-  pub after_once : (rule : Option TransitionRule) (u a b : ℤ) → IsAfter f rule u a → IsAfter f rule u b → a ≡ b
-  after_once rule u a b (At_a_second h) (At_a_second k) =
-      standard_once h.at k.at a b (omega (arith, ints, h.first k.at b k.is k.after.0, k.first h.at a h.is h.after.0)) h.is k.is
+  pub after_once : (rule : Option TransitionRule) (u : ℤ) → Once (IsAfter f rule u)
+  after_once rule u a b (At_a_second h) (At_a_second k) = grind (arith, ints, h.first k.at b, k.first h.at a)
   after_once rule u a b (At_a_second h) (Of_rule none k) = absurd (none h.at a h.is h.after)
   after_once rule u a b (Of_rule none h) (At_a_second k) = absurd (none k.at b k.is k.after)
-  after_once rule u a b (Of_rule none h) (Of_rule m k) = rule_once rule a b h k
+  after_once rule u a b (Of_rule none h) (Of_rule m k) = grind arith
 
   pub candidates_once : (rule : Option TransitionRule) (u offset : ℤ) (p q r s : Option ℤ) → AreCandidates f rule u offset p q
       → AreCandidates f rule u offset r s → (p ≡ r) × (q ≡ s)
@@ -55,18 +159,25 @@ module _ (f : ℤ → LocalType → Type 0) (one : (u : ℤ) (s t : LocalType) �
     found_once _ (after_once rule u) offset q s h.late_is k.late_is,
   )
 
-pub candidates_found : (z : Zone) (u offset : ℤ) (before after early late : Option ℤ) → IsFound (IsBefore (TypeAt z) u) before
-    → IsFound (IsAfter (TypeAt z) z.rule u) after → IsFound (IsCandidate (λ s. before ≡ Some s) offset) early
-    → IsFound (IsCandidate (λ s. after ≡ Some s) offset) late → AreCandidates (TypeAt z) z.rule u offset early late
-candidates_found z u offset before after early late b a e l = record {
-  early_is = found_candidate _ (before_once _ (type_once z) u) offset before early b e;
-  late_is = found_candidate _ (after_once _ (type_once z) z.rule u) offset after late a l;
-}
+-- ---- what the code finds
+module _ (z : Zone) (u : ℤ) where
+  pub before_found : (found : Option ℤ) → IsStandardFound false z u found → IsFound (IsBefore (TypeAt z) u) found
+  before_found None none = λ a k. none k.at a k.is (k.before, k.near)
+  before_found (Some a) h = record { at = h.at; before = h.near.0; near = h.near.1; is = h.is; last = h.nearest }
+
+  pub after_found : (a : ℤ) → IsNearestStandard true z u a → IsAfter (TypeAt z) z.rule u a
+  after_found a h = At_a_second (record { at = h.at; after = h.near; is = h.is; first = h.nearest })
+
+  -- standard time of the rule, if no standard second comes after u
+  pub after_of_rule : (ruled : Option ℤ) → IsStandardFound true z u None → IsFound (IsRuleStandard z.rule) ruled
+      → IsFound (IsAfter (TypeAt z) z.rule u) ruled
+  after_of_rule None none h = λ a k. elim k [ At_a_second k ↦ none k.at a k.is k.after | Of_rule m k ↦ h a k ]
+  after_of_rule (Some a) none h = Of_rule none h
 
 -- ---- the candidate by an offset
 module _ (offset standard : ℤ) where
   pub candidate_is : (offset -ℤ standard ≢ pos 0) → IsWithinDay (offset -ℤ standard) → IsCandidate (λ s. s ≡ standard) offset (offset -ℤ standard)
-  candidate_is some within = record { standard = standard; of_side = refl; difference = refl; some = some; within = within }
+  candidate_is some within = grind arith
 
   pub no_candidate : ((offset -ℤ standard ≢ pos 0) × IsWithinDay (offset -ℤ standard) → ⊥) → (a : ℤ) → IsCandidate (λ s. s ≡ standard) offset a → ⊥
   no_candidate none a r = grind (arith, ints)

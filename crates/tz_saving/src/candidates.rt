@@ -5,7 +5,7 @@ ghost use Rattle.offset_core.specs.Offset.{IsWithinDay};
 ghost use Rattle.tz_info.specs.Zones.{TypeAt};
 ghost use Rattle.tz_saving.specs.{Candidates.{AreCandidates, IsCandidate, IsOnly}, Sides.{IsFound}};
 
-use crate::sides::{standard_after, standard_before};
+use crate::sides::{Side, nearest_standard, standard_after};
 use tz_info::{LocalTimeType, TimeZone};
 
 // The two candidates of a second at which that type is in force, with the DST flag.
@@ -18,20 +18,20 @@ pub(crate) fn candidates_at(
     requires flagged { local.now.dst ≡ true }
     ensures { AreCandidates (TypeAt zone.now) zone.now.rule second local.now.offset result.0 result.1 }
 {
-    let before = standard_before(zone, second, local);
-    let after = standard_after(zone, second, local);
-    let offset = local.offset();
-    (candidate_of(offset, before), candidate_of(offset, after))
+    let before = nearest_standard(zone, second, Side::Before);
+    let after = standard_after(zone, second);
+    (candidate_of(local, before), candidate_of(local, after))
 }
 
-// How far the offset is from a standard offset that was found, unless that is 0, or a day or more.
+// How far the type's offset is from a standard offset that was found, unless that is 0, or a day or
+// more.
 #[tactic(auto, using(crate::proofs::Words::fitted))]
-fn candidate_of(offset: i32, standard: Option<i32>) -> Option<i32>
-    ensures { IsFound (IsCandidate (λ s. standard ≡ Some s) offset) result }
+fn candidate_of(local: &LocalTimeType, standard: Option<i32>) -> Option<i32>
+    ensures { IsFound (IsCandidate (λ s. standard ≡ Some s) local.now.offset) result }
 {
     match standard {
         Some(standard) => {
-            let amount = offset as i64 - standard as i64;
+            let amount = local.offset() as i64 - standard as i64;
             if is_amount(amount) {
                 Some(amount as i32)
             } else {

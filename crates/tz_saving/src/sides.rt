@@ -1,58 +1,49 @@
 //! Standard time on both sides of a second of daylight saving time, and changes to a type.
 
-ghost use Rattle.{
-  std.specs.{Int.{w64}, Prelude.{◌≡◌, ◌↔◌, ◌-ℤ◌, pos, true, FitsSigned, IsTrue, MatchOption, option_map}},
-  tz_info.specs.{Changes.{IsNearest}, HeldChanges.{change_held}, Zones.{TypeAt}},
-  tz_saving.specs.Sides.{HasNoStandard, IsAfter, IsBefore, IsFirstAfter, IsFound, IsRuleStandard, IsSoonAfter},
-  tz_saving.specs.Steps.Walks.{far_second, far_type, HasNoTurn, IsBeyond, IsNearestTurn, IsWanted},
-};
+ghost use Rattle.std.specs.{Int.{w64}, Prelude.{◌≡◌, ◌↔◌, ◌-ℤ◌, pos, true, FitsSigned, IsTrue, option_map}};
+ghost use Rattle.tz_info.specs.{Changes.{IsNearest}, HeldChanges.{change_held}, Zones.{TypeAt}};
+ghost use Rattle.tz_saving.specs.{Sides.{IsAfter, IsFound, IsRuleStandard}, Steps.Walks.{far_second, far_type, is_forward}};
+ghost use Rattle.tz_saving.specs.Steps.Walks.{HasFlag, IsBeyond, IsStandardFound, IsTurnFound, IsWanted};
 
 use tz_info::{HeldChange, LocalTimeType, TimeZone, TransitionRule};
 
 // How many clock changes away standard time, or the next use of a type, may be.
 const REACH: u32 = 64;
 
-// The offset of the last standard second before that one, at which a type with the DST flag is in
-// force; none if it is out of reach.
-#[tactic(auto, using(crate::proofs::Words::fitted, crate::proofs::Walks::standard_back))]
-pub(crate) fn standard_before(zone: &TimeZone, second: i64, local: &LocalTimeType) -> Option<i32>
-    requires in_force { TypeAt zone.now second local.now }
-    requires flagged { local.now.dst ≡ true }
-    ensures { IsFound (IsBefore (TypeAt zone.now) second) result }
-{
-    zone.valid_law();
-    match nearest_turn(zone, second, false, true, local) {
-        Some(change) => Some(change.before.offset()),
-        None => None,
-    }
+// A side of a second.
+#[derive(Clone, Copy)]
+pub(crate) enum Side {
+    Before,
+    After,
 }
 
-// The offset of the first standard second after it or, if none is within reach, that of the rule's
-// standard time.
-pub(crate) fn standard_after(zone: &TimeZone, second: i64, local: &LocalTimeType) -> Option<i32>
-    requires in_force { TypeAt zone.now second local.now }
-    requires flagged { local.now.dst ≡ true }
+// The types that a change may lead to: those of standard time, or one.
+#[derive(Clone, Copy)]
+pub(crate) enum Wanted<'a> {
+    Standard,
+    Same(&'a LocalTimeType),
+}
+
+// The offset of the first standard second after that one, at which a type with the DST flag is in
+// force, or, if none is within reach, that of the rule's standard time.
+#[tactic(auto, using(crate::proofs::Words::fitted, crate::proofs::SideLaws::after_found))]
+pub(crate) fn standard_after(zone: &TimeZone, second: i64) -> Option<i32>
+    requires { HasFlag zone.now true second }
     ensures { IsFound (IsAfter (TypeAt zone.now) zone.now.rule second) result }
 {
-    match first_standard_after(zone, second, local) {
+    match nearest_standard(zone, second, Side::After) {
         Some(offset) => Some(offset),
         None => rule_standard(zone),
     }
 }
 
-// The offset of the first standard second after it; none if it is out of reach.
-#[tactic(auto, using(crate::proofs::Words::fitted, crate::proofs::Walks::standard_on))]
-fn first_standard_after(zone: &TimeZone, second: i64, local: &LocalTimeType) -> Option<i32>
-    requires in_force { TypeAt zone.now second local.now }
-    requires flagged { local.now.dst ≡ true }
-    ensures { MatchOption result (HasNoStandard (TypeAt zone.now) (IsSoonAfter (TypeAt zone.now) second))
-        (IsFirstAfter (TypeAt zone.now) second) }
+// The offset of the nearest standard second on that side; none if it is out of reach.
+pub(crate) fn nearest_standard(zone: &TimeZone, second: i64, side: Side) -> Option<i32>
+    requires { HasFlag zone.now true second }
+    ensures { IsStandardFound (is_forward side) zone.now second result }
 {
     zone.valid_law();
-    match nearest_turn(zone, second, true, true, local) {
-        Some(change) => Some(change.after.offset()),
-        None => None,
-    }
+    far_offset(nearest_turn(zone, second, side, Wanted::Standard), side)
 }
 
 // The offset of standard time of the zone's rule, if that has two types.
@@ -65,67 +56,81 @@ fn rule_standard(zone: &TimeZone) -> Option<i32>
     }
 }
 
-// The first change after the second, or the last one up to it, that has standard time or that type
-// on its far side; none if it is out of reach.
+// The first change after the second, or the last one up to it, that has a wanted type on its far
+// side; none if it is out of reach.
 pub(crate) fn nearest_turn<'a>(
     zone: &'a TimeZone,
     second: i64,
-    forward: bool,
-    standard: bool,
-    local: &LocalTimeType,
+    side: Side,
+    wanted: Wanted<'_>,
 ) -> Option<HeldChange<'a>>
-    ensures { MatchOption (option_map change_held result)
-        (HasNoTurn forward (TypeAt zone.now) (IsWanted standard local.now) second)
-        (IsNearestTurn forward (TypeAt zone.now) (IsWanted standard local.now) second) }
+    ensures { IsTurnFound (is_forward side) zone.now (IsWanted wanted.entry) second
+        (option_map change_held result) }
 {
     let mut reached = second;
     let mut left = REACH;
     'changes: while left > 0 {
-        let Some(change) = nearest_change(zone, reached, forward) else {
+        let Some(change) = nearest_change(zone, reached, side) else {
             return None;
         };
-        let (at, found) = far_side(change, forward);
-        if is_wanted(found, standard, local) {
+        if is_wanted(far_type(change, side), wanted) {
             return Some(change);
         }
-        reached = at;
+        reached = far_second(change, side);
         left -= 1;
     }
     None
 }
 
 // The first change after the second, or the last one up to it.
-fn nearest_change(zone: &TimeZone, second: i64, forward: bool) -> Option<HeldChange<'_>>
-    ensures { IsNearest forward (TypeAt zone.now) (IsBeyond forward second)
+fn nearest_change(zone: &TimeZone, second: i64, side: Side) -> Option<HeldChange<'_>>
+    ensures { IsNearest (is_forward side) (TypeAt zone.now) (IsBeyond (is_forward side) second)
         (option_map change_held result) }
 {
-    if forward {
-        zone.next_held_change(second)
-    } else {
-        zone.previous_held_change(second)
+    match side {
+        Side::Before => zone.previous_held_change(second),
+        Side::After => zone.next_held_change(second),
     }
 }
 
-// The nearest second on the far side of the change, and the type there.
-fn far_side<'a>(change: HeldChange<'a>, forward: bool) -> (i64, &'a LocalTimeType)
+// The nearest second on the far side of the change.
+fn far_second(change: HeldChange<'_>, side: Side) -> i64
     requires { FitsSigned w64 (change.at -ℤ pos 1) }
-    ensures second { result.0 ≡ far_second forward change.entry.at }
-    ensures far { result.1.now ≡ far_type forward (change_held change.entry) }
+    ensures { result ≡ far_second (is_forward side) change.entry.at }
 {
-    if forward {
-        (change.at, change.after)
-    } else {
-        (change.at - 1, change.before)
+    match side {
+        Side::Before => change.at - 1,
+        Side::After => change.at,
     }
 }
 
-// Whether the type has no DST flag, or is that one.
-fn is_wanted(found: &LocalTimeType, standard: bool, local: &LocalTimeType) -> bool
-    ensures { IsTrue result ↔ IsWanted standard local.now found.now }
+// The type on the far side of the change.
+fn far_type<'a>(change: HeldChange<'a>, side: Side) -> &'a LocalTimeType
+    ensures { result.now ≡ far_type (is_forward side) (change_held change.entry) }
 {
-    if standard {
-        !found.is_dst()
-    } else {
-        *found == *local
+    match side {
+        Side::Before => change.before,
+        Side::After => change.after,
+    }
+}
+
+// The offset on the far side of the change, if there is one.
+#[tactic(auto, using(crate::proofs::Words::fitted))]
+fn far_offset(change: Option<HeldChange<'_>>, side: Side) -> Option<i32>
+    ensures { result ≡ option_map (λ c. (far_type (is_forward side) c).offset)
+        (option_map change_held change.entry) }
+{
+    match change {
+        Some(change) => Some(far_type(change, side).offset()),
+        None => None,
+    }
+}
+
+fn is_wanted(found: &LocalTimeType, wanted: Wanted<'_>) -> bool
+    ensures { IsTrue result ↔ IsWanted wanted.entry found.now }
+{
+    match wanted {
+        Wanted::Standard => !found.is_dst(),
+        Wanted::Same(local) => *found == *local,
     }
 }

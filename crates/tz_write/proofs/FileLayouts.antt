@@ -1,16 +1,20 @@
 -- If any designations have the names of the types at places that a byte can name, those that are laid have them: each text that is put in
 -- has bytes of its own in any others that have the texts.
-use Rattle.std.proofs.{Common.{length-take}, lemmas.List.{take-append-drop}}
-use Rattle.tz_base.proofs.RunLaws.{all_of}
-use Rattle.tz_write.proofs.{
-  TextBytes.{names_are, no_zeros},
-  Words.{All, All-cons, All-nil, All-weaker, AreNamesIn, AreNotPlacedBefore, AreShortest, Bool, Decides, Decides-by_and, Decides-eqb, HasNoZero, HasPlace},
-  Words.{HavePlaces, IsNameOrNone, List, LocalType, MatchOption, Option, StandsAt, [], ap, append-nil, append_assoc, arith, before_last, before_zero, begins},
-  Words.{cases_lt, drop, drop-append_seam, drop_more, ends, ends_is, eq-eqb, get_or, get_or_at, inl, inr, laid, length, length-append, list_all, name_of},
-  Words.{name_or_none, nat_eq, nat_lt, nat_tests, nil_from_length, place_of, refl, starts_is, starts_with, suc, sym, take, true, with_text, with_text_of},
-  Words.{with_texts, zero, ℕ, ◌&&◌, ◌*◌, ◌++◌, ◌+◌, ◌<◌, ◌∷◌, ◌≡◌, ◌≤◌, ◌⊎◌},
+use Rattle.std.proofs.{
+  Common.length-take,
+  Math.Seq.drop-append_seam,
+  lemmas.{Bool.{Decides.Decides-by_and, eq-eqb}, List.{Elements.All-weaker, get_or_at, take-append-drop}, Slice.Eq.{ends_is, starts_is}},
 }
-use Rattle.tz_write.specs.FileLayouts.{ArePlaced, In_order, IsFirstPlaced, IsLaid, IsPlacedFrom, laid_from, text_at}
+use Rattle.tz_base.proofs.RunLaws.{all_of}
+use Rattle.tz_info.proofs.Words.{Decides-eqb, StandsAt, cases_lt, nat_eq, nat_lt, nil_from_length, starts_with}
+use Rattle.tz_write.{
+  proofs.Words.{[], All, All-cons, All-nil, AreNamesIn, AreNotPlacedBefore, AreShortest, Bool, Decides, HasNoZero, HasPlace, HavePlaces},
+  proofs.Words.{IsNameOrNone, List, LocalType, MatchOption, Option, ap, append-nil, append_assoc, arith, before_zero, begins, drop, drop_more},
+  proofs.Words.{get_or, inl, inr, length, length-append, list_all, name_of, name_or_none, nat_tests, place_of, refl, suc, sym, take, true},
+  proofs.Words.{with_text_of, zero, ℕ, ◌&&◌, ◌*◌, ◌++◌, ◌+◌, ◌<◌, ◌∷◌, ◌≡◌, ◌≤◌, ◌⊎◌},
+  proofs.TextBytes.{names_are, no_zeros},
+  specs.FileLayouts.{ArePlaced, In_order, IsFirstPlaced, IsLaid, IsPlacedFrom, before_last, ends, laid, laid_from, text_at, with_text, with_texts},
+}
 use borrow.Author.Count.{below_more}
 
 -- ---- where a text is
@@ -316,7 +320,7 @@ module _ (others : List ℕ) where
   greatest d t [] = (0, omega arith, grind arith)
   greatest d t (u ∷ us) =
       let (place, inside, above) = greatest d u us in let m = get_or (u ∷ us) place d in elim (cases_lt (key_in m) (key_in t)) [
-        | inl l ↦ (0, omega arith, All-cons (IsBelow t) t (u ∷ us) (omega arith) (All-weaker (IsBelow m) (IsBelow t) (λ x k. omega arith) (u ∷ us) above))
+        | inl l ↦ (0, omega arith, All-cons (IsBelow t) t (u ∷ us) (omega arith) (λ i e k. let low = above i e k in omega arith))
         | inr k ↦ (suc place, omega arith, All-cons (IsBelow m) t (u ∷ us) k above)
       ]
 

@@ -1,23 +1,31 @@
 -- What is written of a zone.
-use Rattle.std.proofs.{Math.Nat.{mul-div_cancel}, lemmas.Int.{to_z-of_z}, lemmas.List.{get_or-map}}
-use Rattle.tz_base.specs.Grammar.{At, Byte, Check, Ended, Exact, Grammar, Here, Marked, Nothing, Number, Refused, Rest, Run, Then}
-use Rattle.tz_info.specs.declared.file.header.{Place.TheVariants.{First, Second}, Version.TheVariants.{One, Three, Two}}
-use Rattle.tz_info.proofs.Words.{AreRecords, FitsSigned, SpellLeapSeconds, take_more, w32, w64}
-use Rattle.tz_write.proofs.{
-  FileLayouts.{AreLaid, has_text, laid_of, laid_size, no_zero},
-  RuleTexts.{extensions, rule_named, rule_text, text_are, text_begins, text_some},
-  TextBytes.{AreTextBytes, begins_bare, ends_bare, limits, no_zeros},
-  Words.{All, All-cons, All-more, All-nil, All-tail, AreBytes, AreNamesIn, Bool, Counts, CountsAgree, FilePieces, Fits-of_z, HasCounts, HasPieces, HasPlace},
-  Words.{HasTimeOf64Bits, HavePlaces, Header, IsAscii-from_all, IsEntry, IsFooter, IsNamedIn, IsRoomOf, IsRuleOrNone, IsSound, IsType, IsTzFile},
-  Words.{IsUtf8-from_ascii, IsWritable, LeapSecond, List, LocalType, None, Option, Parts, Place, Room, SaysRule, Some, SpellTransitions, SpellTypes, Spells},
-  Words.{SpellsLeapSecond, Transition, TransitionRule, Version, Zone, [], after_first_block, ap, arith, be_u32, block, both_ways, counts_bytes, counts_test},
-  Words.{false, file, file_bytes, first_half, first_version, flat_map, flat_map_more, from_be_bytes-to_be_bytes_4, from_be_bytes-to_be_bytes_8, get_or},
-  Words.{get_or_append_left, header, header_bytes, index_bytes, inl, inr, later_pieces, later_version, leap_bytes, length, length-append, length-map, magic},
-  Words.{number_bytes, refl, second_half, signed, signed_bytes, six_counts, subst, suc, sym, take, time_bytes, true, type_bytes, tzif, version, ℕ, ℤ, ◌*◌},
-  Words.{◌++◌, ◌+◌, ◌<◌, ◌^◌, ◌↔◌, ◌∙◌, ◌∷◌, ◌≡◌, ◌≢◌, ◌≤◌, ◌⊎◌},
+use Rattle.std.proofs.{
+  Math.{Facts.Fits-of_z, Nat.mul-div_cancel},
+  lemmas.{Int.to_z-of_z, List.{flat_map_more, get_or-map, get_or_append_left}, Nat.{from_be_bytes-to_be_bytes_4, from_be_bytes-to_be_bytes_8}},
+  lemmas.Str.{Ascii.IsAscii-from_all, IsUtf8-from_ascii},
 }
-use Rattle.tz_write.specs.FileBytes.{block_bytes, footer_bytes, least_block, least_counts, unused, zone_counts, zone_parts}
-use Rattle.tz_write.specs.WrittenFiles.{HaveVersion, IsFooterText, IsInNoFile, IsSpellableOrNone, IsWrittenFile, NeedsExtensions}
+use Rattle.tz_base.specs.Grammar.{At, Byte, Check, Ended, Exact, Grammar, Here, Marked, Nothing, Number, Refused, Rest, Run, Then}
+use Rattle.tz_info.{
+  proofs.Words.{AreRecords, FilePieces, FitsSigned, IsFooter, IsTzFile, SaysRule, SpellLeapSeconds, SpellsLeapSecond, length-map, take_more, w32},
+  proofs.Words.w64,
+  specs.declared.file.header.{Counts.Counts, Header.Header, Place.{TheVariants.{First, Second}, Place}, Version.TheVariants.{One, Three, Two}},
+  specs.declared.zone.lists.{leap_second.LeapSecond.LeapSecond, transition.Transition.Transition},
+  specs.{FileHeaders.CountsAgree, FilePieces.later_pieces},
+}
+use Rattle.tz_write.{
+  proofs.Words.{[], All, All-cons, All-more, All-nil, All-tail, AreNamesIn, Bool, HasPieces, HasPlace, HasTimeOf64Bits, HavePlaces, IsEntry},
+  proofs.Words.{IsNamedIn, IsRuleOrNone, IsType, List, LocalType, None, Option, Parts, Room, Some, SpellTransitions, SpellTypes, Spells},
+  proofs.Words.{TransitionRule, Version, Zone, after_first_block, ap, arith, be_u32, block, both_ways, counts_bytes, counts_test, false, file},
+  proofs.Words.{file_bytes, first_half, first_version, flat_map, get_or, header, header_bytes, index_bytes, inl, inr, later_version, leap_bytes},
+  proofs.Words.{length, length-append, magic, number_bytes, refl, second_half, signed, signed_bytes, six_counts, subst, suc, sym, take, time_bytes},
+  proofs.Words.{true, type_bytes, tzif, version, ℕ, ℤ, ◌*◌, ◌++◌, ◌+◌, ◌<◌, ◌^◌, ◌↔◌, ◌∙◌, ◌∷◌, ◌≡◌, ◌≢◌, ◌≤◌, ◌⊎◌},
+  proofs.FileLayouts.{AreLaid, has_text, laid_of, laid_size, no_zero},
+  proofs.RuleTexts.{extensions, rule_named, rule_text, text_are, text_begins, text_some},
+  proofs.TextBytes.{AreTextBytes, begins_bare, ends_bare, limits, no_zeros},
+  specs.WrittenFiles.{AreBytes, HasCounts, HaveVersion, IsFooterText, IsInNoFile, IsSound, IsSpellableOrNone, IsWritable, IsWrittenFile},
+  specs.WrittenFiles.NeedsExtensions,
+  specs.{FileBytes.{block_bytes, footer_bytes, least_block, least_counts, unused, zone_counts, zone_parts}, Steps.FileParts.IsRoomOf},
+}
 
 -- a count
 number_is : (n : ℕ) (rest : List ℕ) → n < 2 ^ 32 → Spells be_u32 (number_bytes n ++ rest) n rest
@@ -65,17 +73,19 @@ types_are designations types p h = grind (arith, records_are, signed_32, has_tex
 
 -- ---- items appended one after another
 -- the pieces of the items are appended, and each is sound
-abbrev pub ArePushed : {X : Type 0} → (X → List ℕ) → (X → Type 0) → List ℕ → List ℕ → List X → Type 0
-ArePushed f P old now xs = (now ≡ old ++ flat_map f xs) × All P xs
+pub record ArePushed {X : Type 0} (f : X → List ℕ) (P : X → Type 0) (old now : List ℕ) (xs : List X) : Type 0 where
+  pub appended : now ≡ old ++ flat_map f xs
+  pub sound : All P xs
 
 -- the item t comes next
-module _ {X : Type 0} {now later : List ℕ} {i : ℕ} {t : X} (f : X → List ℕ) (old : List ℕ) (xs : List X) (d : X) (l : i < length xs)
-    (is : t ≡ get_or xs i d) where
-  pub flat_map_next : now ≡ old ++ flat_map f (take i xs) → later ≡ now ++ f t → later ≡ old ++ flat_map f (take (i + 1) xs)
-  flat_map_next e g = grind (arith, take_more, flat_map_more)
+module _ {X : Type 0} {now later : List ℕ} {i : ℕ} {t : X} (xs : List X) (d : X) (l : i < length xs) (is : t ≡ get_or xs i d) where
+  pub flat_map_next : (f : X → List ℕ) (old : List ℕ) → now ≡ old ++ flat_map f (take i xs) → later ≡ now ++ f t
+      → later ≡ old ++ flat_map f (take (i + 1) xs)
+  flat_map_next f old e g = grind (arith, take_more, flat_map_more)
 
-  pub pushed_next : (P : X → Type 0) → ArePushed f P old now (take i xs) → later ≡ now ++ f t → P t → ArePushed f P old later (take (i + 1) xs)
-  pushed_next P (e, all) g p = (flat_map_next e g, All-more P xs i d l all (rw is at p))
+  pub pushed_next : {f : X → List ℕ} {P : X → Type 0} {old : List ℕ} → ArePushed f P old now (take i xs) → later ≡ now ++ f t → P t
+      → ArePushed f P old later (take (i + 1) xs)
+  pushed_next {P = P} h g p = record { appended = flat_map_next _ _ h.appended g; sound = All-more P xs i d l h.sound (rw is at p) }
 
 -- ---- headers
 -- counts of four bytes
@@ -113,18 +123,26 @@ record IsPlain (text : List ℕ) : Type 0 where
   no_colon : get_or text 0 0 ≢ 58
 
 ascii : (text : List ℕ) → AreTextBytes text → All (λ b. b < 128) (text ++ 10 ∷ [])
-ascii [] h = All-cons (λ b. b < 128) 10 [] (omega arith) (All-nil (λ b. b < 128))
+ascii [] h = grind (arith, All-cons)
 ascii (b ∷ bs) h = All-cons (λ b. b < 128) b (bs ++ 10 ∷ []) (limits b h.0).1 (ascii bs h.1)
 
 footer_is : (extended : Bool) (text : List ℕ) (rule : Option TransitionRule) → IsPlain text → SaysRule extended text rule
     → IsFooter extended (footer_bytes text) rule
-footer_is extended text rule p says = let first = begins_bare text p.bytes in let last = ends_bare text p.bytes in record {
+footer_is extended text rule p says = record {
   text = text;
   has_text = record {
     utf8 = IsUtf8-from_ascii (footer_bytes text)
         (IsAscii-from_all (footer_bytes text) (All-cons (λ b. b < 128) 10 (text ++ 10 ∷ []) (omega arith) (ascii text p.bytes)));
     newlines = record { after_first = text ++ 10 ∷ []; before_last = 10 ∷ text; starts = refl; ends = refl };
-    trimmed = record { before = 10 ∷ []; after = 10 ∷ []; whole = refl; space_before = (refl, tt); space_after = (refl, tt); first = first; last = last };
+    trimmed = record {
+      before = 10 ∷ [];
+      after = 10 ∷ [];
+      whole = refl;
+      space_before = (refl, tt);
+      space_after = (refl, tt);
+      first = begins_bare text p.bytes;
+      last = ends_bare text p.bytes;
+    };
   };
   no_colon = p.no_colon;
   no_zero = no_zeros text p.bytes;
@@ -206,11 +224,10 @@ Values g x = Unit {0}
 
 values : {X : Type 0} (g : Grammar X) (bytes : List ℕ) (x : X) (rest : List ℕ) → Spells g bytes x rest → AreBytes bytes → Values g x × AreBytes rest
 values (Nothing v) bytes x rest h b = (h.0, rw h.1 at b)
-values (Then g f) bytes y rest (x, after, p, q) b = let (v, c) = values g bytes x after p b in let (w, d) = values (f x) after y rest q c in ((x, v, w), d)
-values (Marked tag g h) bytes x rest (inl (after, is, p)) b = let (v, c) = values g after x rest p (behind (tag ∷ []) after (rw is at b)) in (inl v, c)
-values (Marked tag g h) bytes x rest (inr (_, p)) b = let (v, c) = values h bytes x rest p b in (inr v, c)
-values (Ended g h) bytes x rest (inl (_, p)) b = let (v, c) = values g bytes x rest p b in (inl v, c)
-values (Ended g h) bytes x rest (inr (_, p)) b = let (v, c) = values h bytes x rest p b in (inr v, c)
+values (Then g f) bytes y rest (x, after, p, q) b = let v = values g bytes x after p b in let w = values (f x) after y rest q v.1 in ((x, v.0, w.0), w.1)
+values (Marked tag g h) bytes x rest (inl (after, is, p)) b = grind (arith, values g after x rest p (behind (tag ∷ []) after (rw is at b)))
+values (Marked tag g h) bytes x rest (inr (_, p)) b = grind (arith, values h bytes x rest p b)
+values (Ended g h) bytes x rest p b = grind (arith, values g bytes x rest, values h bytes x rest)
 values (Byte tag) bytes x rest h b = (tt, behind (tag ∷ []) rest (rw h at b))
 values (Run p) bytes x rest h b = (tt, behind x rest (rw h.whole at b))
 values (Number max) bytes x rest h b = (tt, behind h.digits rest (rw h.whole at b))
@@ -218,7 +235,7 @@ values (Exact n) bytes x rest h b = let c = rw h.0 at b in ((front x rest c, h.1
 values Rest bytes x rest h b = (rw h.0 b, rw h.1 (All-nil IsByte))
 values (Refused refusal) bytes x rest h b = absurd h
 values (Check P test refusal v) bytes x rest h b = ((h.0, h.1), rw h.2 at b)
-values (Here f) bytes x rest h b = let (v, c) = values (f bytes) bytes x rest h b in ((bytes, v), c)
+values (Here f) bytes x rest h b = let v = values (f bytes) bytes x rest h b in ((bytes, v.0), v.1)
 values (At place g) bytes x rest h b = values g bytes x rest h b
 
 -- ---- counts

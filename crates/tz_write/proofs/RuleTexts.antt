@@ -1,21 +1,25 @@
 -- The text of a rule, and of a zone: it spells the rule, or gives the zone, and each other one is longer.
-use Rattle.tz_base.{proofs.RunLaws.{all_of}, specs.Grammar.{Number, Run, Then}}
-use Rattle.tz_info.specs.declared.rule.day.DayForm.TheVariants.{Julian0, Julian1, MonthWeekday}
-use Rattle.tz_write.proofs.{
-  TextBytes.{AreTextBytes, Begins, Best, Front, Writes, all_others, first_optional, front_cons, front_longer, front_nothing, front_optional, front_then},
-  TextBytes.{front_unless, front_whole, names_are, number_begins, number_front, number_writes, pair_front, pair_writes, pairs_over, pairs_rest, trimmed_text},
-  TextBytes.{two_digits, writes_byte, writes_check, writes_colon, writes_first, writes_here, writes_last, writes_mark, writes_more, writes_nothing},
-  TextBytes.{writes_optional, writes_other, writes_then},
-  Words.{AllOf, Alternate, AreInPairs, AreTimesOf, Bool, CanBeSpelled, DayForm, DayTime, Decides-int_eq, HasZoneText, IsAlternateRule, IsName, IsNamed},
-  Words.{IsNoPosixZone, IsOfText, IsPlainTime, IsPosixZone, IsRule, IsRuleDay, IsRuleOrNone, IsSpace, IsTextTime, IsTrimmed, IsTzText, IsWithinDay},
-  Words.{IsWrittenText, IsWrittenZone, List, LocalType, None, NoneFirst, OnErr, Option, Result, Some, Spells, TransitionRule, Without, Zone, [], and_from},
-  Words.{and_parts, ap, append-nil, append_assoc, arith, both_ways, clock_max, colon, comma, cond, false, greater, inl, inr, int_eq, ints, is_digit, is_letter},
-  Words.{is_name_byte, is_not_greater, le-ltb, length, length-append, less, list_all, minus, name_of, name_or_none, named_type, nat_tests, neg_ℤ, not},
-  Words.{offset_fits, pos, refl, slash, spelled_clock, spelled_date, spelled_day, spelled_dst_offset, spelled_name, spelled_offset, spelled_pair, spelled_rule},
-  Words.{spelled_time, time_after, time_limit, true, unsigned_abs, zone_of_rule, ℕ, ℤ, ◌%◌, ◌&&◌, ◌*◌, ◌++◌, ◌+ℤ◌, ◌+◌, ◌/◌, ◌<ℤ◌, ◌<◌, ◌==◌, ◌↔◌, ◌∙◌, ◌∷◌},
-  Words.{◌≡◌, ◌≤◌, ◌⊎◌},
+use Rattle.tz_base.{proofs.RunLaws.all_of, specs.{Grammar.{Grammar, Number, Run, Then}, Names.IsName}}
+use Rattle.tz_info.{
+  proofs.Words.{Alternate, Decides-int_eq, IsAlternateRule, IsPosixZone, IsRuleDay, IsSpace, IsWithinDay, int_eq, is_letter},
+  proofs.Words.{is_not_greater, named_type, neg_ℤ, time_limit, zone_of_rule},
+  proofs.ForCallers.offset_fits,
+  specs.{TzGrammar.{clock_max, minus}, declared.rule.day.{DayForm.{TheVariants.{Julian0, Julian1, MonthWeekday}, DayForm}, DayTime.DayTime}},
 }
-use Rattle.tz_write.specs.Steps.TextPieces.{is_negative, is_positive, spelled_hands, spelled_minutes, spelled_seconds, spelled_signed}
+use Rattle.tz_write.{
+  proofs.TextBytes.{AreTextBytes, Begins, Best, Front, Writes, all_others, first_optional, front_cons, front_longer, front_nothing, front_optional},
+  proofs.TextBytes.{front_then, front_unless, front_whole, names_are, number_begins, number_front, number_writes, pair_front, pair_writes},
+  proofs.TextBytes.{pairs_over, pairs_rest, trimmed_text, two_digits, writes_byte, writes_check, writes_colon, writes_first, writes_here},
+  proofs.TextBytes.{writes_last, writes_mark, writes_more, writes_nothing, writes_optional, writes_other, writes_then},
+  proofs.Words.{[], AllOf, AreInPairs, Bool, IsRule, IsRuleOrNone, IsTrimmed, IsTzText, IsWrittenText, IsWrittenZone, List, LocalType, None},
+  proofs.Words.{NoneFirst, OnErr, Option, Result, Some, Spells, TransitionRule, Without, Zone, ap, append-nil, append_assoc, arith},
+  proofs.Words.{both_ways, colon, comma, cond, false, greater, inl, inr, ints, is_digit, is_name_byte, le-ltb, length, length-append, less, list_all},
+  proofs.Words.{name_of, name_or_none, nat_tests, not, pos, refl, slash, spelled_pair, spelled_rule, true, unsigned_abs, ℕ, ℤ, ◌%◌, ◌&&◌, ◌*◌, ◌++◌},
+  proofs.Words.{◌+ℤ◌, ◌+◌, ◌/◌, ◌<ℤ◌, ◌<◌, ◌==◌, ◌↔◌, ◌∙◌, ◌∷◌, ◌≡◌, ◌≤◌, ◌⊎◌},
+  specs.Steps.TextPieces.{is_negative, is_positive, spelled_clock, spelled_date, spelled_day, spelled_dst_offset, spelled_hands, spelled_minutes},
+  specs.Steps.TextPieces.{spelled_name, spelled_offset, spelled_seconds, spelled_signed, spelled_time, time_after},
+  specs.WrittenTexts.{AreTimesOf, CanBeSpelled, HasZoneText, IsNamed, IsNoPosixZone, IsOfText, IsPlainTime, IsTextTime},
+}
 use Rattle.tz_info.specs.TzGrammar as tz
 use Rattle.tz_info.specs.declared.rule.transition_rule.TransitionRule.TheVariants as rules
 
@@ -91,30 +95,32 @@ module _ (rest : List ℕ) (stops : Stops rest) where
       signed_writes _ _ time l (grind (arith, nat_tests)) extended (λ m. m) (is_negative time) may (grind (arith, ints))
 
 -- ---- the front of bytes that spell the same
-seconds_front : {bytes rest : List ℕ} (s : ℕ) → Spells tz.seconds bytes s rest → Front (spelled_seconds s) bytes rest
+abbrev Fronts : {X : Type 0} → Grammar X → X → List ℕ → Type 0
+Fronts g x text = (bytes rest : List ℕ) → Spells g bytes x rest → Front text bytes rest
+
+seconds_front : (s : ℕ) → Fronts tz.seconds s (spelled_seconds s)
 unfolding tz.seconds
-seconds_front s h = front_optional colon 0 (Number clock_max) (s == 0) (λ _. pair_front) (λ z. rw z refl) h
+seconds_front s _ _ h = front_optional colon 0 (Number clock_max) (s == 0) (λ _. pair_front) (λ z. rw z refl) h
 
 minutes_given : {bytes rest : List ℕ} (after : List ℕ) (m s : ℕ) → bytes ≡ colon ∷ after → Spells tz.minutes_seconds after (m, s) rest
     → Front (spelled_pair m ++ spelled_seconds s) bytes rest
 unfolding tz.minutes_seconds
 minutes_given after m s e (x, behind, minutes, (y, end, seconds, (value, same))) =
-    grind (arith, front_then (pair_front e minutes) (seconds_front y seconds))
+    grind (arith, front_then (pair_front e minutes) (seconds_front y _ _ seconds))
 
-minutes_front : {bytes rest : List ℕ} (m s : ℕ) → Spells tz.optional_minutes bytes (m, s) rest → Front (spelled_minutes m s) bytes rest
+minutes_front : (m s : ℕ) → Fronts tz.optional_minutes (m, s) (spelled_minutes m s)
 unfolding tz.optional_minutes
-minutes_front m s h =
+minutes_front m s _ _ h =
     front_optional colon _ tz.minutes_seconds ((m == 0) && (s == 0)) (λ after is p. minutes_given _ m s is p) (grind (arith, nat_tests)) h
 
-hours_front : {bytes rest : List ℕ} (h m s : ℕ) → Spells tz.hours_minutes_seconds bytes (h, m, s) rest → Front (spelled_hands h m s) bytes rest
+hours_front : (h m s : ℕ) → Fronts tz.hours_minutes_seconds (h, m, s) (spelled_hands h m s)
 unfolding tz.hours_minutes_seconds
-hours_front h m s (x, after, hours, ((y, z), end, others, (value, same))) =
-    grind (arith, front_then (number_front {max = clock_max} (omega arith) hours) (minutes_front y z others))
+hours_front h m s _ _ (x, after, hours, ((y, z), end, others, (value, same))) =
+    grind (arith, front_then (number_front {max = clock_max} (omega arith) hours) (minutes_front y z _ _ others))
 
-duration_front : {bytes rest : List ℕ} (limit : ℕ) (negative : Bool) (z : ℤ) → Spells (tz.duration limit negative) bytes z rest
-    → Front (spelled_clock (unsigned_abs z)) bytes rest
+duration_front : (limit : ℕ) (negative : Bool) (z : ℤ) → Fronts (tz.duration limit negative) z (spelled_clock (unsigned_abs z))
 unfolding spelled_clock tz.duration
-duration_front limit negative z h = grind (arith, ints, hours_front)
+duration_front limit negative z _ _ h = grind (arith, ints, hours_front)
 
 -- there is a minus if one is needed, and otherwise nothing
 sign_front : {text bytes unsigned rest : List ℕ} (signs needed negative : Bool) → Spells (tz.time_sign signs) bytes negative unsigned
@@ -122,15 +128,15 @@ sign_front : {text bytes unsigned rest : List ℕ} (signs needed negative : Bool
 unfolding tz.time_sign tz.sign
 sign_front signs needed negative h need f = grind (arith, both_ways, front_cons, front_longer)
 
-offset_front : {bytes rest : List ℕ} (east : ℤ) → Spells tz.offset bytes east rest → Front (spelled_offset east) bytes rest
+offset_front : (east : ℤ) → Fronts tz.offset east (spelled_offset east)
 unfolding spelled_offset tz.offset tz.time_sign tz.duration
-offset_front east (negative, unsigned, sign, d) =
-    sign_front true (is_positive east) negative sign (let v = d.3.1 in grind (arith, ints)) (duration_front _ _ east d)
+offset_front east _ _ (negative, unsigned, sign, d) =
+    sign_front true (is_positive east) negative sign (let v = d.3.1 in grind (arith, ints)) (duration_front _ _ east _ _ d)
 
-time_front : {bytes rest : List ℕ} (extended : Bool) (time : ℤ) → Spells (tz.time extended) bytes time rest → Front (spelled_time time) bytes rest
+time_front : (extended : Bool) (time : ℤ) → Fronts (tz.time extended) time (spelled_time time)
 unfolding spelled_time tz.time tz.duration
-time_front extended time (negative, unsigned, sign, d) =
-    sign_front extended (is_negative time) negative sign (let v = d.3.1 in grind (arith, ints)) (duration_front _ _ time d)
+time_front extended time _ _ (negative, unsigned, sign, d) =
+    sign_front extended (is_negative time) negative sign (let v = d.3.1 in grind (arith, ints)) (duration_front _ _ time _ _ d)
 
 -- a text without extensions has no other times
 time_plain : (bytes : List ℕ) (time : ℤ) (rest : List ℕ) → Spells (tz.time false) bytes time rest → IsPlainTime time
@@ -142,11 +148,11 @@ time_plain bytes time rest (negative, _, sign, ((h, m, s), _, _, ((a, b, c), val
 module _ (p : ℕ → Bool) where
   all_from : (bs : List ℕ) → list_all p bs ≡ true → AllOf p bs
   all_from [] h = tt
-  all_from (b ∷ bs) h = let k = and_parts (p b) (list_all p bs) h in (k.0, all_from bs k.1)
+  all_from (b ∷ bs) h = grind (arith, nat_tests, all_from bs)
 
   all_to : (bs : List ℕ) → AllOf p bs → list_all p bs ≡ true
   all_to [] h = refl
-  all_to (b ∷ bs) h = and_from (p b) (list_all p bs) h.0 (all_to bs h.1)
+  all_to (b ∷ bs) h = grind (arith, nat_tests, all_to bs)
 
 -- letters are above `<`, which comes in front of other names
 letters_begin : (bs rest : List ℕ) → 0 < length bs → AllOf is_letter bs → Begins 65 122 (bs ++ rest)
@@ -172,11 +178,11 @@ name_writes name rest h none = let all : AllOf is_name_byte name = all_of is_nam
     (writes_then (run_writes _ name _ (all_others is_name_byte is_not_greater (λ b h. grind (arith, nat_tests)) name all) all refl)
     (writes_byte refl (writes_nothing refl))))
 
-name_front : {bytes rest : List ℕ} (name : List ℕ) → Spells tz.name bytes name rest → Front (spelled_name name) bytes rest
+name_front : (name : List ℕ) → Fronts tz.name name (spelled_name name)
 unfolding tz.name tz.quoted
-name_front name (inl (_, is, (text, _, run, (_, end, close, (value, same))))) = rw (value, ← same)
+name_front name _ _ (inl (_, is, (text, _, run, (_, end, close, (value, same))))) = rw (value, ← same)
     (record { front = quoted text; whole = grind (arith, append_assoc); best = λ _. grind (arith, length-append) })
-name_front name (inr (_, run)) = grind (arith, all_to)
+name_front name _ _ (inr (_, run)) = grind (arith, all_to)
 
 -- a name's text begins with a letter or `<`
 name_begins : (name rest : List ℕ) → IsName name → Begins 60 122 (spelled_name name ++ rest)
@@ -196,13 +202,13 @@ date_writes (MonthWeekday m w d) rest h none =
     (writes_here (writes_then (number_writes (omega arith) refl (omega arith))
     (writes_byte refl (writes_here (writes_last (number_writes (omega arith) none (omega arith)) (h, refl, refl)))))))))
 
-date_front : {bytes rest : List ℕ} (form : DayForm) → Spells tz.date bytes form rest → Front (spelled_date form) bytes rest
+date_front : (form : DayForm) → Fronts tz.date form (spelled_date form)
 unfolding tz.date tz.month_date tz.julian_date tz.numbered_day tz.checked_day
-date_front form (inl (_, is, (_, _, month, (_, _, first, (_, _, week, (_, _, second, (_, _, weekday, (_, value, same)))))))) =
+date_front form _ _ (inl (_, is, (_, _, month, (_, _, first, (_, _, week, (_, _, second, (_, _, weekday, (_, value, same)))))))) =
     rw (value, ← same) (front_cons is (front_then (number_front (omega arith) month) (front_cons first
     (front_then (number_front (omega arith) week) (front_cons second (number_front (omega arith) weekday))))))
-date_front form (inr (_, inl (_, is, (_, _, number, (_, value, same))))) = rw (value, ← same) (front_cons is (number_front (omega arith) number))
-date_front form (inr (_, inr (_, (_, _, number, (_, value, same))))) = rw (value, ← same) (number_front (omega arith) number)
+date_front form _ _ (inr (_, inl (_, is, (_, _, number, (_, value, same))))) = rw (value, ← same) (front_cons is (number_front (omega arith) number))
+date_front form _ _ (inr (_, inr (_, (_, _, number, (_, value, same))))) = rw (value, ← same) (number_front (omega arith) number)
 
 -- ---- times after dates, and days
 -- what is written before a rest that ends it
@@ -217,14 +223,14 @@ module _ (rest : List ℕ) (stops : Stops rest) (extended : Bool) where
   day_writes d h t = writes_then (date_writes d.day _ h (grind (arith, nat_tests)))
       (writes_last (after_writes d.time t) (refl, refl))
 
-after_front : {bytes rest : List ℕ} (extended : Bool) (time : ℤ) → Spells (tz.optional_time extended) bytes time rest → Front (time_after time) bytes rest
+after_front : (extended : Bool) (time : ℤ) → Fronts (tz.optional_time extended) time (time_after time)
 unfolding tz.optional_time
-after_front extended time h =
-    front_optional slash _ (tz.time extended) _ (λ after is p. front_cons is (time_front extended time p)) ((Decides-int_eq time (pos 7_200)).1) h
+after_front extended time _ _ h =
+    front_optional slash _ (tz.time extended) _ (λ after is p. front_cons is (time_front extended time _ _ p)) ((Decides-int_eq time (pos 7_200)).1) h
 
-day_front : {bytes rest : List ℕ} (extended : Bool) (d : DayTime) → Spells (tz.day extended) bytes d rest → Front (spelled_day d) bytes rest
+day_front : (extended : Bool) (d : DayTime) → Fronts (tz.day extended) d (spelled_day d)
 unfolding tz.day
-day_front extended d h = grind (arith, front_then, date_front, after_front)
+day_front extended d _ _ h = grind (arith, front_then, date_front, after_front)
 
 day_plain : (bytes : List ℕ) (d : DayTime) (rest : List ℕ) → Spells (tz.day false) bytes d rest → IsPlainTime d.time
 unfolding tz.day tz.optional_time
@@ -264,7 +270,7 @@ unfolding tz.text tz.rule tz.fixed tz.alternate tz.named tz.days tz.end
 rule_read extended bytes rule (name, after, n, (east, end, o, inl (none, (t, _, (fits, is, _), (value, _))))) = rw (value, is) (record {
   named = ((name, assumption), offset_fits after east end o);
   plain = λ _. tt;
-  best = front_whole (front_then (name_front _ n) (rw none at (offset_front _ o)));
+  best = front_whole (front_then (name_front _ _ _ n) (rw none at (offset_front _ _ _ o)));
 })
 rule_read extended bytes rule (name, after, n, (east, end, o, inr (_, (dst_name, at_dst, d, (dst_east, at_days, f, (days, last, said, ends)))))) =
     let (start, at_comma, p, (_, at_end, c, (stop, fin, q, (both, same)))) = said in
@@ -273,9 +279,9 @@ rule_read extended bytes rule (name, after, n, (east, end, o, inr (_, (dst_name,
     rw (value, s_is, t_is, both) (record {
       named = ((name, assumption), (dst_name, assumption));
       plain = λ e. (day_times _ _ _ _ p e, day_times _ _ _ _ q e);
-      best = front_whole (front_then (front_then (name_front _ n) (offset_front _ o)) (front_then (name_front _ d)
-          (front_then (dst_offset_front _ _ f) (front_cons refl (front_then (day_front _ _ p)
-          (front_cons c (rw (same ∙ none) at (day_front _ _ q))))))));
+      best = front_whole (front_then (front_then (name_front _ _ _ n) (offset_front _ _ _ o)) (front_then (name_front _ _ _ d)
+          (front_then (dst_offset_front _ _ f) (front_cons refl (front_then (day_front _ _ _ _ p)
+          (front_cons c (rw (same ∙ none) at (day_front _ _ _ _ q))))))));
     })
 
 pub rule_named : (extended : Bool) (bytes : List ℕ) (rule : TransitionRule) → IsTzText extended bytes rule → CanBeSpelled rule

@@ -1,12 +1,22 @@
 -- Texts that spell a value, made of their pieces, and what is not longer than what spells the same. Their bytes are letters, digits, and
 -- those of `+ - , . / : < >`: so they are ASCII, and have no white space.
-use Rattle.std.proofs.lemmas.{Fmt.{decimal-digits_value, decimal_nonempty, digits_decimal, digits_value-decimal}, Str.Parse.{IsNumeralModel, numerals_by_fold}}
-use Rattle.tz_base.specs.{Grammar.{At, Byte, Check, Ended, Grammar, Here, Marked, Nothing, Number, Optional, Then}, Refusals.{Refusal}, Tests.{Test}}
-use Rattle.tz_write.proofs.{
-  Words.{AllDigits, AllOf, AreInPairs, BeginsBare, Bool, EndsBare, HasNoZero, IsNumber, IsTrimmed, List, NoneFirst, Spells, TwoDigits, Without, [], append-nil},
-  Words.{append_assoc, arith, both_ways, cases_eq, colon, comma, cond, decimal, dot, false, greater, inl, inr, is_digit, is_name_byte, length, length-append},
-  Words.{less, nat_tests, not, refl, rules, slash, spelled_pair, sym, true, value_from, ℕ, ◌%◌, ◌&&◌, ◌++◌, ◌+◌, ◌/◌, ◌<◌, ◌==◌, ◌^◌, ◌||◌, ◌∷◌, ◌≡◌, ◌≢◌, ◌≤◌},
-  Words.{◌⊎◌},
+use Rattle.std.proofs.lemmas.{
+  Bool.cases_eq,
+  Fmt.{decimal-digits_value, decimal_nonempty, digits_decimal, digits_value-decimal},
+  Str.Parse.{IsNumeralModel, numerals_by_fold},
+}
+use Rattle.tz_base.specs.{
+  Fronts.{AllDigits, value_from},
+  Grammar.{At, Byte, Check, Ended, Grammar, Here, IsNumber, Marked, Nothing, Number, Optional, Then},
+  Refusals.Refusal,
+  Tests.Test,
+}
+use Rattle.tz_info.proofs.Words.{BeginsBare, EndsBare, ◌||◌}
+use Rattle.tz_write.{
+  proofs.Words.{[], AllOf, AreInPairs, Bool, HasNoZero, IsTrimmed, List, NoneFirst, Spells, Without, append-nil, append_assoc, arith, both_ways},
+  proofs.Words.{colon, comma, cond, decimal, dot, false, greater, inl, inr, is_digit, is_name_byte, length, length-append, less, nat_tests, not},
+  proofs.Words.{refl, rules, slash, spelled_pair, sym, true, ℕ, ◌%◌, ◌&&◌, ◌++◌, ◌+◌, ◌/◌, ◌<◌, ◌==◌, ◌^◌, ◌∷◌, ◌≡◌, ◌≢◌, ◌≤◌, ◌⊎◌},
+  specs.WrittenTexts.TwoDigits,
 }
 
 -- ---- the front of bytes compared with a text

@@ -1,4 +1,4 @@
-use Rattle.tz_saving.proofs.{AmountLaws.{of_two_found}, Words.{SFits, rules, to_z-of_z, w32}}
+use Rattle.tz_saving.proofs.{AmountLaws.of_two_found, Words.{SFits, rules, to_z-of_z, w32}}
 use Rattle.tz_saving.proofs.saving.amount_of_two.Goals as goal
 
 pub returns-else-early-late : goal.returns-else-early-late

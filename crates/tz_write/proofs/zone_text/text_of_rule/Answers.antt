@@ -1,4 +1,4 @@
-use Rattle.tz_write.proofs.{RuleTexts.{no_zone_text, written_zone}, Words.{rules}}
+use Rattle.tz_write.proofs.{RuleTexts.{no_zone_text, written_zone}, Words.rules}
 use Rattle.tz_write.proofs.zone_text.text_of_rule.Goals as goal
 
 pub returns-clause-written : goal.returns-clause-written

@@ -1,4 +1,4 @@
-use Rattle.tz_write.proofs.{FileWritten.{can_be_written, footer_spelled, no_file}, RuleTexts.{on_err}, Words.{arith}}
+use Rattle.tz_write.proofs.{FileWritten.{can_be_written, footer_spelled, no_file}, RuleTexts.on_err, Words.arith}
 use Rattle.tz_write.proofs.file.TimeZoneToTzData.to_tz_data.Goals as goal
 
 pub returns-in_default-clause-written : goal.returns-in_default-clause-written

@@ -1,4 +1,4 @@
-use Rattle.tz_write.proofs.{FileWritten.{flat_map_next}, Words.{arith, index_bytes}}
+use Rattle.tz_write.proofs.{FileWritten.flat_map_next, Words.{arith, index_bytes}}
 use Rattle.tz_write.proofs.file.contents.push_indexes.Goals as goal
 
 pub overflow_cast-index : goal.overflow_cast-index
@@ -8,5 +8,5 @@ overflow_cast-index c =
 
 pub loop-place-preserved : goal.loop-place-preserved
 loop-place-preserved c =
-    flat_map_next index_bytes _ _ _ (grind arith) (c.transition-index.ensures c.transition-index.result)
+    flat_map_next _ _ (grind arith) (c.transition-index.ensures c.transition-index.result) index_bytes _
     c.loop-place.invariant c.in_ok-extend_from_slice.ensures.items

@@ -1,4 +1,4 @@
-use Rattle.tz_write.proofs.{FileWritten.{ArePushed}, Words.{IsEntry, leap_bytes, take}}
+use Rattle.tz_write.proofs.{FileWritten.ArePushed, Words.{IsEntry, leap_bytes, take}}
 use Rattle.tz_write.proofs.file.contents.push_leap_seconds.Given as goal
 
 abbrev pub invariant-loop-leap : goal.invariant-loop-leap

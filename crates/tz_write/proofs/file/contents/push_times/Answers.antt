@@ -1,7 +1,7 @@
-use Rattle.tz_write.proofs.{FileWritten.{pushed_next}, Words.{HasTimeOf64Bits, arith, time_bytes}}
+use Rattle.tz_write.proofs.{FileWritten.pushed_next, Words.arith}
 use Rattle.tz_write.proofs.file.contents.push_times.Goals as goal
 
 pub loop-place-preserved : goal.loop-place-preserved
 loop-place-preserved c =
-    pushed_next time_bytes _ _ _ (grind arith) (c.transition.ensures c.transition.result)
-    HasTimeOf64Bits c.loop-place.invariant c.in_ok-push_transition_time.ensures.appended c.in_ok-push_transition_time.ensures.sound
+    pushed_next _ _ (grind arith) (c.transition.ensures c.transition.result) c.loop-place.invariant
+    c.in_ok-push_transition_time.ensures.appended c.in_ok-push_transition_time.ensures.sound

@@ -1,4 +1,4 @@
-use Rattle.tz_write.proofs.{FileWritten.{ArePushed}, Words.{HasTimeOf64Bits, take, time_bytes}}
+use Rattle.tz_write.proofs.{FileWritten.ArePushed, Words.{HasTimeOf64Bits, take, time_bytes}}
 use Rattle.tz_write.proofs.file.contents.push_times.Given as goal
 
 abbrev pub invariant-loop-place : goal.invariant-loop-place

@@ -1,4 +1,4 @@
-use Rattle.tz_write.proofs.{FileLayouts.{laid_in_order}, Words.{HavePlaces, subst}}
+use Rattle.tz_write.proofs.{FileLayouts.laid_in_order, Words.{HavePlaces, subst}}
 use Rattle.tz_write.proofs.file.designations.designations_of.Goals as goal
 
 pub returns-then-have_places : goal.returns-then-have_places

@@ -1,4 +1,4 @@
-use Rattle.tz_write.proofs.{FileWritten.{ArePushed}, Words.{IsType, take, type_bytes}}
+use Rattle.tz_write.proofs.{FileWritten.ArePushed, Words.{IsType, take, type_bytes}}
 use Rattle.tz_write.proofs.file.types.push_types.Given as goal
 
 abbrev pub invariant-loop-local : goal.invariant-loop-local
