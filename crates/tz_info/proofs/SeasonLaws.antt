@@ -3,10 +3,9 @@ use Rattle.tz_info.proofs.{
   KindLaws.IsMargin,
   Neighbours.{IsBeside, dst_by_one},
   RuleLaws.{alternate_at, year_found},
-  Words.{Alternate, IsAlternateRule, IsRuleYear, IsSeason, IsYearOf, Season, ap, arith, days_at_least, end_in, floor_div, floors, inl, inr, int_le, is_dst_by_one, lies_in, neg_ℤ, one_year},
+  Words.{Alternate, IsSeason, IsYearOf, Season, ap, arith, days_at_least, end_in, floor_div, floors, inl, inr, int_le, is_dst_by_one, lies_in, neg_ℤ, one_year},
   Words.{pos, refl, start_in, year_of, year_start, year_step, ℤ, ◌*ℤ◌, ◌+ℤ◌, ◌-ℤ◌, ◌≡◌, ◌⊎◌},
 }
-use Rattle.tz_info.specs.{Steps.AskedYears.IsAskedYear, declared.rule.moments.Turns.Turns}
 
 -- a second eight days or more from the neighbouring years lies in the year
 amid_lies : (u year : ℤ) → IsBeside (neg_ℤ (pos 691_200)) year u → IsYearOf u year
@@ -39,10 +38,3 @@ pub own_start : (year : ℤ) → year_of (year_start year) ≡ year
 own_start year =
     let step = year_step year in let least = days_at_least year in
     one_year (year_start year) _ year (lies_in _) (omega (arith, floors))
-
--- a rule is asked about the year of a second by the moments of the year that the second's day lies in
-pub season_asked : (a : Alternate) (u year : ℤ) (turns : Turns) → IsAlternateRule a → turns.start ≡ start_in a (year_of (floor_div u 86_400))
-    → turns.end ≡ end_in a (year_of (floor_div u 86_400)) → IsYearOf u year → IsRuleYear year → IsAskedYear a (record { year = year; turns = turns })
-season_asked a u year turns rule start end lies inside =
-    let same = one_year (floor_div u 86_400) (year_of (floor_div u 86_400)) year (lies_in _) lies in
-    record { rule = rule; inside = inside; start = rw same at start; end = rw same at end }

@@ -1,6 +1,6 @@
 //! A rule is asked about a year, and each question is counted.
 //!
-//! Only `ask_year` and `ask_year_at` make an `AskedYear`, without which a year's changes aren't found.
+//! Only `ask_year` makes an `AskedYear`, without which a year's changes aren't found.
 
 ghost use Rattle.std.specs.Prelude.{◌≡◌, ◌≢◌, ◌+◌, true, MatchOption};
 ghost use Rattle.tz_info.specs.{Changes.{IsChange}, Moments.{type_when, AlternateAt, IsRuleTime, IsRuleYear, IsYearOf}};
@@ -57,11 +57,7 @@ impl AlternateTime {
         ensures cost { probes.new
             ≡ record probes.old { rule_questions = probes.old.rule_questions + 1 } }
     {
-        probes.count_question();
-        AskedYear {
-            year: rule_year_of(second),
-            turns: self.season(second).turns,
-        }
+        self.ask_year(rule_year_of(second), probes)
     }
 
     // The first moment of the stretch or the last one, of those for which the second before lies in

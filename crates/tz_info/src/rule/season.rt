@@ -56,11 +56,7 @@ impl AlternateTime {
     #[inline(always)]
     pub(crate) fn season(&self, unix_time: i64) -> Season
         requires { IsRuleTime unix_time }
-        ensures season { IsSeason self.now result }
-        ensures start { result.turns.start
-            ≡ start_in self.now (year_of (floor_div unix_time 86_400)) }
-        ensures end { result.turns.end ≡ end_in self.now (year_of (floor_div unix_time 86_400)) }
-        ensures rule { IsAlternateRule self.now }
+        ensures { IsSeason self.now result }
     {
         let day = day_of(unix_time);
         let place = year_day_of(day);

@@ -1,12 +1,11 @@
 use Rattle.tz_info.proofs.{Fits.fits, KindLaws.{IsMargin, margin_kept}, SeasonLaws.{own_start, season_made}}
-use Rattle.tz_info.proofs.Words.{to_z-of_z, SFits, Season, ap, arith, floors, pos, refl, sym, w64, floor_div, year_of, year_start, end_in, start_in, ◌*ℤ◌, ◌+ℤ◌, ◌-ℤ◌, ◌∙◌, ◌≡◌}
+use Rattle.tz_info.proofs.Words.{to_z-of_z, SFits, Season, ap, arith, floors, pos, refl, sym, w64, year_of, year_start, ◌*ℤ◌, ◌+ℤ◌, ◌-ℤ◌, ◌∙◌, ◌≡◌}
 use Rattle.tz_info.proofs.rule.alternate.AlternateTime.season.Goals.{After-first_of_year-first, After-self}
 use Rattle.tz_info.proofs.rule.alternate.AlternateTime.season.Goals as goal
 
 -- what was given fits, and so do the day and the first day of its year, which lies in that year
 begun : (c : After-first_of_year-first) → SFits w64 c.args.unix_time × SFits w64 c.day_of-day.result × SFits w64 c.first_of_year-first.result
-    × (c.first_of_year-first.result ≡ year_start (year_of c.day_of-day.result))
-    × (year_of c.first_of_year-first.result ≡ year_of (floor_div c.args.unix_time 86_400))
+    × (c.first_of_year-first.result ≡ year_start (year_of c.day_of-day.result)) × (year_of c.first_of_year-first.result ≡ year_of c.day_of-day.result)
 begun c = grind (arith, floors, to_z-of_z, own_start)
 
 kept : (c : After-self) → IsMargin c.args.self.now c.self.inside.margin
@@ -26,9 +25,9 @@ pub overflow_add-result-2 : goal.overflow_add-result-2
 overflow_add-result-2 c = let bound = (kept (goal.at.overflow_add-result-2 c).After-self).bound in
     omega (arith, floors)
 
-pub returns-clause-season : goal.returns-clause-season
-returns-clause-season c =
-    let at = goal.at.returns-clause-season c in
+pub returns : goal.returns
+returns c =
+    let at = goal.at.returns c in
     let (at_second, at_day, at_first, begins, own) = begun at.After-first_of_year-first in
     let k = kept at.After-self in
     let margin = c.self.inside.margin in
@@ -43,16 +42,4 @@ returns-clause-season c =
       turns = c.turns_from.result;
     } in
     simp fits (season_made c.args.self.now margin (year_of c.first_of_year-first.result) c.first_of_year-first.result season k
-    (rw (simp fits at c.day_of-day.ensures.value, ← own) at begins) refl refl (simp fits at c.turns_from.ensures.start) (simp fits at c.turns_from.ensures.end))
-
-pub returns-clause-start : goal.returns-clause-start
-returns-clause-start c =
-    let (at_second, at_day, at_first, _, own) = begun (goal.at.returns-clause-start c).After-first_of_year-first in
-    let start : c.turns_from.result.start ≡ start_in c.args.self.now (year_of c.first_of_year-first.result) = simp fits at c.turns_from.ensures.start in
-    rw own at start
-
-pub returns-clause-end : goal.returns-clause-end
-returns-clause-end c =
-    let (at_second, at_day, at_first, _, own) = begun (goal.at.returns-clause-end c).After-first_of_year-first in
-    let end : c.turns_from.result.end ≡ end_in c.args.self.now (year_of c.first_of_year-first.result) = simp fits at c.turns_from.ensures.end in
-    rw own at end
+    (begins ∙ ap year_start (sym own)) refl refl (simp fits at c.turns_from.ensures.start) (simp fits at c.turns_from.ensures.end))
