@@ -3,7 +3,7 @@ use Rattle.tz_info.proofs.{
   ChangeSearch.{InForce},
   Words.{AreDifferences, AreListedTo, Contains-append_left, Contains-get_or, Contains-push, Contains-push_cases, Difference, IsDifference, IsInDifference},
   Words.{IsListedIf, IsPairUntil, IsRunUntil, List, LocalType, TypeAt, Zone, [], all_pairs_push, by_lt_z, get_or, inl, inr, linear, pos, sym, ℤ, ◌-ℤ◌, ◌<ℤ◌},
-  Words.{◌∙◌, ◌∷◌, ◌≡◌, ◌≢◌, ◌≤ℤ◌},
+  Words.{◌∷◌, ◌≡◌, ◌≢◌, ◌≤ℤ◌},
   ZoneLaws.{type_once},
 }
 
@@ -55,7 +55,7 @@ listed_more z w from until at end s t ds es h pair k l listed = let reached = h.
         (λ more.
         let one = type_once z u m s a (pair.one u more high s k) in
         let other = type_once w u n t b (pair.other u more high t l) in
-        absurd (differ (one ∙ same ∙ sym other)));
+        absurd (differ (cc)));
     turned = λ _. turned;
   })
   | inr (differ, is) ↦ rw is (record {

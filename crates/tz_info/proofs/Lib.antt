@@ -38,7 +38,6 @@ pub mod LeapStarts
 pub mod LeapSearch
 pub mod WallPieces
 pub mod WallSegments
-pub mod OnePass
 pub mod ExtremeLaws
 pub mod LastType
 pub mod WalkLaws

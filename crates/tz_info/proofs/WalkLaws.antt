@@ -78,8 +78,8 @@ with_rule z rule start l valid is begun wide offsets = record {
 -- a local time's window
 module _ {z : Zone} {l low high : ℤ} (n : ℕ) (valid : IsValid z) (w : IsWindow z l low high) where
   pub none_before : Between z.transitions low n n → IsWallAnswer (IsShownIn z l n) Never
-  none_before b = λ u t k. let e = segment_is z _ n (rw w.is_low.sum at b) in
-      grind (linear, segments_rise z (l -ℤ w.greatest) u valid.transitions.rising valid.leaps, at_most_greatest z u _ t w.is_greatest k.shows.type)
+  none_before b u t k = let e = segment_is z _ n (rw w.is_low.sum at b) in
+      grind (linear, segments_rise z (l -ℤ w.greatest) u, at_most_greatest z u _ t w.is_greatest k.shows.type)
 
   -- a transition that comes after the window
   module _ (d : Transition) (within : n < length z.transitions) (later : high <ℤ (get_or z.transitions n d).unix_leap_time) where
@@ -94,7 +94,8 @@ window_least : {X : Type 0} (p : X → Bool) (xs : List X) (a b : ℕ) → b ≤
     → b ≤ a + length (filter p xs)
 window_least p [] a b h all = omega arith
 window_least p (x ∷ xs) a zero h all = omega arith
-window_least p (x ∷ xs) zero (suc b) h all = grind (arith, all 0 x, window_least p xs zero b (omega arith) (λ k d l m. all (suc k) d (omega arith) (omega arith)))
+window_least p (x ∷ xs) zero (suc b) h all =
+    grind (arith, all 0 x, window_least p xs zero b (omega arith) (λ k d l m. all (suc k) d (omega arith) (omega arith)))
 window_least p (x ∷ xs) (suc a) (suc b) h all =
     grind (arith, window_least p xs a b (omega arith) (λ k d l m. all (suc k) d (omega arith) (omega arith)))
 

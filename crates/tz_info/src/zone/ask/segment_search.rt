@@ -18,7 +18,7 @@ use tz_base::LocalTimeType;
 // What a clock would show at the end of the segment before that place: later local times aren't
 // shown in it. One probe is counted.
 #[inline(always)]
-#[tactic(auto, using(crate::proofs::OnePass::ends))]
+#[tactic(auto, using(crate::proofs::WallPieces::ends))]
 fn end_at(types: &[LocalTimeType], changes: &ChangeTable, place: usize, probes: &mut Probes) -> i64
     requires some { 0 < length types.now }
     requires named { NameTypes (length types.now) changes.now.items }

@@ -1,6 +1,6 @@
 use Rattle.tz_info.proofs.{
   Fits.fits,
-  OnePass.{closed, crossed_by, cuts_of, ends_rise, open_first, open_more, whole},
+  WallPieces.{closed, crossed_by, cuts_of, ends_rise, open_first, open_more, whole},
   Words.{SFits, add-one, arith, inl, linear, rules, w64, zone_in, ◌≡◌},
   zone.made.one_pass.pieces_in_one_pass.Goals.{else-count-entries, then-count-entries+else-is_crossed-2},
 }
@@ -19,8 +19,8 @@ loop-place-preserved c =
     let fl : SFits w64 c.pieces_at-first.result.1.start = search rules in
     let strict = simp fits at (c.is_crossed.ensures.behind c.if-is_crossed.false) in
     rw add-one (record {
-      pieces = simp fits (open_more c.loop-place.invariant.pieces _ _ _ c.pieces_at-first.ensures c.segment_at-behind.ensures c.args.count _ strict c.requires.table
-          (omega arith) (omega arith) (grind arith));
+      pieces = simp fits (open_more c.loop-place.invariant.pieces _ _ _ c.pieces_at-first.ensures c.segment_at-behind.ensures c.args.count _ strict
+          c.requires.table (omega arith) (omega arith) (grind arith));
       room = grind arith;
     })
 

@@ -1,4 +1,4 @@
-use Rattle.tz_info.proofs.{OnePass.AreOpen, Words.{index_of, length, vec_capacity, zone_in, ◌+◌, ◌-◌, ◌≡◌}}
+use Rattle.tz_info.proofs.{WallPieces.AreOpen, Words.{index_of, length, vec_capacity, zone_in, ◌+◌, ◌-◌, ◌≡◌}}
 use Rattle.tz_info.proofs.zone.made.one_pass.pieces_in_one_pass.Given as goal
 
 abbrev pub invariant-loop-place : goal.invariant-loop-place

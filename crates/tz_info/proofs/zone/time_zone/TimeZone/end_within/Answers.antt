@@ -21,7 +21,8 @@ pub loop-left-preserved : goal.loop-left-preserved
 loop-left-preserved c =
     let (ff, fu, fs, fb, since, before) = between (goal.at.loop-left-preserved c).After-second_showing-before in
     let none = rw (since, before) at (simp fits at c.in_default.ensures) in
-    simp fits (rw (c.without-left.ensures.low, c.without-left.ensures.high) (goes_on _ _ _ (simp fits at c.loop-left.invariant) c.next_run.ensures.one_type _ c.next_run.ensures.run none))
+    simp fits (rw (c.without-left.ensures.low, c.without-left.ensures.high) (goes_on _ _ _
+    (simp fits at c.loop-left.invariant) c.next_run.ensures.one_type _ c.next_run.ensures.run none))
 
 pub returns-in-Some : goal.returns-in-Some
 returns-in-Some c =

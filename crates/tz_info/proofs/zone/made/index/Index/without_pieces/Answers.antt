@@ -14,5 +14,6 @@ returns c =
       | then-segment_count-eq0 w ↦ rw (w.before-is, c.none.ensures, c.new.ensures.items) (simp fits
           (no_segments _ _ _ c.requires.none from.begun (grind arith) (sym c.segment_count.ensures ∙ w.if-segment_count-eq0.true)))
       | else-segment_count-eq0 w ↦ rw (w.before-is, c.none.ensures, c.new.ensures.items) (simp fits
-          (one_segment _ _ _ c.requires.none from.begun (grind arith) _ c.requires.valid c.requires.list (omega arith) (rw c.items.ensures at c.segment_at-segment.ensures)))
+          (one_segment _ _ _ c.requires.none from.begun (grind arith) _ c.requires.valid c.requires.list (omega arith)
+          (rw c.items.ensures at c.segment_at-segment.ensures)))
     ]
