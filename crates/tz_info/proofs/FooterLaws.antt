@@ -1,17 +1,7 @@
 -- The law of footers.
 use Rattle.std.proofs.lemmas.{Bool.{or_parts}, Slice.Eq.{ends_is}}
-use Rattle.tz_base.specs.declared.error.{
-  Error.TheVariants.{InvalidTzFile, Utf8},
-  Expected.TheVariants.{FooterBetweenNewlines, FooterInUtf8, TzTextInFooter},
-}
-use Rattle.tz_info.proofs.{
-  TextLaws.{spelled_law},
-  TrimLaws.{trim_is, trim_whole},
-  Words.{Bool, Colon, Decided, Decides, Decides-eqb, Error, FooterFault, HasNoZero, HasText, In_text, IsBetweenNewlines, IsFooter, IsTextFault},
-  Words.{IsUtf8, IsUtf8-from_is_utf8, List, No_newlines, Not_utf8, Option, SaysRule, TransitionRule, Zero, [], arith, choice, ends_with, false},
-  Words.{false_unless, footer_at, inl, inr, is_between_newlines, is_no_text, is_utf8-from_IsUtf8, is_zero, like, list_any, nat_eq, refl, refused},
-  Words.{rule_or_none, slice_index, trimmed, ℕ, ◌==◌, ◌∷◌, ◌≡◌, ◌≢◌, ◌⊎◌},
-}
+use Rattle.tz_base.specs.declared.error.{Error.TheVariants.{InvalidTzFile, Utf8}, Expected.TheVariants.{FooterBetweenNewlines, FooterInUtf8, TzTextInFooter}}
+use Rattle.tz_info.proofs.{TextLaws.{spelled_law}, TrimLaws.{trim_is, trim_whole}, Words.{Bool, Colon, Decided, Decides, Decides-eqb, Error, FooterFault, HasNoZero, HasText, In_text, IsBetweenNewlines, IsFooter, IsTextFault}, Words.{IsUtf8, IsUtf8-from_is_utf8, List, No_newlines, Not_utf8, Option, SaysRule, TransitionRule, Zero, [], arith, choice, ends_with, false}, Words.{false_unless, footer_at, inl, inr, is_between_newlines, is_no_text, is_utf8-from_IsUtf8, is_zero, like, list_any, nat_eq, refl, refused}, Words.{rule_or_none, slice_index, trimmed, ℕ, ◌==◌, ◌∷◌, ◌≡◌, ◌≢◌, ◌⊎◌}}
 
 -- the test of UTF-8 says whether bytes are
 pub ruleset utf8_tests = (IsUtf8-from_is_utf8, is_utf8-from_IsUtf8, false_unless)
@@ -39,14 +29,11 @@ rule_law extended (b ∷ bs) = grind (arith, spelled_law extended (b ∷ bs))
 abbrev IsNoText : List ℕ → Type 0
 IsNoText text = (slice_index text 0 ≡ 58) ⊎ ¬ (HasNoZero text)
 
-has_zero : (text : List ℕ) → Decides (list_any is_zero text) (¬ (HasNoZero text))
-has_zero text = grind (arith, no_zero_again, no_zero_is)
-
 no_text : (text : List ℕ) → Decides (is_no_text text) (IsNoText text)
 no_text text = grind (arith, no_zero_again, no_zero_is)
 
 no_zero : (text : List ℕ) → ¬ (IsNoText text) → HasNoZero text
-no_zero text h = grind (arith, has_zero, no_zero_is)
+no_zero text h = let d = no_text text in grind (arith, no_zero_is)
 
 -- ---- the whole
 abbrev ReadFault : Bool → List ℕ → List ℕ → Error → Type 0
