@@ -1,5 +1,5 @@
 -- The law of footers.
-use Rattle.std.proofs.lemmas.{Bool.{or_parts}, Slice.Eq.{ends_is}}
+use Rattle.std.proofs.lemmas.{Slice.Eq.{ends_is}}
 use Rattle.tz_base.specs.declared.error.{
   Error.TheVariants.{InvalidTzFile, Utf8},
   Expected.TheVariants.{FooterBetweenNewlines, FooterInUtf8, TzTextInFooter},
@@ -10,7 +10,7 @@ use Rattle.tz_info.proofs.{
   Words.{Bool, Colon, Decided, Decides, Decides-eqb, Error, FooterFault, HasNoZero, HasText, In_text, IsBetweenNewlines, IsFooter, IsTextFault},
   Words.{IsUtf8, IsUtf8-from_is_utf8, List, No_newlines, Not_utf8, Option, SaysRule, TransitionRule, Zero, [], arith, choice, ends_with, false},
   Words.{false_unless, footer_at, inl, inr, is_between_newlines, is_no_text, is_utf8-from_IsUtf8, is_zero, like, list_any, nat_eq, refl, refused},
-  Words.{rule_or_none, slice_index, trimmed, ℕ, ◌==◌, ◌∷◌, ◌≡◌, ◌≢◌, ◌⊎◌},
+  Words.{rule_or_none, slice_index, trimmed, ℕ, ◌∷◌, ◌≡◌, ◌≢◌, ◌⊎◌},
 }
 
 -- the test of UTF-8 says whether bytes are
@@ -24,11 +24,11 @@ between bytes =
 -- ---- the text
 no_zero_is : (text : List ℕ) → list_any is_zero text ≡ false → HasNoZero text
 no_zero_is [] _ = tt
-no_zero_is (b ∷ bs) h = let p = or_parts (b == 0) (list_any is_zero bs) h in ((λ z. grind arith), no_zero_is bs p.1)
+no_zero_is (b ∷ bs) h = grind (arith, no_zero_is bs)
 
 no_zero_again : (text : List ℕ) → HasNoZero text → list_any is_zero text ≡ false
 no_zero_again [] _ = refl
-no_zero_again (b ∷ bs) h = let e : (b == 0) ≡ false = grind arith in rw e (no_zero_again bs h.1)
+no_zero_again (b ∷ bs) h = grind (arith, no_zero_again bs)
 
 rule_law : (extended : Bool) (text : List ℕ)
     → Decided (Option TransitionRule) (rule_or_none extended text) (SaysRule extended text) (λ n. (text ≢ []) × IsTextFault extended text n)
@@ -39,14 +39,11 @@ rule_law extended (b ∷ bs) = grind (arith, spelled_law extended (b ∷ bs))
 abbrev IsNoText : List ℕ → Type 0
 IsNoText text = (slice_index text 0 ≡ 58) ⊎ ¬ (HasNoZero text)
 
-has_zero : (text : List ℕ) → Decides (list_any is_zero text) (¬ (HasNoZero text))
-has_zero text = grind (arith, no_zero_again, no_zero_is)
-
 no_text : (text : List ℕ) → Decides (is_no_text text) (IsNoText text)
 no_text text = grind (arith, no_zero_again, no_zero_is)
 
 no_zero : (text : List ℕ) → ¬ (IsNoText text) → HasNoZero text
-no_zero text h = grind (arith, has_zero, no_zero_is)
+no_zero text h = let d = no_text text in grind (arith, no_zero_is)
 
 -- ---- the whole
 abbrev ReadFault : Bool → List ℕ → List ℕ → Error → Type 0
