@@ -195,16 +195,16 @@ module _ (z : Zone) (e : Entries) (valid : IsValid z) (made : AreEntries z e) wh
   pub with_entry : (k : ℕ) (r : Option Change) → k < length e.items → k + 1 < e.all → IsEntryChange z.types e.items k r
       → IsChangeAt (TypeAt z) (time_at e k) r
   with_entry k None h more least = grind linear
-  with_entry k (Some c) h more is = (entry_change k c h more is, is.0)
+  with_entry k (Some c) h more is = grind (linear, entry_change)
 
   -- the entries ahead of the second
   ahead_by : (w : Bool) (s : ℤ) (j : ℕ) → j < length e.items
       → IsAhead w s (time_at e j) ↔ IsLeftAt w (length e.items) (count_ahead w (length e.items) (count_at e s)) j
   ahead_by true s j h = let r = come_by j s h in grind linear
-  ahead_by false s j h = let r = come_by j s h in grind linear
+  ahead_by false s j h = grind (linear, come_by)
 
   pub left_first : (w : Bool) (s : ℤ) (left : ℕ) → left ≡ count_ahead w (length e.items) (count_at e s) → AreLeft z e w s left
-  left_first w s left is = record { most = omega arith; each = λ j d below is_d time ahead. rw is ((ahead_by w s j below).0 (rw time ahead)) }
+  left_first w s left is = grind (linear, ahead_by)
 
   pub left_none : (w : Bool) (s : ℤ) → AreLeft z e w s 0 → HasNoChange (TypeAt z) (IsInTable z (IsAhead w s))
   left_none true s left = grind (linear, table_change)
@@ -267,8 +267,8 @@ span_between z e u b t valid made h is fits low high has =
         some = grind linear;
         each = λ v i. stretch_between z e u v b t valid made h low high has i.since i.until;
         begins = out_before z (record { at = b.from; before = r; after = t }) (entry_change z e valid made (k - 1) _ (omega arith) (omega arith)
-            (grind (linear, begin_at), low, (λ q. omega linear), has_r, rw same own));
+            (grind (linear, begin_at)));
         ends = out_from z (record { at = b.until; before = t; after = s }) (entry_change z e valid made k _ h.some more
-            (h.until, high, (λ q. omega linear), own, has_s));
+            (grind linear));
       };
     }

@@ -55,13 +55,13 @@ steady z _ valid not d is inside = grind (arith, changes_segment, segment_most)
 -- a second at which the zone's rule answers
 module _ (z : Zone) (a : AlternateRule) (u : ℤ) (t : LocalType) (rule : z.rule ≡ Some (Alternate a)) where
   pub to_rule : IsValid z → segment_of z u ≡ length z.transitions → TypeAt z u t → AlternateAt a u t
-  to_rule valid e k = rw rule at (type_from z u t valid.transitions.rising (record { type = k; segment = e }))
+  to_rule valid e k = rw rule at (type_from z u t valid.transitions.rising (grind linear))
 
   pub from_rule : IsValid z → segment_of z u ≡ length z.transitions → AlternateAt a u t → TypeAt z u t
   from_rule valid e k =
       let x = rule_leap_time _ u valid.leaps (rule_second a u t k) in
       let b = segment_at z u _ valid.transitions.rising e in
-      (type_in_from z u x.0 t x.1 (rw (← x.1.sum) at b) (rw rule k)).type
+      (type_in_from z u x.0 t x.1 (grind linear) (rw rule k)).type
 
 -- `begin` comes no later than a second with a type at which all have come
 pub begun : (z : Zone) (begin u : ℤ) (t : LocalType) → IsValid z → IsBegin z begin → SFits w64 u → TypeAt z u t → segment_of z u ≡ length z.transitions

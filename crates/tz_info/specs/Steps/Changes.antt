@@ -81,7 +81,7 @@ abbrev pub IsStretchAhead : Bool → ℤ → ℤ → ℤ → ℤ → Type 0
 IsStretchAhead true begin s after last = IsLaterOf begin s after × (last ≡ pos 9_223_372_036_854_775_807)
 IsStretchAhead false begin s after last = (after ≡ begin) × (last ≡ s)
 
--- how many of the places below `len` are ahead in that direction, if `count` of them are not ahead forward, and the first place if `left` are
+-- how many of `len` entries are ahead in that direction if `count` have come, and the place of the nearest one if `left` are ahead
 abbrev pub count_ahead : Bool → ℕ → ℕ → ℕ
 count_ahead true len count = len - count
 count_ahead false len count = count
