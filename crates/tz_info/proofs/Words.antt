@@ -89,7 +89,7 @@ pub use Rattle.tz_info.specs.{
   Rules.{Alternate, IsAlternate, IsAlternateRule, IsWithinWeek},
   ShownSeconds.{AreEndsWithin, AreShownWithin, IsFirstAtOrAfter, IsNeverWithin, ShowsAtOrAfter, ShowsWithin},
   Spans.{IsInSpan, IsOutOfForce, IsSince, IsSpan, IsSpanAt, IsUntil},
-  Steps.{Answers.joined, Asked.IsAskedAtLeapTime},
+  Steps.{Answers.{joined, shown_if}, Asked.IsAskedAtLeapTime},
   Steps.{AskedYears.{AreFrom, HasNoneBeyond, IsCalmRule, IsNextChanging, IsYearNear, changes_in_year, turn_of}, Below.all_below},
   Steps.Beside.{IsNearestMomentOf, IsSecondOfNearest, change_found},
   Steps.ChangeLists.{all_fit, alternate_type, change_between, change_here, changes_in, is_dst_by_three, is_rule_year, is_second, rule_type, rule_type_or},
