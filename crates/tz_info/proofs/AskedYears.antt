@@ -1,5 +1,14 @@
 -- The nearest change of a rule, by questions about two years.
-use Rattle.tz_info.proofs.{ChangeSearch.{decided, in_ahead, nearest_moved}, ChangingYears.{none_in, one_in, steady_alike}, RuleChanges.{change_again, change_then, cycles_to, rule_second, same_or_not, seconds_follow, year_on, years_rise}, RuleLaws.rule_year, Words.{Alternate, AlternateAt, AreFrom, Bool, Change, HasNoChange, HasNoneBeyond, IsAhead, IsAlternateRule, IsChange, IsNearest, IsNearestChange}, Words.{IsNextChanging, IsOfYear, IsRuleYear, IsStretchAhead, IsYearNear, IsYearOf, NeverChanges, None, Option, Precedes, Some, by_lt_z, changes_in_year}, Words.{false, inl, inr, linear, neg_ℤ, pos, true, type_exact, year_at, ℕ, ℤ, ◌+ℤ◌, ◌+◌, ◌-ℤ◌, ◌<◌, ◌≡◌, ◌≤ℤ◌, ◌⊎◌}}
+use Rattle.tz_info.proofs.{
+  ChangeSearch.{decided, in_ahead, nearest_moved},
+  ChangingYears.{none_in, one_in, steady_alike},
+  RuleChanges.{change_again, change_then, cycles_to, rule_second, same_or_not, seconds_follow, year_on, years_rise},
+  RuleLaws.rule_year,
+  Words.{Alternate, AlternateAt, AreFrom, Bool, Change, HasNoChange, HasNoneBeyond, IsAhead, IsAlternateRule, IsChange, IsNearest, IsNearestChange},
+  Words.{IsNextChanging, IsOfYear, IsRuleYear, IsStretchAhead, IsYearNear, IsYearOf, NeverChanges, None, Option, Precedes, Some, by_lt_z},
+  Words.{changes_in_year},
+  Words.{false, inl, inr, linear, neg_ℤ, pos, true, type_exact, year_at, ℕ, ℤ, ◌+ℤ◌, ◌+◌, ◌-ℤ◌, ◌<◌, ◌≡◌, ◌≤ℤ◌, ◌⊎◌},
+}
 
 -- ahead of the second, and the second before lies in the year
 abbrev IsAheadIn : Bool → ℤ → ℤ → ℤ → Type 0

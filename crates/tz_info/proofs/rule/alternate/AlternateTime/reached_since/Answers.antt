@@ -1,5 +1,10 @@
 use Rattle.std.proofs.lemmas.Int.{clamps}
-use Rattle.tz_info.proofs.{Fits.fits, RuleChanges.rule_second, RuleReached.{changed_reached, still_reached}, Words.{SFits, arith, ints, pos, rules, to_z-of_z, w64, ◌-ℤ◌}}
+use Rattle.tz_info.proofs.{
+  Fits.fits,
+  RuleChanges.rule_second,
+  RuleReached.{changed_reached, still_reached},
+  Words.{SFits, arith, ints, pos, rules, to_z-of_z, w64, ◌-ℤ◌},
+}
 use Rattle.tz_info.proofs.rule.alternate.AlternateTime.reached_since.Goals as goal
 
 pub shown_at-requires : goal.shown_at-requires
