@@ -11,7 +11,8 @@ unfolding text rule fixed alternate named end
 text_ends extended bytes r rest h = grind linear
 
 -- what is read of all bytes is what they spell, or their fault
-pub spelled_law : (extended : Bool) (text : List ℕ) → Decided TransitionRule (rule_in extended text) (IsTzText extended text) (IsTextFault extended text)
+pub spelled_law : (extended : Bool) (text : List ℕ)
+    → Decided TransitionRule (rule_in extended text) (IsTzText extended text) (IsTextFault extended text)
 unfolding rule_in
 spelled_law extended bytes = said (made (λ p. p.0) (lawful (text extended) bytes))
     (λ rule h. rw h.2 at (rw (text_ends _ _ _ _ h.1) at h.1))

@@ -116,7 +116,8 @@ pub made_found : (bytes : List ℕ) (lists : Zone) (r : Result TimeZone Error) �
     → IfOk r (λ z. IsTzFile bytes z × IsValid z)
 made_found bytes lists r f m = grind arith
 
-pub made_fault : (bytes : List ℕ) (lists : Zone) (r : Result TimeZone Error) → IsTzFile bytes lists → Makes lists r → IfErr r (λ e. IsZoneFault bytes e)
+pub made_fault : (bytes : List ℕ) (lists : Zone) (r : Result TimeZone Error) → IsTzFile bytes lists → Makes lists r
+    → IfErr r (λ e. IsZoneFault bytes e)
 made_fault bytes lists r f m = grind (linear, In_file, Not_valid, No_memory)
 
 -- ---- what a reader of zones answers

@@ -8,11 +8,13 @@ pub returns-then-is_empty-clause-memory : goal.returns-then-is_empty-clause-memo
 returns-then-is_empty-clause-memory c = zone_memory _ _ _ (inl (is_empty _ _ c.is_empty.ensures c.if-is_empty.true, refl))
 
 pub returns-in-Ok-clause-memory : goal.returns-in-Ok-clause-memory
-returns-in-Ok-clause-memory c = zone_memory _ _ _ (zone_read _ _ (not_empty _ _ c.is_empty.ensures c.if-is_empty.false) (rw c.as_bytes.ensures.value at c.in-Ok.ensures))
+returns-in-Ok-clause-memory c = zone_memory _ _ _
+    (zone_read _ _ (not_empty _ _ c.is_empty.ensures c.if-is_empty.false) (rw c.as_bytes.ensures.value at c.in-Ok.ensures))
 
 pub returns-in-Ok-clause-only : goal.returns-in-Ok-clause-only
 returns-in-Ok-clause-only c z is =
-    let one = one_zone _ _ z (zone_read _ _ (not_empty _ _ c.is_empty.ensures c.if-is_empty.false) (rw c.as_bytes.ensures.value at c.in-Ok.ensures)) is in grind arith
+    let one = one_zone _ _ z
+    (zone_read _ _ (not_empty _ _ c.is_empty.ensures c.if-is_empty.false) (rw c.as_bytes.ensures.value at c.in-Ok.ensures)) is in grind arith
 
 pub returns-in-Err-clause-only : goal.returns-in-Err-clause-only
 returns-in-Err-clause-only c z is =
