@@ -1,6 +1,8 @@
 -- Answers of wall clocks: equal sets of seconds, and two sets of which one comes before the other.
-use Rattle.offset_core.specs.declared.local_result.LocalResult.TheVariants.{Ambiguous, None, Single}
-use Rattle.tz_info.proofs.Words.{IsWallAnswer, LocalResult, arith, joined, linear, ℤ, ⊎_elim, ◌<ℤ◌, ◌≡◌, ◌≤ℤ◌, ◌⊎◌}
+use Rattle.{
+  offset_core.specs.declared.local_result.LocalResult.TheVariants.{Ambiguous, None, Single},
+  tz_info.proofs.Words.{IsWallAnswer, LocalResult, arith, joined, linear, ℤ, ⊎_elim, ◌<ℤ◌, ◌≡◌, ◌≤ℤ◌, ◌⊎◌},
+}
 
 -- p and q take the same seconds
 pub same_answer : {T : Type 0} (p q : ℤ → T → Type 0) (a : LocalResult T) → ((u : ℤ) (t : T) → p u t → q u t) → ((u : ℤ) (t : T) → q u t → p u t)

@@ -40,9 +40,11 @@ module _ (a : Alternate) (s : ℤ) (d : Change) (y : ℤ) (is : IsChange (Altern
   beyond_only : (w : Bool) (first : ℤ) → IsYearNear s first → HasNoChange (AlternateAt a) (IsAheadIn w s first) → IsAhead w s d.at
       → Precedes w (year_at w first 1) y
   beyond_only true first h none ahead =
-      let (up, down) = order first h in by_lt_z first y (λ l. omega linear) (λ m. let same : y ≡ first = omega linear in absurd (none d is (ahead, rw same at of_year)))
+      let (up, down) = order first h in
+      by_lt_z first y (λ l. omega linear) (λ m. let same : y ≡ first = omega linear in absurd (none d is (ahead, rw same at of_year)))
   beyond_only false first h none ahead =
-      let (up, down) = order first h in by_lt_z y first (λ l. omega linear) (λ m. let same : y ≡ first = omega linear in absurd (none d is (ahead, rw same at of_year)))
+      let (up, down) = order first h in
+      by_lt_z y first (λ l. omega linear) (λ m. let same : y ≡ first = omega linear in absurd (none d is (ahead, rw same at of_year)))
 
   -- a change of a year beyond is ahead
   ahead_by_year : (w : Bool) (first : ℤ) → IsYearNear s first → Precedes w (year_at w first 1) y → IsAhead w s d.at

@@ -1,5 +1,5 @@
 -- Values read at places, the records that spell them, and the laws of transitions, leap seconds and indicators.
-use Rattle.tz_base.specs.{declared.error.Error.TheVariants.{InvalidTzFile}, declared.error.Expected.TheVariants.{StandardTimeWhereTimeIsUt}}
+use Rattle.tz_base.specs.declared.error.{Error.TheVariants.{InvalidTzFile}, Expected.TheVariants.{StandardTimeWhereTimeIsUt}}
 use Rattle.tz_info.proofs.{
   ListLaws.{one_true},
   Words.{AreRecords, Bool, Decided, Error, HasRecordFault, IndicatorsAgree, LeapSecond, List, Ok, Result, SpellLeapSeconds, SpellTransitions},

@@ -1,5 +1,5 @@
 -- How the entries of a zone are made, one transition after another.
-use Rattle.std.proofs.{lemmas.{List.{take-append-le, Elements.{filter-append}}, Option.{slice_get_within}}}
+use Rattle.std.proofs.lemmas.{List.{take-append-le, Elements.{filter-append}}, Option.{slice_get_within}}
 use Rattle.std.specs.Prelude.{option_to_list}
 use Rattle.tz_info.proofs.{
   LeapSearch.{own_leap_time},
@@ -11,8 +11,10 @@ use Rattle.tz_info.proofs.{
   Words.{suc, take, take_all, take_more, zero, ℕ, ℤ, ◌++◌, ◌+◌, ◌-◌, ◌<ℤ◌, ◌<◌, ◌==◌, ◌↔◌, ◌∷◌, ◌≡◌, ◌≢◌, ◌≤ℤ◌, ◌≤◌, ◌⊎◌},
   ZoneChanges.{refused_on},
 }
-use Rattle.tz_info.specs.Transitions.{NameTypes}
-use Rattle.tz_info.specs.Steps.Entries.{AreBefore, AreEntries, EndsAt, IsAdded, IsStartIn, NeverComes, added, idle, last_index, none_there, one_there}
+use Rattle.tz_info.specs.{
+  Transitions.{NameTypes},
+  Steps.Entries.{AreBefore, AreEntries, EndsAt, IsAdded, IsStartIn, NeverComes, added, idle, last_index, none_there, one_there},
+}
 
 -- ---- lists with one item more
 last_more : (ts : List Transition) (t : Transition) (i : ℕ) → last_else i (map (λ (s : Transition). s.type_index) (ts ++ t ∷ [])) ≡ t.type_index

@@ -8,12 +8,12 @@ use Rattle.tz_info.proofs.{
   Words.{◌&&◌, ◌↔◌, ◌≡◌},
 }
 use Rattle.tz_info.specs.{
-  contracts.{change.TypedSecondPartialEq.TheImpl.{eq-value as second_eq}, rule.day.DayTimePartialEq.TheImpl.{eq-value as day_time_eq}},
-  contracts.rule.transition_rule.TransitionRulePartialEq.TheImpl.{eq-value as rule_eq},
+  contracts.change.TypedSecondPartialEq.TheImpl.{eq-value as second_eq},
+  contracts.rule.{day.DayTimePartialEq.TheImpl.{eq-value as day_time_eq}, transition_rule.TransitionRulePartialEq.TheImpl.{eq-value as rule_eq}},
   contracts.zone.ask.differences.DifferencePartialEq.TheImpl.{eq-value as difference_eq},
   contracts.zone.ask.shown_seconds.ShownSecondsPartialEq.TheImpl.{eq-value as seconds_eq},
-  contracts.zone.lists.{leap_second.LeapSecondPartialEq.TheImpl.{eq-value as leap_eq}},
-  contracts.zone.lists.{transition.TransitionPartialEq.TheImpl.{eq-value as transition_eq}},
+  contracts.zone.lists.leap_second.LeapSecondPartialEq.TheImpl.{eq-value as leap_eq},
+  contracts.zone.lists.transition.TransitionPartialEq.TheImpl.{eq-value as transition_eq},
 }
 
 list_exact : {X : Type 0} (E : X → X → Bool) → IsExact E → IsExact (pointwise E)

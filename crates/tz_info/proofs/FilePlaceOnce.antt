@@ -1,5 +1,5 @@
 -- Where a file is at fault, and that it is at one place.
-use Rattle.std.proofs.{lemmas.List.Sums.{prefix_len-le-length}, lemmas.Str.{utf8_valid_len-IsValidUpTo}}
+use Rattle.std.proofs.lemmas.{List.Sums.{prefix_len-le-length}, Str.{utf8_valid_len-IsValidUpTo}}
 use Rattle.std.specs.{Char.{is_ascii_whitespace}, List.{prefix_len}}
 use Rattle.tz_info.proofs.{
   FilePieceLaws.{has_lengths, pieces_law, whole},

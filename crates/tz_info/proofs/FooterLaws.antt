@@ -1,8 +1,7 @@
 -- The law of footers.
-use Rattle.std.proofs.lemmas.{Slice.Eq.{ends_is}}
-use Rattle.tz_base.specs.declared.error.{
-  Error.TheVariants.{InvalidTzFile, Utf8},
-  Expected.TheVariants.{FooterBetweenNewlines, FooterInUtf8, TzTextInFooter},
+use Rattle.std.proofs.lemmas.Slice.Eq.{ends_is}
+use Rattle.tz_base.specs.{
+  declared.error.{Error.TheVariants.{InvalidTzFile, Utf8}, Expected.TheVariants.{FooterBetweenNewlines, FooterInUtf8, TzTextInFooter}},
 }
 use Rattle.tz_info.proofs.{
   TextLaws.{spelled_law},

@@ -9,7 +9,7 @@ use Rattle.tz_info.proofs.{
   Words.{nat_le, neg_ℤ, place_by, places_by_kind, pos, refl, second_in, seconds_by_kind, start_in, sym, true, weekday_below, weekday_later},
   Words.{weekday_of, year_start, ℕ, ℤ, ◌%◌, ◌*ℤ◌, ◌+ℤ◌, ◌+◌, ◌-ℤ◌, ◌-◌, ◌<◌, ◌∙◌, ◌≡◌, ◌≤ℤ◌, ◌⊎◌},
 }
-use Rattle.tz_info.specs.{Steps.ChangingYears.{AreWithinYears}}
+use Rattle.tz_info.specs.Steps.ChangingYears.{AreWithinYears}
 
 first_of_month : (year : ℤ) (month : ℕ) → day_number year month 1 ≡ year_start year +ℤ pos (days_of_months (is_leap year) (month - 1))
 unfolding day_number

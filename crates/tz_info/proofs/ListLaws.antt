@@ -1,6 +1,5 @@
 -- Values by places.
-use Rattle.tz_info.proofs.Words.{Bool, Err, Error, List, Ok, Result, all_below, arith, cases_lt, false, inl, inr, suc, true, values_below, zero}
-use Rattle.tz_info.proofs.Words.{ℕ, ◌<◌, ◌≡◌}
+use Rattle.tz_info.proofs.Words.{Bool, Err, Error, List, Ok, Result, all_below, arith, cases_lt, false, inl, inr, suc, true, values_below, zero, ℕ, ◌<◌, ◌≡◌}
 
 -- the first error is that of all
 pub first_refusal : {X : Type 0} (n i : ℕ) (read : ℕ → Result X Error) (xs : List X) (e : Error) → i < n → values_below i read ≡ Ok xs

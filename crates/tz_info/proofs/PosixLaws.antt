@@ -1,5 +1,5 @@
 -- The zone of a TZ string.
-use Rattle.tz_base.specs.{declared.parse_error.ParseError.{ParseError}}
+use Rattle.tz_base.specs.declared.parse_error.ParseError.{ParseError}
 use Rattle.tz_info.proofs.{
   TextLaws.{spelled_law, text_low},
   TrimLaws.{fits_behind, trim_again, trim_is},

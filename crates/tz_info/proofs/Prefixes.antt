@@ -1,25 +1,6 @@
 -- The last of the first items of a list.
-use Rattle.tz_info.proofs.Words.{
-  LeapSecond,
-  List,
-  Transition,
-  arith,
-  get_or,
-  index_of,
-  last_else,
-  length,
-  map,
-  pos,
-  refl,
-  suc,
-  take,
-  zero,
-  ℕ,
-  [],
-  ◌<◌,
-  ◌∷◌,
-  ◌≡◌,
-  ◌≤◌,
+use Rattle.tz_info.proofs.{
+  Words.{LeapSecond, List, Transition, arith, get_or, index_of, last_else, length, map, pos, refl, suc, take, zero, ℕ, [], ◌<◌, ◌∷◌, ◌≡◌, ◌≤◌},
 }
 use Rattle.tz_info.specs.Transitions.{NameTypes}
 

@@ -1,18 +1,19 @@
 -- Questions to a zone's rule: at which seconds it is asked, and how often for a local time.
 use Rattle.std.proofs.lemmas.List.Elements.{Contains-append_cases, Contains-get_or}
 use Rattle.tz_info.proofs.{
-  ListFaults.equal_known,
-  PassedTransitions.no_items,
+  ListFaults.{equal_known},
+  PassedTransitions.{no_items},
   SegmentLaws.{come_at_time, come_by_then},
-  WalkLaws.window_most,
+  WalkLaws.{window_most},
   WallSegments.{leap_time_of, near_of, rule_begun},
-  Words.{All-contains, AllPairs-cons, Alternate as AlternateRule, AreUtOffsets, Bool, Contains, Contains-append_right, IsAskedAt, IsAskedAtEach, IsAskedAtLeapTime},
-  Words.{IsAskedFor, IsAskedFrom, IsAskedSince, IsByRuleFor, IsLeapTime, IsNear, IsSecondFrom, IsStart, IsValid, IsWide, IsWindow, LocalType, None, Option},
-  Words.{Some, Transition, TransitionRule, Zone, [], arith, get_or, inl, inr, length, linear, not, offsets, offsets_of, refl, rule_offsets, segment_of, suc},
-  Words.{false, sym, true, type_when, zero, ℕ, ℤ, ⊎_elim, ◌+◌, ◌-ℤ◌, ◌<ℤ◌, ◌<◌, ◌↔◌, ◌∙◌, ◌∷◌, ◌≡◌, ◌≢◌, ◌≤ℤ◌, ◌⊎◌},
-  ZoneLaws.same_passed,
+  Words.{All-contains, AllPairs-cons, Alternate as AlternateRule, AreUtOffsets, Bool, Contains, Contains-append_right, IsAskedAt, IsAskedAtEach},
+  Words.{IsAskedAtLeapTime, IsAskedFor, IsAskedFrom, IsAskedSince, IsByRuleFor, IsLeapTime, IsNear, IsSecondFrom, IsStart, IsValid, IsWide, IsWindow},
+  Words.{LocalType, None, Option, Some, Transition, TransitionRule, Zone, [], arith, get_or, inl, inr, length, linear, not, offsets, offsets_of},
+  Words.{refl, rule_offsets, segment_of, suc, false, sym, true, type_when, zero, ℕ, ℤ, ⊎_elim, ◌+◌, ◌-ℤ◌, ◌<ℤ◌, ◌<◌, ◌↔◌, ◌∙◌, ◌∷◌, ◌≡◌, ◌≢◌, ◌≤ℤ◌},
+  Words.{◌⊎◌},
+  ZoneLaws.{same_passed},
 }
-use Rattle.tz_info.specs.{Questions.IsByRule, declared.rule.transition_rule.TransitionRule.TheVariants.{Alternate, Fixed}}
+use Rattle.tz_info.specs.{Questions.{IsByRule}, declared.rule.transition_rule.TransitionRule.TheVariants.{Alternate, Fixed}}
 
 -- ---- from which second on the rule is asked
 by_rule_segment : (z : Zone) (u : ℤ) → IsByRule z u → segment_of z u ≡ length z.transitions

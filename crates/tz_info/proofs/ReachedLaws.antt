@@ -1,22 +1,20 @@
 -- The last local time that clocks have shown up to a second: that of the segment that it lies in, or of the segments before.
 use Rattle.tz_info.proofs.{
-  EntryChanges.index_below,
+  EntryChanges.{index_below},
   ExtremeLaws.{at_most_greatest, listed_at_most},
-  LeapStarts.saturated,
+  LeapStarts.{saturated},
   SegmentEndLaws.{begun_by, come_by, end_at, shows_less},
   SegmentLaws.{come_from, place_before, place_begin, places_rise},
   TableLaws.{table_of, top_least},
-  WallSegments.type_there,
-  Words.{HasType, IsFirstAtOrAfter, IsGreatest, IsNear, IsUtOffset, IsValid, IsWide, LocalType, SFits, Shows, TypeAt, Zone, ap, arith, begin_of, by_lt_z},
-  Words.{cases_lt, index_of, inl, inr, least_time, length, linear, offsets, place_at, pos, refl, suc, top_of, w32, w64, zero, ℕ, ℤ, ◌+ℤ◌, ◌-ℤ◌, ◌<ℤ◌, ◌<◌, ◌↔◌},
-  Words.{◌≡◌, ◌≤ℤ◌, ◌≤◌},
-  ZoneLaws.inside_listed,
+  WallSegments.{type_there},
+  Words.{HasType, IsFirstAtOrAfter, IsGreatest, IsNear, IsUtOffset, IsValid, IsWide, LocalType, SFits, Shows, TypeAt, Zone, ap, arith, begin_of},
+  Words.{by_lt_z, cases_lt, index_of, inl, inr, least_time, length, linear, offsets, place_at, pos, refl, suc, top_of, w32, w64, zero, ℕ, ℤ, ◌+ℤ◌},
+  Words.{◌-ℤ◌, ◌<ℤ◌, ◌<◌, ◌↔◌, ◌≡◌, ◌≤ℤ◌, ◌≤◌},
+  ZoneLaws.{inside_listed},
 }
 use Rattle.tz_info.specs.{
-  Reached.IsLastReached,
-  Steps.Entries.{AreEntries, Entries},
-  Steps.SegmentEnds.{IsLatestEnd, IsReached, end_of},
-  Steps.Since.IsReachedSince,
+  Reached.{IsLastReached},
+  Steps.{Entries.{AreEntries, Entries}, SegmentEnds.{IsLatestEnd, IsReached, end_of}, Since.{IsReachedSince}},
 }
 
 -- ---- the segment of the table in which the second lies

@@ -102,7 +102,8 @@ module _ (a : Alternate) (begin local low : ℤ) (rule : IsAlternateRule a) (low
 
   -- from there on, as long as clocks don't change, they show it from the second `shown` on
   module _ (s : LocalType) (here : AlternateAt a low s) (shown : ℤ) (shown_is : shown ≡ int_max low (local -ℤ s.offset)) where
-    shown_from : (v : ℤ) (r : LocalType) → begin ≤ℤ v → ShowsAtOrAfter (RuleAt (AlternateRule a)) local v r → HasNoChange (AlternateAt a) (λ w. (low <ℤ w) × (w ≤ℤ v))
+    shown_from : (v : ℤ) (r : LocalType) → begin ≤ℤ v → ShowsAtOrAfter (RuleAt (AlternateRule a)) local v r
+        → HasNoChange (AlternateAt a) (λ w. (low <ℤ w) × (w ≤ℤ v))
         → shown ≤ℤ v
     shown_from v r from shows none =
         let come = less_before v r from shows in

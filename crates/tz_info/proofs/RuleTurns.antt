@@ -1,9 +1,10 @@
 -- A rule's types and its moments: from which second on a type is in force, and which one a second before.
 use Rattle.tz_info.proofs.{
   RuleDays.{day_rises, one_rule_day, rule_day_is},
-  RuleLaws.alternate_at,
-  Words.{Alternate, AlternateAt, Bool, DayTime, IsAlternateRule, IsBetween, IsDayOf, IsDstAt, IsInSomeYear, IsRuleDay, IsRuleYear, IsYearOf, ap, arith, by_lt_z, cond},
-  Words.{end_in, false, floors, inl, inr, linear, moment, not, pos, refl, rule_day, start_in, true, ℤ, ◌*ℤ◌, ◌+ℤ◌, ◌-ℤ◌, ◌<ℤ◌, ◌≡◌, ◌≤ℤ◌, ◌⊎◌},
+  RuleLaws.{alternate_at},
+  Words.{Alternate, AlternateAt, Bool, DayTime, IsAlternateRule, IsBetween, IsDayOf, IsDstAt, IsInSomeYear, IsRuleDay, IsRuleYear, IsYearOf, ap},
+  Words.{arith, by_lt_z, cond, end_in, false, floors, inl, inr, linear, moment, not, pos, refl, rule_day, start_in, true, ℤ, ◌*ℤ◌, ◌+ℤ◌, ◌-ℤ◌, ◌<ℤ◌},
+  Words.{◌≡◌, ◌≤ℤ◌, ◌⊎◌},
 }
 
 abbrev Rise : (ℤ → ℤ) → Type 0

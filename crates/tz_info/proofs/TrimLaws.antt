@@ -1,6 +1,5 @@
 -- White space at both ends of bytes.
-use Rattle.std.proofs.lemmas.Bool.{cases_Bool}
-use Rattle.std.proofs.lemmas.List.Sums.{prefix_len-le-length, prefix_len_is}
+use Rattle.std.proofs.lemmas.{Bool.{cases_Bool}, List.Sums.{prefix_len-le-length, prefix_len_is}}
 use Rattle.std.specs.List.{prefix_len}
 use Rattle.tz_info.proofs.{
   Words.{BeginsBare, EndsBare, IsAsciiWhitespaceBelow, IsAsciiWhitespaceFrom, IsSpace, IsTrimAscii, IsTrimAsciiStart, IsTrimmed, List, [], ap},

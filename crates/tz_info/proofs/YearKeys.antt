@@ -125,7 +125,8 @@ module _ (x y q : ℤ) (leaps : LeapsAlike x y) (start : year_start y ≡ year_s
       rw (a, b, c, d, day_later _ _ q start, day_later _ _ q after)
 
   by_calm : (starts ends : List ℤ) (calm : Bool) → is_changing starts ends calm y ≡ is_changing starts ends calm x
-  by_calm starts ends true = let s = moment_moved x y q leaps.here start starts in let e = moment_moved x y q leaps.here start ends in rw (s, e, lt_later _ _ _, lt_later _ _ _)
+  by_calm starts ends true = let s = moment_moved x y q leaps.here start starts in
+      let e = moment_moved x y q leaps.here start ends in rw (s, e, lt_later _ _ _, lt_later _ _ _)
   by_calm starts ends false = ap (λ n. has_flip n) (near_alike _ _)
       ∙ has_moved _ _
 

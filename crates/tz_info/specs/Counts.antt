@@ -1,6 +1,5 @@
 -- Counts of the probes of lookups.
-use Rattle.std.specs.Prelude.{ℕ, ◌≡◌, ◌+◌, ◌^◌, ◌<◌, ◌≤◌}
-use Rattle.std.proofs.Common.{arith, ap}
+use Rattle.std.{specs.Prelude.{ℕ, ◌≡◌, ◌+◌, ◌^◌, ◌<◌, ◌≤◌}, proofs.Common.{arith, ap}}
 
 -- the number of transition probes, of questions to rules, and of piece probes
 pub record Counts : Type 0 where

@@ -1,10 +1,12 @@
 //! Time zone files (TZif, RFC 8536): the zone that the bytes of a file spell.
 
-ghost use Rattle.std.specs.{Prelude.{◌≡◌, ◌⊎◌, IfErr, IfOk, MatchResult}, Result.{IsErrAnd}};
-ghost use Rattle.tz_base.specs.Errors.{IsOutOfMemory};
-ghost use Rattle.tz_info.specs.{FileHeaders.{HasOtherMagic}, FilePlaces.{IsFilePlace}, PosixZones.{IsPlaced}};
-ghost use Rattle.tz_info.specs.{FilePieces.{FilePieces, HasPieces}, TzFiles.{IsFileFault, IsTzFile, IsZoneFault}};
-ghost use Rattle.tz_info.specs.Zones.{IsValid, Zone};
+ghost use Rattle.{
+  std.specs.{Prelude.{◌≡◌, ◌⊎◌, IfErr, IfOk, MatchResult}, Result.{IsErrAnd}},
+  tz_base.specs.Errors.{IsOutOfMemory},
+  tz_info.specs.{FileHeaders.{HasOtherMagic}, FilePlaces.{IsFilePlace}, PosixZones.{IsPlaced}},
+  tz_info.specs.{FilePieces.{FilePieces, HasPieces}, TzFiles.{IsFileFault, IsTzFile, IsZoneFault}},
+  tz_info.specs.Zones.{IsValid, Zone},
+};
 
 mod block;
 mod contents;

@@ -10,14 +10,16 @@ pub mod spans;
 pub mod texts;
 pub mod wall_clocks;
 
-ghost use Rattle.std.specs.Prelude.{◌≡◌, ◌↔◌, ◌⊎◌, ◌<◌, ◌+◌, ◌<ℤ◌, ◌≤ℤ◌, ◌+ℤ◌, ◌-ℤ◌, ◌*ℤ◌, length, neg_ℤ, pos};
-ghost use Rattle.std.specs.Prelude.{slice_index_or, List, ℕ, ℤ};
-ghost use Rattle.tz_base.specs.LocalTypes.{LocalType};
-ghost use Rattle.tz_info.specs.Leaps.{AreCounted, AreLeapSeconds, IsLeapTime, IsLeapTimeRefused, IsUnixTime};
-ghost use Rattle.tz_info.specs.Moments.{end_in, start_in, IsBetween, IsRuleTime, IsRuleYear, IsYearOf};
-ghost use Rattle.tz_info.specs.{RuleDayOf.{rule_day}, RuleTypes.{IsRule, IsRuleRefused, RuleAt}, Zones.{Zone}};
-ghost use Rattle.tz_info.specs.{RuleDays.{IsDayOf, IsRuleDay}, Rules.{Alternate as AlternateRule, IsAlternateRule}};
-ghost use Rattle.tz_info.specs.Zones.{last_transition, HasType, IsRuleOrNone, IsTypeOf, IsTypeRefused, IsValid, TypeAt};
+ghost use Rattle.{
+  std.specs.Prelude.{◌≡◌, ◌↔◌, ◌⊎◌, ◌<◌, ◌+◌, ◌<ℤ◌, ◌≤ℤ◌, ◌+ℤ◌, ◌-ℤ◌, ◌*ℤ◌, length, neg_ℤ, pos, slice_index_or, List},
+  std.specs.Prelude.{ℕ, ℤ},
+  tz_base.specs.LocalTypes.{LocalType},
+  tz_info.specs.Leaps.{AreCounted, AreLeapSeconds, IsLeapTime, IsLeapTimeRefused, IsUnixTime},
+  tz_info.specs.{Moments.{end_in, start_in, IsBetween, IsRuleTime, IsRuleYear, IsYearOf}, RuleDayOf.{rule_day}},
+  tz_info.specs.RuleTypes.{IsRule, IsRuleRefused, RuleAt},
+  tz_info.specs.Zones.{Zone, last_transition, HasType, IsRuleOrNone, IsTypeOf, IsTypeRefused, IsValid, TypeAt},
+  tz_info.specs.{RuleDays.{IsDayOf, IsRuleDay}, Rules.{Alternate as AlternateRule, IsAlternateRule}},
+};
 
 use crate::DayForm;
 use crate::rule::TransitionRule;

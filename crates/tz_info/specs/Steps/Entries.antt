@@ -1,39 +1,21 @@
 -- A zone's transitions as one list of clock changes by Unix time: its entries, each a Unix second and the index of a type.
-use Rattle.std.specs.Prelude.{
-  ℕ,
-  ℤ,
-  ◌≡◌,
-  ◌≢◌,
-  ◌⊎◌,
-  ◌+◌,
-  ◌-◌,
-  ◌<◌,
-  ◌≤◌,
-  Some,
-  ◌≤ℤ◌,
-  ◌<ℤ◌,
-  ◌↔◌,
-  ◌++◌,
-  [],
-  ◌∷◌,
-  List,
-  length,
-  map,
-  Bool,
-  true,
-  false,
-  FitsSigned,
-  pos,
+use Rattle.std.specs.{
+  Prelude.{ℕ, ℤ, ◌≡◌, ◌≢◌, ◌⊎◌, ◌+◌, ◌-◌, ◌<◌, ◌≤◌, Some, ◌≤ℤ◌, ◌<ℤ◌, ◌↔◌, ◌++◌, [], ◌∷◌, List, length, map, Bool, true, false, FitsSigned, pos},
+  Prelude.{slice_index_or, IsTrue, Option, None, zero, suc},
+  Int.{w64},
+  List.{slice_get},
 }
-use Rattle.std.specs.{Prelude.{slice_index_or, IsTrue, Option, None, zero, suc}, Int.{w64}, List.{slice_get}}
 use Rattle.tz_base.specs.{LocalTypes.{LocalType}, declared.change.Change.{Change}}
-use Rattle.tz_info.specs.{Leaps.{IsLeapTime, least_time}, Lists.{last_else}, Steps.{Segments.{begin_of, index_of}, Starts.{leap_time_at}}}
-use Rattle.tz_info.specs.{Transitions.{AreRising, NameTypes, passed}, Zones.{Zone, IsFromLast, index_at}, Digits.{digits}}
-use Rattle.tz_info.specs.declared.zone.{
-  made.change_table.{Between.{Between}, Come.{Come}},
-  lists.{leap_second.LeapSecond.{LeapSecond}, table.Entry.{Entry}},
+use Rattle.tz_info.specs.{
+  Leaps.{IsLeapTime, least_time},
+  Lists.{last_else},
+  Steps.{Segments.{begin_of, index_of}, Starts.{leap_time_at}},
+  Transitions.{AreRising, NameTypes, passed},
+  Zones.{Zone, IsFromLast, index_at},
+  Digits.{digits},
+  declared.zone.made.change_table.{Between.{Between}, Come.{Come}},
+  declared.zone.lists.{leap_second.LeapSecond.{LeapSecond}, table.Entry.{Entry}, transition.Transition.{Transition}},
 }
-use Rattle.tz_info.specs.declared.zone.lists.transition.Transition.{Transition}
 
 -- a list of entries, how many of them have come once all transitions have, and the transitions as listed
 pub record Entries : Type 0 where

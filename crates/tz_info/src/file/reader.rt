@@ -1,12 +1,14 @@
 //! A file from its first byte to its last: its pieces, and the lists that they spell.
 
-ghost use Rattle.std.specs.{Prelude.{◌≡◌, ◌⊎◌, MatchResult, OnErr}, Result.{IsErrAnd}};
-ghost use Rattle.tz_base.specs.{Fronts.{Gives}, Grammar.{from_fault, IsRead}};
-ghost use Rattle.tz_info.specs.{FileBlocks.{parts_of}, FileHeaders.{HasOtherMagic}, FilePieces.{file}};
-ghost use Rattle.tz_info.specs.FilePieces.{after_first_block, is_extended, later_version};
-ghost use Rattle.tz_info.specs.Steps.{ContentReading.{GivesInMemory}, FileLists.{HasLengths, Reads}};
-ghost use Rattle.tz_info.specs.Steps.FileLists.{lists_in, pieces_at, pieces_of, zone_of_lists};
-ghost use Rattle.tz_info.specs.Zones.{IsValid, ListFault};
+ghost use Rattle.{
+  std.specs.{Prelude.{◌≡◌, ◌⊎◌, MatchResult, OnErr}, Result.{IsErrAnd}},
+  tz_base.specs.{Fronts.{Gives}, Grammar.{from_fault, IsRead}},
+  tz_info.specs.{FileBlocks.{parts_of}, FileHeaders.{HasOtherMagic}},
+  tz_info.specs.FilePieces.{file, after_first_block, is_extended, later_version},
+  tz_info.specs.Steps.ContentReading.{GivesInMemory},
+  tz_info.specs.Steps.FileLists.{HasLengths, Reads, lists_in, pieces_at, pieces_of, zone_of_lists},
+  tz_info.specs.Zones.{IsValid, ListFault},
+};
 
 use crate::file::block::{Block, read_block};
 use crate::file::contents::{check_indicators, read_leap_seconds, read_transitions};

@@ -1,10 +1,12 @@
 //! The local time types of a data block and their names (RFC 8536 section 3.2).
 
-ghost use Rattle.std.specs.{List.{position_from}, Prelude.{◌≡◌, ◌<◌, ◌*◌, length, option_map, IfSome}};
-ghost use Rattle.tz_base.specs.Fronts.{Gives};
-ghost use Rattle.tz_info.specs.{FileContents.{designation_of}, Steps.ContentReading.{GivesInMemory}};
-ghost use Rattle.tz_info.specs.Steps.ContentReading.{designation_at, is_zero, mark_of, type_in};
-ghost use Rattle.tz_info.specs.Steps.ContentReading.{type_of, type_of_record, values_below};
+ghost use Rattle.{
+  std.specs.{List.{position_from}, Prelude.{◌≡◌, ◌<◌, ◌*◌, length, option_map, IfSome}},
+  tz_base.specs.Fronts.{Gives},
+  tz_info.specs.FileContents.{designation_of},
+  tz_info.specs.Steps.ContentReading.{GivesInMemory, designation_at, is_zero, mark_of, type_in, type_of},
+  tz_info.specs.Steps.ContentReading.{type_of_record, values_below},
+};
 
 use crate::file::numbers::{record_at, signed_32};
 use std::alloc::Global;

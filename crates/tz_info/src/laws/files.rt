@@ -1,10 +1,12 @@
 //! Theorems of time zone files: each function is empty, its contract is proved; never called.
 
-ghost use Rattle.std.specs.Prelude.{◌≡◌, ◌≤◌, drop, length, List, ℕ};
-ghost use Rattle.tz_base.specs.Errors.{error_number};
-ghost use Rattle.tz_info.specs.{FilePieces.{FilePieces, HasPieces}, TzFiles.{IsFileFault, IsTzFile}};
-ghost use Rattle.tz_info.specs.FilePlaces.{footer_bytes, in_order, ArePartPlaces, IsFilePlace};
-ghost use Rattle.tz_info.specs.{Zones.{IsRuleOrNone, IsValid, Zone}, declared.file.place.PartPlaces.{PartPlaces}};
+ghost use Rattle.{
+  std.specs.Prelude.{◌≡◌, ◌≤◌, drop, length, List, ℕ},
+  tz_base.specs.Errors.{error_number},
+  tz_info.specs.{FilePieces.{FilePieces, HasPieces}, TzFiles.{IsFileFault, IsTzFile}},
+  tz_info.specs.{FilePlaces.{footer_bytes, in_order, ArePartPlaces, IsFilePlace}, Zones.{IsRuleOrNone, IsValid, Zone}},
+  tz_info.specs.declared.file.place.PartPlaces.{PartPlaces},
+};
 
 use tz_base::Error;
 

@@ -1,11 +1,14 @@
 //! Theorems of when clocks show certain local times, over all seconds: each function is empty, its
 //! contract is proved; never called.
 
-ghost use Rattle.std.specs.{Int.{w64}, Prelude.{◌≡◌, ◌↔◌, ◌<ℤ◌, ◌≤ℤ◌, ◌+ℤ◌, ◌-ℤ◌, pos, FitsSigned, Option, ℤ}};
-ghost use Rattle.tz_base.specs.LocalTypes.{LocalType};
-ghost use Rattle.tz_info.specs.ShownSeconds.{AreEndsWithin, AreShownWithin, IsFirstAtOrAfter, IsFirstWithin};
-ghost use Rattle.tz_info.specs.{ShownSeconds.{IsNeverWithin, ShowsWithin}, Windows.{offsets, IsGreatest, IsLeast}};
-ghost use Rattle.tz_info.specs.{Reached.{IsLastReached}, WallClocks.{Shows}, Zones.{TypeAt, Zone}};
+ghost use Rattle.{
+  std.specs.{Int.{w64}, Prelude.{◌≡◌, ◌↔◌, ◌<ℤ◌, ◌≤ℤ◌, ◌+ℤ◌, ◌-ℤ◌, pos, FitsSigned, Option, ℤ}},
+  tz_base.specs.LocalTypes.{LocalType},
+  tz_info.specs.ShownSeconds.{AreEndsWithin, AreShownWithin, IsFirstAtOrAfter, IsFirstWithin, IsNeverWithin},
+  tz_info.specs.ShownSeconds.{ShowsWithin},
+  tz_info.specs.{Windows.{offsets, IsGreatest, IsLeast}, Reached.{IsLastReached}, WallClocks.{Shows}},
+  tz_info.specs.Zones.{TypeAt, Zone},
+};
 
 use crate::zone::ask::shown_seconds::ShownSeconds;
 

@@ -2,11 +2,13 @@
 //!
 //! Only `ask_year` makes an `AskedYear`, without which a year's changes aren't found.
 
-ghost use Rattle.std.specs.Prelude.{◌≡◌, ◌≢◌, ◌+◌, true, MatchOption};
-ghost use Rattle.tz_info.specs.{Changes.{IsChange}, Moments.{type_when, AlternateAt, IsRuleTime, IsRuleYear, IsYearOf}};
-ghost use Rattle.tz_info.specs.{Counts.{HasRoomFor}, Steps.AskedYears.{turn_of, IsAskedYear, IsCalmRule}};
-ghost use Rattle.tz_info.specs.Steps.Beside.{change_found, IsNearestMomentOf};
-ghost use Rattle.tz_info.specs.Steps.Changes.{IsIdle, IsInStretch, IsOfYear};
+ghost use Rattle.{
+  std.specs.Prelude.{◌≡◌, ◌≢◌, ◌+◌, true, MatchOption},
+  tz_info.specs.{Changes.{IsChange}, Moments.{type_when, AlternateAt, IsRuleTime, IsRuleYear, IsYearOf}},
+  tz_info.specs.Counts.{HasRoomFor},
+  tz_info.specs.Steps.{AskedYears.{turn_of, IsAskedYear, IsCalmRule}, Beside.{change_found, IsNearestMomentOf}},
+  tz_info.specs.Steps.Changes.{IsIdle, IsInStretch, IsOfYear},
+};
 
 use crate::change::is_same_type;
 use crate::rule::alternate::AlternateTime;

@@ -1,11 +1,13 @@
 //! When a rule's types give way to each other.
 
-ghost use Rattle.std.specs.Prelude.{◌≡◌, ◌↔◌, ◌≤◌, ◌<ℤ◌, ◌-ℤ◌, not, option_map, pos, IsTrue, MatchOption};
-ghost use Rattle.tz_info.specs.{Changes.{HasNoChange, IsNearest}, Steps.Changes.{year_at, IsAhead, IsNearRuleTime}};
-ghost use Rattle.tz_info.specs.{Counts.{HasRoomFor, RoseWithin}, Steps.Beside.{change_found, IsNearestMomentOf}};
-ghost use Rattle.tz_info.specs.HeldChanges.{change_held};
-ghost use Rattle.tz_info.specs.Moments.{type_when, AlternateAt, IsRuleTime, IsRuleYear, IsYearOf};
-ghost use Rattle.tz_info.specs.Steps.AskedYears.{HasNoneBeyond, IsAskedYear, IsNextChanging, IsYearNear};
+ghost use Rattle.{
+  std.specs.Prelude.{◌≡◌, ◌↔◌, ◌≤◌, ◌<ℤ◌, ◌-ℤ◌, not, option_map, pos, IsTrue, MatchOption},
+  tz_info.specs.Changes.{HasNoChange, IsNearest},
+  tz_info.specs.Steps.{Changes.{year_at, IsAhead, IsNearRuleTime}, Beside.{change_found, IsNearestMomentOf}},
+  tz_info.specs.Steps.AskedYears.{HasNoneBeyond, IsAskedYear, IsNextChanging, IsYearNear},
+  tz_info.specs.{Counts.{HasRoomFor, RoseWithin}, HeldChanges.{change_held}},
+  tz_info.specs.Moments.{type_when, AlternateAt, IsRuleTime, IsRuleYear, IsYearOf},
+};
 
 use crate::change::HeldChange;
 use crate::rule::alternate::AlternateTime;

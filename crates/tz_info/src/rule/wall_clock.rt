@@ -1,14 +1,15 @@
 //! The wall clock of a rule.
 
-ghost use Rattle.std.specs.{Prelude.{◌-ℤ◌, ⊤, MatchOption, ℤ}, Result.{IsOkAnd}};
-ghost use Rattle.offset_core.specs.{LocalResult.{map_of}, WallAnswer.{IsWallAnswer}};
-ghost use Rattle.naive_base.specs.{NaiveDateTime.{reading}, Range.{IsWide}};
-ghost use Rattle.tz_base.specs.LocalTypes.{IsUtOffset};
-ghost use Rattle.tz_info.specs.{Counts.{HasRoomFor, RoseWithin}, HeldChanges.{change_held}, Steps.Walk.{IsAskedLast}};
-ghost use Rattle.tz_info.specs.Moments.{type_when};
-ghost use Rattle.tz_info.specs.{Rules.{IsAlternateRule}, RuleTypes.{RuleAt}, WallClocks.{Shows}};
-ghost use Rattle.tz_info.specs.Steps.{Gaps.{IsNeverFrom, IsRuleGap}, Seasons.{IsSeason, IsSeasonFor, IsSeasonOf}};
-ghost use Rattle.tz_info.specs.Steps.RuleSeconds.{AreUtOffsets, IsAskedFrom, IsAskedSince, TypeFrom};
+ghost use Rattle.{
+  naive_base.specs.{NaiveDateTime.{reading}, Range.{IsWide}},
+  offset_core.specs.{LocalResult.{map_of}, WallAnswer.{IsWallAnswer}},
+  std.specs.{Prelude.{◌-ℤ◌, ⊤, MatchOption, ℤ}, Result.{IsOkAnd}},
+  tz_base.specs.LocalTypes.{IsUtOffset},
+  tz_info.specs.{Counts.{HasRoomFor, RoseWithin}, HeldChanges.{change_held}},
+  tz_info.specs.Steps.{Walk.{IsAskedLast}, Gaps.{IsNeverFrom, IsRuleGap}, Seasons.{IsSeason, IsSeasonFor, IsSeasonOf}},
+  tz_info.specs.Steps.RuleSeconds.{AreUtOffsets, IsAskedFrom, IsAskedSince, TypeFrom},
+  tz_info.specs.{Moments.{type_when}, Rules.{IsAlternateRule}, RuleTypes.{RuleAt}, WallClocks.{Shows}},
+};
 
 use crate::answers::{joined, second_showing, types_copied};
 use crate::change::HeldChange;

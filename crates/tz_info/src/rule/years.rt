@@ -3,12 +3,14 @@
 //! They do so at moments of the rule, and at a turn of the year if the one moment comes first in
 //! the old year, and the other one in the new. Every 400 years they do so alike.
 
-ghost use Rattle.std.specs.Prelude.{◌≡◌, ◌≢◌, ◌↔◌, ◌≤ℤ◌, length, IfSome, IsTrue, MatchOption};
-ghost use Rattle.tz_info.specs.{Changes.{IsChange}, Moments.{type_when, AlternateAt, IsRuleTime, IsRuleYear, IsYearOf}};
-ghost use Rattle.tz_info.specs.Rules.{Alternate, IsAlternateRule};
-ghost use Rattle.tz_info.specs.Steps.Beside.{change_found, IsMomentAt, IsNearestMomentOf};
-ghost use Rattle.tz_info.specs.Steps.Changes.{moments_near, near_end, new_year, IsEarlierOf, IsIdle, IsInStretch};
-ghost use Rattle.tz_info.specs.Steps.Changes.{IsLaterOf, IsOfYear, IsOneOf, IsStretchAhead};
+ghost use Rattle.{
+  std.specs.Prelude.{◌≡◌, ◌≢◌, ◌↔◌, ◌≤ℤ◌, length, IfSome, IsTrue, MatchOption},
+  tz_info.specs.{Changes.{IsChange}, Moments.{type_when, AlternateAt, IsRuleTime, IsRuleYear, IsYearOf}},
+  tz_info.specs.Rules.{Alternate, IsAlternateRule},
+  tz_info.specs.Steps.Beside.{change_found, IsMomentAt, IsNearestMomentOf},
+  tz_info.specs.Steps.Changes.{moments_near, near_end, new_year, IsEarlierOf, IsIdle, IsInStretch, IsLaterOf, IsOfYear},
+  tz_info.specs.Steps.Changes.{IsOneOf, IsStretchAhead},
+};
 
 use crate::change::is_same_type;
 use crate::rule::alternate::AlternateTime;

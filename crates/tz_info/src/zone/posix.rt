@@ -1,10 +1,12 @@
 //! Zones of TZ strings.
 
-ghost use Rattle.std.specs.Prelude.{◌≡◌, ◌⊎◌, pos, true, IfErr, IfOk, MatchResult};
-ghost use Rattle.tz_base.specs.Errors.{IsOutOfMemory};
-ghost use Rattle.tz_info.specs.PosixZones.{posix_zone, types_of, IsExtendedFaultPlace, IsExtendedZone, IsPlaced};
-ghost use Rattle.tz_info.specs.{PosixZones.{IsPosixFault, IsPosixFaultPlace, IsPosixZone}, Zones.{plain_zone, Zone}};
-ghost use Rattle.tz_info.specs.{Steps.Spelled.{IsTrimmedRule}, TzGrammar.{IsTextFault}};
+ghost use Rattle.{
+  std.specs.Prelude.{◌≡◌, ◌⊎◌, pos, true, IfErr, IfOk, MatchResult},
+  tz_base.specs.Errors.{IsOutOfMemory},
+  tz_info.specs.PosixZones.{posix_zone, types_of, IsExtendedFaultPlace, IsExtendedZone, IsPlaced, IsPosixFault},
+  tz_info.specs.PosixZones.{IsPosixFaultPlace, IsPosixZone},
+  tz_info.specs.{Zones.{plain_zone, Zone}, Steps.Spelled.{IsTrimmedRule}, TzGrammar.{IsTextFault}},
+};
 
 use crate::rule::TransitionRule;
 use crate::rule::reader::read_all;

@@ -1,12 +1,13 @@
 //! The whole of a TZ string.
 
-ghost use Rattle.std.specs.Prelude.{◌≡◌, ◌+ℤ◌, int_le, pos, IfOk};
-ghost use Rattle.offset_core.specs.Offset.{IsWithinDay};
-ghost use Rattle.tz_base.specs.{Fronts.{Gives}, Grammar.{checked, is_end, IsRead}, Names.{expected_of_name, is_name}};
-ghost use Rattle.tz_base.specs.Refusals.{InvalidTzString, LocalTimeType as BadType};
-ghost use Rattle.tz_info.specs.Rules.{IsWithinWeek};
-ghost use Rattle.tz_info.specs.{Steps.Spelled.{day_time_of, rule_of, IsSpelled}, TzGrammar.{named_type, text}};
-ghost use Rattle.tz_info.specs.TzGrammar.{alternate, days, dst_offset, end, fixed, given_offset, more, named};
+ghost use Rattle.{
+  offset_core.specs.Offset.{IsWithinDay},
+  std.specs.Prelude.{◌≡◌, ◌+ℤ◌, int_le, pos, IfOk},
+  tz_base.specs.{Fronts.{Gives}, Grammar.{checked, is_end, IsRead}, Names.{expected_of_name, is_name}},
+  tz_base.specs.Refusals.{InvalidTzString, LocalTimeType as BadType},
+  tz_info.specs.{Rules.{IsWithinWeek}, Steps.Spelled.{day_time_of, rule_of, IsSpelled}},
+  tz_info.specs.TzGrammar.{named_type, text, alternate, days, dst_offset, end, fixed, given_offset, more, named},
+};
 
 use crate::rule::reader::clock::read_offset;
 use crate::rule::reader::date::read_day;

@@ -1,11 +1,13 @@
 //! The clock change of a local time: the one that skips it, or the one that sets clocks back over it.
 
-ghost use Rattle.std.specs.Prelude.{◌↔◌, ◌≤ℤ◌, ◌+ℤ◌, IsTrue, MatchOption};
-ghost use Rattle.offset_core.specs.WallAnswer.{IsShownOnce};
-ghost use Rattle.naive_base.specs.NaiveDateTime.{reading};
-ghost use Rattle.tz_base.specs.LocalTypes.{LocalType};
-ghost use Rattle.tz_info.specs.{Folds.{HasFold, SkipsOrRepeats}, Steps.{Folds.{AreEndsOfFold}, Runs.{IsEnd}}};
-ghost use Rattle.tz_info.specs.{Leaps.{IsNear}, WallClocks.{Shows}, Zones.{TypeAt}};
+ghost use Rattle.{
+  naive_base.specs.NaiveDateTime.{reading},
+  offset_core.specs.WallAnswer.{IsShownOnce},
+  std.specs.Prelude.{◌↔◌, ◌≤ℤ◌, ◌+ℤ◌, IsTrue, MatchOption},
+  tz_base.specs.LocalTypes.{LocalType},
+  tz_info.specs.{Folds.{HasFold, SkipsOrRepeats}, Steps.{Folds.{AreEndsOfFold}, Runs.{IsEnd}}, Leaps.{IsNear}},
+  tz_info.specs.{WallClocks.{Shows}, Zones.{TypeAt}},
+};
 
 use crate::answers::second_showing;
 use crate::change::HeldChange;

@@ -1,12 +1,14 @@
 //! Gaps: what is in force around a local time that no clock shows.
 
-ghost use Rattle.std.specs.Prelude.{option_map, ⊤, MatchOption};
-ghost use Rattle.offset_core.specs.WallAnswer.{IsNeverShown};
-ghost use Rattle.naive_base.specs.{NaiveDateTime.{reading}, Range.{IsWide}};
-ghost use Rattle.tz_info.specs.{Around.{map_both, AreTypesAround, IsAroundOrBefore}, Steps.WallPieces.{IsTableLess}};
-ghost use Rattle.tz_info.specs.{Counts.{HasRoom}, WallClocks.{Shows}};
-ghost use Rattle.tz_info.specs.{Gaps.{HasGap, IsShown, IsTypeBeforeGap}, Steps.{Gaps.{HasReach}, Seasons.{IsSeasonIn}}};
-ghost use Rattle.tz_info.specs.{HeldChanges.{change_held}, Looks.{RoseAround}, Questions.{IsAskedFor}, Zones.{TypeAt}};
+ghost use Rattle.{
+  naive_base.specs.{NaiveDateTime.{reading}, Range.{IsWide}},
+  offset_core.specs.WallAnswer.{IsNeverShown},
+  std.specs.Prelude.{option_map, ⊤, MatchOption},
+  tz_info.specs.Around.{map_both, AreTypesAround, IsAroundOrBefore},
+  tz_info.specs.{Steps.{WallPieces.{IsTableLess}, Gaps.{HasReach}, Seasons.{IsSeasonIn}}, Counts.{HasRoom}},
+  tz_info.specs.{WallClocks.{Shows}, Gaps.{HasGap, IsShown, IsTypeBeforeGap}, HeldChanges.{change_held}},
+  tz_info.specs.{Looks.{RoseAround}, Questions.{IsAskedFor}, Zones.{TypeAt}},
+};
 
 use crate::change::HeldChange;
 use crate::rule::Season;

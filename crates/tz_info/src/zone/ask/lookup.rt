@@ -1,14 +1,16 @@
 //! The type in force at an instant, and the reads that several lookups share.
 
-ghost use Rattle.std.specs.Prelude.{◌≡◌, ◌↔◌, ◌<◌, ◌≤◌, ◌+◌, ◌^◌, length, slice_index_or, take, IfOk, IfSome, IsTrue};
-ghost use Rattle.std.specs.Prelude.{MatchOption, MatchResult};
-ghost use Rattle.offset_core.specs.WallAnswer.{IsShownOnce};
-ghost use Rattle.naive_base.specs.Range.{IsWide};
-ghost use Rattle.tz_info.specs.{Counts.{HasRoom, HasRoomFor, RoseWithin}, Digits.{digits}, Steps.Starts.{leap_time_at}};
-ghost use Rattle.tz_info.specs.{HeldChanges.{span_held}, Looks.{RoseByInstant}, Steps.Entries.{HaveComeAt}};
-ghost use Rattle.tz_info.specs.{Leaps.{IsLeapTime, IsLeapTimeRefused, IsNear}, Steps.Asked.{IsAskedAtLeapTime}};
-ghost use Rattle.tz_info.specs.{Questions.{IsAskedAt}, Spans.{IsSpanAt}, Transitions.{passed}, WallClocks.{Shows}};
-ghost use Rattle.tz_info.specs.Zones.{IsFromLast, IsRefusedBy, IsTypeError, RuleOrType, TypeAt, TypeAtLeapTime};
+ghost use Rattle.{
+  naive_base.specs.Range.{IsWide},
+  offset_core.specs.WallAnswer.{IsShownOnce},
+  std.specs.Prelude.{◌≡◌, ◌↔◌, ◌<◌, ◌≤◌, ◌+◌, ◌^◌, length, slice_index_or, take, IfOk, IfSome, IsTrue, MatchOption},
+  std.specs.Prelude.{MatchResult},
+  tz_info.specs.{Counts.{HasRoom, HasRoomFor, RoseWithin}, Digits.{digits}},
+  tz_info.specs.Steps.{Starts.{leap_time_at}, Entries.{HaveComeAt}, Asked.{IsAskedAtLeapTime}},
+  tz_info.specs.{HeldChanges.{span_held}, Looks.{RoseByInstant}, Leaps.{IsLeapTime, IsLeapTimeRefused, IsNear}},
+  tz_info.specs.{Questions.{IsAskedAt}, Spans.{IsSpanAt}, Transitions.{passed}, WallClocks.{Shows}},
+  tz_info.specs.Zones.{IsFromLast, IsRefusedBy, IsTypeError, RuleOrType, TypeAt, TypeAtLeapTime},
+};
 
 use crate::change::HeldSpan;
 use crate::rule::TransitionRule;

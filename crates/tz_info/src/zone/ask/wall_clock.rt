@@ -1,12 +1,14 @@
 //! The wall clock of a zone.
 
-ghost use Rattle.std.specs.{Prelude.{◌≡◌, ◌<◌, ◌+◌, ◌*◌, length, ⊤, MatchOption}, Result.{IsOkAnd}};
-ghost use Rattle.offset_core.specs.{LocalResult.{map_of}, WallAnswer.{IsWallAnswer}};
-ghost use Rattle.naive_base.specs.{NaiveDateTime.{reading}, Range.{IsWide}};
-ghost use Rattle.tz_info.specs.{Counts.{HasRoom, HasRoomFor, RoseByPieces, RoseWithin}, Steps.Seasons.{IsSeasonIn}};
-ghost use Rattle.tz_info.specs.{Digits.{digits}, WallClocks.{Shows}, Zones.{TypeAt}};
-ghost use Rattle.tz_info.specs.{Looks.{RoseByWallClock}, Questions.{IsAskedFor}, Steps.Walk.{IsShownIn}};
-ghost use Rattle.tz_info.specs.Steps.{Pieces.{AreBelow, AreListed}, WallPieces.{shown_indexes, IsTableAnswer}};
+ghost use Rattle.{
+  naive_base.specs.{NaiveDateTime.{reading}, Range.{IsWide}},
+  offset_core.specs.{LocalResult.{map_of}, WallAnswer.{IsWallAnswer}},
+  std.specs.{Prelude.{◌≡◌, ◌<◌, ◌+◌, ◌*◌, length, ⊤, MatchOption}, Result.{IsOkAnd}},
+  tz_info.specs.Counts.{HasRoom, HasRoomFor, RoseByPieces, RoseWithin},
+  tz_info.specs.Steps.{Seasons.{IsSeasonIn}, Walk.{IsShownIn}, Pieces.{AreBelow, AreListed}},
+  tz_info.specs.Steps.WallPieces.{shown_indexes, IsTableAnswer},
+  tz_info.specs.{Digits.{digits}, WallClocks.{Shows}, Zones.{TypeAt}, Looks.{RoseByWallClock}, Questions.{IsAskedFor}},
+};
 
 use crate::answers::{joined, types_copied};
 use crate::rule::{Season, TransitionRule};

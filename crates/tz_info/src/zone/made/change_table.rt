@@ -1,10 +1,13 @@
 //! The list of clock changes for lookups, which counts each probe.
 
-ghost use Rattle.std.specs.Prelude.{◌≡◌, ◌↔◌, ◌<◌, ◌≤◌, ◌+◌, ◌-◌, ◌^◌, ◌<ℤ◌, ◌≤ℤ◌, [], length, neg_ℤ, option_map};
-ghost use Rattle.std.specs.Prelude.{pos, IfSome, IsTrue, MatchOption, MatchResult};
-ghost use Rattle.tz_info.specs.{Counts.{HasRoom, HasRoomFor, RoseWithin}, Digits.{digits}, HeldChanges.{change_held}};
-ghost use Rattle.tz_info.specs.Steps.{Entries.{entry_time, most_looks, IsBetween, IsCome, IsEntryAt, IsEntryChange}, Segments.{index_of}};
-ghost use Rattle.tz_info.specs.{Steps.{Pieces.{IsJump, IsPlaced}, WallPieces.{top_of, IsBegun}}, Transitions.{passed, AreRising, NameTypes}};
+ghost use Rattle.{
+  std.specs.Prelude.{◌≡◌, ◌↔◌, ◌<◌, ◌≤◌, ◌+◌, ◌-◌, ◌^◌, ◌<ℤ◌, ◌≤ℤ◌, [], length, neg_ℤ, option_map, pos, IfSome, IsTrue},
+  std.specs.Prelude.{MatchOption, MatchResult},
+  tz_info.specs.{Counts.{HasRoom, HasRoomFor, RoseWithin}, Digits.{digits}, HeldChanges.{change_held}},
+  tz_info.specs.Steps.Entries.{entry_time, most_looks, IsBetween, IsCome, IsEntryAt, IsEntryChange},
+  tz_info.specs.Steps.{Segments.{index_of}, Pieces.{IsJump, IsPlaced}, WallPieces.{top_of, IsBegun}},
+  tz_info.specs.Transitions.{passed, AreRising, NameTypes},
+};
 
 use crate::change::HeldChange;
 use crate::rule::TransitionRule;

@@ -1,7 +1,6 @@
-use Rattle.tz_base.specs.Grammar.{fault_position}
-use Rattle.tz_info.{
-  proofs.{FilePieceLaws.{has_lengths, piece_fault, pieces_read}, Words.{arith, file, ◌≡◌}},
-  specs.FilePlaces.{In_contents, In_piece},
+use Rattle.{
+  tz_base.specs.Grammar.{fault_position},
+  tz_info.{proofs.{FilePieceLaws.{has_lengths, piece_fault, pieces_read}, Words.{arith, file, ◌≡◌}}, specs.FilePlaces.{In_contents, In_piece}},
 }
 use Rattle.tz_info.proofs.file.place.place_of_fault.Goals as goal
 

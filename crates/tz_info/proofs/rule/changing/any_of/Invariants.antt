@@ -1,5 +1,7 @@
-use Rattle.std.specs.List.{list_any}
-use Rattle.tz_info.proofs.Words.{false, take, ◌≡◌}
+use Rattle.{
+  std.specs.List.{list_any},
+  tz_info.proofs.Words.{false, take, ◌≡◌},
+}
 use Rattle.tz_info.proofs.rule.changing.any_of.Given as goal
 
 abbrev pub invariant-loop-test : goal.invariant-loop-test

@@ -1,7 +1,10 @@
 use Rattle.std.proofs.lemmas.List.{map-append, take_more_set}
-use Rattle.tz_info.proofs.{Fits.fits, YearKeys.{key_count, keys_are}}
-use Rattle.tz_info.proofs.Words.{SFits, ap, arith, changing_keys, get_or, key_years, length, length-set, map, pos, refl, rules, sym, take_all, take_more, w32}
-use Rattle.tz_info.proofs.Words.{◌<◌, ◌∙◌, ◌≡◌, ◌≤◌}
+use Rattle.tz_info.proofs.{
+  Fits.{fits},
+  YearKeys.{key_count, keys_are},
+  Words.{SFits, ap, arith, changing_keys, get_or, key_years, length, length-set, map, pos, refl, rules, sym, take_all, take_more, w32, ◌<◌, ◌∙◌, ◌≡◌},
+  Words.{◌≤◌},
+}
 use Rattle.tz_info.specs.Steps.ChangingYears.{is_changing}
 use Rattle.tz_info.proofs.rule.changing.changing_keys.Goals as goal
 

@@ -1,5 +1,7 @@
-use Rattle.std.specs.Prelude.{neg_ℤ, ◌≤ℤ◌}
-use Rattle.tz_info.proofs.Words.{IsDay, SFits, arith, floors, pos, to_z-of_z, w64, ℤ, ◌*ℤ◌, ◌+ℤ◌}
+use Rattle.{
+  std.specs.Prelude.{neg_ℤ, ◌≤ℤ◌},
+  tz_info.proofs.Words.{IsDay, SFits, arith, floors, pos, to_z-of_z, w64, ℤ, ◌*ℤ◌, ◌+ℤ◌},
+}
 use Rattle.tz_info.proofs.rule.changing.moment_by.Goals as goal
 
 -- the numbers on the way fit 64 bits

@@ -1,5 +1,4 @@
-use Rattle.tz_info.proofs.{QuestionLaws.{asked_in_turn, asked_once}, SeasonAnswers.{found_both, found_one}}
-use Rattle.tz_info.proofs.Words.{arith, linear, to_z-of_z}
+use Rattle.tz_info.proofs.{QuestionLaws.{asked_in_turn, asked_once}, SeasonAnswers.{found_both, found_one}, Words.{arith, linear, to_z-of_z}}
 use Rattle.tz_info.proofs.rule.alternate.AlternateTime.answer_from.Goals as goal
 
 pub ask-both-requires-clause-room : goal.ask-both-requires-clause-room

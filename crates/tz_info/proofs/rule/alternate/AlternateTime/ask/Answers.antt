@@ -1,5 +1,8 @@
-use Rattle.tz_info.proofs.{Candidates.{asked_found, asked_other}, Words.{AlternateAt, SFits, ap, linear, rules, to_z-of_z, type_when, w32, w64, ◌-ℤ◌, ◌∙◌, ◌≡◌}}
-use Rattle.tz_info.proofs.rule.alternate.AlternateTime.ask.Goals.{After-offset}
+use Rattle.tz_info.proofs.{
+  Candidates.{asked_found, asked_other},
+  Words.{AlternateAt, SFits, ap, linear, rules, to_z-of_z, type_when, w32, w64, ◌-ℤ◌, ◌∙◌, ◌≡◌},
+  rule.alternate.AlternateTime.ask.Goals.{After-offset},
+}
 use Rattle.tz_info.proofs.rule.alternate.AlternateTime.ask.Goals as goal
 
 -- the second fits, and the type is in force then

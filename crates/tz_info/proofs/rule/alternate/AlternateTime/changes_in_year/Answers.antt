@@ -1,5 +1,4 @@
-use Rattle.tz_info.proofs.Words.{arith, to_z-of_z}
-use Rattle.tz_info.proofs.ChangingYears.{by_key}
+use Rattle.tz_info.proofs.{Words.{arith, to_z-of_z}, ChangingYears.{by_key}}
 use Rattle.tz_info.proofs.rule.alternate.AlternateTime.changes_in_year.Goals as goal
 
 pub returns-clause-value : goal.returns-clause-value

@@ -1,6 +1,9 @@
-use Rattle.tz_info.proofs.{AskedYears.{beyond_first, from_next, never_at_all, never_beyond, none_out}, Fits.fits}
-use Rattle.tz_info.proofs.Words.{to_z-of_z, IsRuleYear, SFits, arith, w32, w64, year_at, ◌≡◌}
-use Rattle.tz_info.proofs.rule.alternate.AlternateTime.changing_year.Goals.{Else-not-is_rule_year}
+use Rattle.tz_info.proofs.{
+  AskedYears.{beyond_first, from_next, never_at_all, never_beyond, none_out},
+  Fits.{fits},
+  Words.{to_z-of_z, IsRuleYear, SFits, arith, w32, w64, year_at, ◌≡◌},
+  rule.alternate.AlternateTime.changing_year.Goals.{Else-not-is_rule_year},
+}
 use Rattle.tz_info.proofs.rule.alternate.AlternateTime.changing_year.Goals as goal
 
 -- the year that is looked at is one that the rule answers in

@@ -1,8 +1,12 @@
-use Rattle.std.{proofs.lemmas.Int.clamps, specs.Int.int_max}
-use Rattle.tz_info.proofs.{Fits.fits, RuleReached.{changed_first, still_first}}
-use Rattle.tz_info.proofs.Words.{IsNear, SFits, ap, arith, ints, rules, w64, ◌-ℤ◌, ◌∙◌, ◌≡◌, ◌≤ℤ◌}
-use Rattle.tz_info.proofs.rule.alternate.AlternateTime.first_since.Goals.{After-max-low, After-max-shown, in_default-via-in-Some+else-change-shown}
-use Rattle.tz_info.proofs.rule.alternate.AlternateTime.first_since.Goals.{in_default-via-in_default}
+use Rattle.std.proofs.lemmas.Int.{clamps}
+use Rattle.std.specs.Int.{int_max}
+use Rattle.tz_info.proofs.{
+  Fits.{fits},
+  RuleReached.{changed_first, still_first},
+  Words.{IsNear, SFits, ap, arith, ints, rules, w64, ◌-ℤ◌, ◌∙◌, ◌≡◌, ◌≤ℤ◌},
+  rule.alternate.AlternateTime.first_since.Goals.{After-max-low, After-max-shown, in_default-via-in-Some+else-change-shown},
+  rule.alternate.AlternateTime.first_since.Goals.{in_default-via-in_default},
+}
 use Rattle.tz_info.proofs.rule.alternate.AlternateTime.first_since.Goals as goal
 
 -- the first second that may show it, which is near

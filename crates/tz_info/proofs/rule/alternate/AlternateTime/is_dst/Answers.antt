@@ -1,5 +1,4 @@
-use Rattle.tz_info.proofs.Words.{arith}
-use Rattle.tz_info.proofs.{Neighbours.{dst_by_three, ends_near, starts_near}, Words.to_z-of_z, YearKeys.near_fit}
+use Rattle.tz_info.proofs.{Words.{arith, to_z-of_z}, Neighbours.{dst_by_three, ends_near, starts_near}, YearKeys.{near_fit}}
 use Rattle.tz_info.proofs.rule.alternate.AlternateTime.is_dst.Goals as goal
 
 pub returns : goal.returns

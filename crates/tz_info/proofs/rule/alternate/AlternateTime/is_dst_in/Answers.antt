@@ -1,6 +1,9 @@
-use Rattle.tz_info.proofs.Words.{to_z-of_z}
-use Rattle.tz_info.proofs.{Fits.fits, RuleLaws.{alternate_at, year_found}, Words.{IsRuleYear, LiesIn, SFits, arith, floor_div, floors, w32, w64, ◌≡◌}}
-use Rattle.tz_info.proofs.rule.alternate.AlternateTime.is_dst_in.Goals.{After-year_of}
+use Rattle.tz_info.proofs.{
+  Words.{to_z-of_z, IsRuleYear, LiesIn, SFits, arith, floor_div, floors, w32, w64, ◌≡◌},
+  Fits.{fits},
+  RuleLaws.{alternate_at, year_found},
+  rule.alternate.AlternateTime.is_dst_in.Goals.{After-year_of},
+}
 use Rattle.tz_info.proofs.rule.alternate.AlternateTime.is_dst_in.Goals as goal
 
 pub returns-then-decides : goal.returns-then-decides

@@ -1,5 +1,10 @@
-use Rattle.tz_info.proofs.{ChangeSearch.change_made, Fits.fits, RuleChanges.rule_second, RuleLaws.alternate_once}
-use Rattle.tz_info.proofs.Words.{AlternateAt, SFits, arith, ints, pos, w64, ◌-ℤ◌}
+use Rattle.tz_info.proofs.{
+  ChangeSearch.{change_made},
+  Fits.{fits},
+  RuleChanges.{rule_second},
+  RuleLaws.{alternate_once},
+  Words.{AlternateAt, SFits, arith, ints, pos, w64, ◌-ℤ◌},
+}
 use Rattle.tz_info.proofs.rule.alternate.AlternateTime.moment_at.Goals as goal
 
 pub returns-then-second-le-FIRST_RULE_TIME : goal.returns-then-second-le-FIRST_RULE_TIME

@@ -1,5 +1,7 @@
-use Rattle.std.proofs.lemmas.Bool.{cases_Bool}
-use Rattle.tz_info.proofs.{ChangingYears.{steady_alike, steady_without, unsteady}, Words.{inl, inr, refl, sym, ◌∙◌}}
+use Rattle.{
+  std.proofs.lemmas.Bool.{cases_Bool},
+  tz_info.proofs.{ChangingYears.{steady_alike, steady_without, unsteady}, Words.{inl, inr, refl, sym, ◌∙◌}},
+}
 use Rattle.tz_info.proofs.rule.alternate.AlternateTime.never_changes.Goals as goal
 
 pub returns-then-not-self : goal.returns-then-not-self

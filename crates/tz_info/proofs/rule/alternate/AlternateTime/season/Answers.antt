@@ -1,6 +1,10 @@
-use Rattle.tz_info.proofs.{Fits.fits, KindLaws.{IsMargin, margin_kept}, SeasonLaws.{own_start, season_made}}
-use Rattle.tz_info.proofs.Words.{to_z-of_z, SFits, Season, ap, arith, floors, pos, refl, sym, w64, year_of, year_start, ◌*ℤ◌, ◌+ℤ◌, ◌-ℤ◌, ◌∙◌, ◌≡◌}
-use Rattle.tz_info.proofs.rule.alternate.AlternateTime.season.Goals.{After-first_of_year-first, After-self}
+use Rattle.tz_info.proofs.{
+  Fits.{fits},
+  KindLaws.{IsMargin, margin_kept},
+  SeasonLaws.{own_start, season_made},
+  Words.{to_z-of_z, SFits, Season, ap, arith, floors, pos, refl, sym, w64, year_of, year_start, ◌*ℤ◌, ◌+ℤ◌, ◌-ℤ◌, ◌∙◌, ◌≡◌},
+  rule.alternate.AlternateTime.season.Goals.{After-first_of_year-first, After-self},
+}
 use Rattle.tz_info.proofs.rule.alternate.AlternateTime.season.Goals as goal
 
 -- what was given fits, and so do the day and the first day of its year, which lies in that year

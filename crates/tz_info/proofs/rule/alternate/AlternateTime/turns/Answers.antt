@@ -1,5 +1,8 @@
-use Rattle.tz_info.proofs.{SeasonLaws.own_start, Words.{to_z-of_z, SFits, arith, floors, ints, w64, year_of, year_start, ◌≡◌}}
-use Rattle.tz_info.proofs.rule.alternate.AlternateTime.turns.Goals.{After-year_start-first}
+use Rattle.tz_info.proofs.{
+  SeasonLaws.{own_start},
+  Words.{to_z-of_z, SFits, arith, floors, ints, w64, year_of, year_start, ◌≡◌},
+  rule.alternate.AlternateTime.turns.Goals.{After-year_start-first},
+}
 use Rattle.tz_info.proofs.rule.alternate.AlternateTime.turns.Goals as goal
 
 -- the year's first day lies in it

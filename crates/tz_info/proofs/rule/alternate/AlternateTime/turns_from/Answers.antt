@@ -1,5 +1,8 @@
-use Rattle.tz_info.proofs.{KindLaws.{IsKept, moment_by_kind}, Neighbours.{ends_near, starts_near}}
-use Rattle.tz_info.proofs.Words.{IsDay, SFits, arith, floors, pos, to_z-of_z, w64, ℤ, ◌*ℤ◌, ◌+ℤ◌}
+use Rattle.tz_info.proofs.{
+  KindLaws.{IsKept, moment_by_kind},
+  Neighbours.{ends_near, starts_near},
+  Words.{IsDay, SFits, arith, floors, pos, to_z-of_z, w64, ℤ, ◌*ℤ◌, ◌+ℤ◌},
+}
 use Rattle.tz_info.proofs.rule.alternate.AlternateTime.turns_from.Goals as goal
 
 -- each of the numbers on the way fits 64 bits

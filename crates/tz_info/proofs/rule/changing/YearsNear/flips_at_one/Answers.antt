@@ -1,6 +1,7 @@
-use Rattle.tz_info.proofs.Words.{to_z-of_z}
-use Rattle.std.proofs.lemmas.List.Folds.{list_any_at, list_any_more}
-use Rattle.tz_info.proofs.{Fits.fits, Words.{SFits, arith, get_or, pos, refl, rules, sym, w64, ◌∙◌}}
+use Rattle.{
+  std.proofs.lemmas.List.Folds.{list_any_at, list_any_more},
+  tz_info.proofs.{Words.{to_z-of_z, SFits, arith, get_or, pos, refl, rules, sym, w64, ◌∙◌}, Fits.{fits}},
+}
 use Rattle.tz_info.proofs.rule.changing.YearsNear.flips_at_one.Goals as goal
 
 pub returns-then-flips_at : goal.returns-then-flips_at

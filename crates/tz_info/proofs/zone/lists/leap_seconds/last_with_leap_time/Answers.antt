@@ -1,5 +1,9 @@
-use Rattle.tz_info.proofs.{Fits.fits, LeapSearch.{last_with_leap_time, refused_more, refuses_by_entry}, Prefixes.{any_leap, last_taken}}
-use Rattle.tz_info.proofs.Words.{SFits, add-one, arith, get_or, ints, length, pos, refl, rules, sym, to_z, w128, w32, w64, ◌-ℤ◌, ◌≡◌}
+use Rattle.tz_info.proofs.{
+  Fits.{fits},
+  LeapSearch.{last_with_leap_time, refused_more, refuses_by_entry},
+  Prefixes.{any_leap, last_taken},
+  Words.{SFits, add-one, arith, get_or, ints, length, pos, refl, rules, sym, to_z, w128, w32, w64, ◌-ℤ◌, ◌≡◌},
+}
 use Rattle.tz_info.proofs.zone.lists.leap_seconds.last_with_leap_time.Goals as goal
 
 pub loop-entry-preserved : goal.loop-entry-preserved

@@ -1,5 +1,4 @@
-use Rattle.tz_info.proofs.{EntryLaws.{own_entries}, Fits.fits, SegmentLaws.{index_next}}
-use Rattle.tz_info.proofs.Words.{arith, linear, nat_tests, slice_get-get_or, zone_in}
+use Rattle.tz_info.proofs.{EntryLaws.{own_entries}, Fits.{fits}, SegmentLaws.{index_next}, Words.{arith, linear, nat_tests, slice_get-get_or, zone_in}}
 use Rattle.tz_info.proofs.zone.made.change_list.are_entries.Goals as goal
 
 pub returns : goal.returns

@@ -1,5 +1,4 @@
-use Rattle.tz_info.proofs.{EntryChanges.begin_at, Fits.fits, SegmentLaws.{come_from, place_most}}
-use Rattle.tz_info.proofs.Words.{SFits, ap, arith, ints, w128, ◌∙◌, ◌≡◌}
+use Rattle.tz_info.proofs.{EntryChanges.{begin_at}, Fits.{fits}, SegmentLaws.{come_from, place_most}, Words.{SFits, ap, arith, ints, w128, ◌∙◌, ◌≡◌}}
 use Rattle.tz_info.proofs.zone.made.change_table.ChangeTable.rule_begin.Goals as goal
 
 pub returns-then-self-len-clause-begun : goal.returns-then-self-len-clause-begun
