@@ -1,4 +1,5 @@
-use Rattle.tz_info.proofs.{WallSegments.{pieces_joined}, Words.{arith}, zone.made.segments.{+pieces_of.Goals as goal}}
+use Rattle.tz_info.proofs.{WallSegments.pieces_joined, Words.arith}
+use Rattle.tz_info.proofs.zone.made.segments.+pieces_of.Goals as goal
 
 pub returns : goal.returns
 returns t c =
