@@ -1,10 +1,11 @@
 -- The text of a rule, and of a zone: it spells the rule, or gives the zone, and each other one is longer.
+use Rattle.std.proofs.{Common.int_eq, lemmas.Bool.Decides.Decides-int_eq}
 use Rattle.tz_base.{proofs.RunLaws.all_of, specs.{Grammar.{Grammar, Number, Run, Then}, Names.IsName}}
 use Rattle.tz_info.{
-  proofs.Words.{Alternate, Decides-int_eq, IsAlternateRule, IsPosixZone, IsRuleDay, IsSpace, IsWithinDay, int_eq, is_letter},
-  proofs.Words.{is_not_greater, named_type, neg_ℤ, time_limit, zone_of_rule},
+  proofs.Words.{Alternate, IsAlternateRule, IsPosixZone, IsRuleDay, IsSpace, IsWithinDay, is_letter},
+  proofs.Words.{is_not_greater, named_type, neg_ℤ, zone_of_rule},
   proofs.ForCallers.offset_fits,
-  specs.{TzGrammar.{clock_max, minus}, declared.rule.day.{DayForm.{TheVariants.{Julian0, Julian1, MonthWeekday}, DayForm}, DayTime.DayTime}},
+  specs.{TzGrammar.{clock_max, minus, time_limit}, declared.rule.day.{DayForm.{TheVariants.{Julian0, Julian1, MonthWeekday}, DayForm}, DayTime.DayTime}},
 }
 use Rattle.tz_write.{
   proofs.TextBytes.{AreTextBytes, Begins, Best, Front, Writes, all_others, first_optional, front_cons, front_longer, front_nothing, front_optional},

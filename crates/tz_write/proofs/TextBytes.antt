@@ -5,13 +5,14 @@ use Rattle.std.proofs.lemmas.{
   Fmt.{decimal-digits_value, decimal_nonempty, digits_decimal, digits_value-decimal},
   Str.Parse.{IsNumeralModel, numerals_by_fold},
 }
+use Rattle.std.proofs.Common.{◌||◌}
 use Rattle.tz_base.specs.{
   Fronts.{AllDigits, value_from},
   Grammar.{At, Byte, Check, Ended, Grammar, Here, IsNumber, Marked, Nothing, Number, Optional, Then},
   Refusals.Refusal,
   Tests.Test,
 }
-use Rattle.tz_info.proofs.Words.{BeginsBare, EndsBare, ◌||◌}
+use Rattle.tz_info.proofs.Words.{BeginsBare, EndsBare}
 use Rattle.tz_write.{
   proofs.Words.{[], AllOf, AreInPairs, Bool, HasNoZero, IsTrimmed, List, NoneFirst, Spells, Without, append-nil, append_assoc, arith, both_ways},
   proofs.Words.{colon, comma, cond, decimal, dot, false, greater, inl, inr, is_digit, is_name_byte, length, length-append, less, nat_tests, not},
