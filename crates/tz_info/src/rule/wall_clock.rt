@@ -113,7 +113,7 @@ impl AlternateTime {
     {
         // The greater offset has the earlier second.
         let dst_first = self.std().offset() < self.dst().offset();
-        let season = self.season(local);
+        let season = self.season_from(from, local);
         let one = self.ask(
             season,
             from,
@@ -127,6 +127,22 @@ impl AlternateTime {
         }
         let both = self.ask(season, from, local, !dst_first, one, probes);
         (self.season_for(season, from, local), both)
+    }
+
+    // The local time's season, or one that decides nowhere if no second that could show it comes at `from`
+    // or later.
+    #[inline(always)]
+    fn season_from(&self, from: i64, local: i64) -> Season
+        requires { IsWide local }
+        ensures { IsSeason self.now result }
+    {
+        let is_early = second_showing(local, self.std().offset()) < from
+            && second_showing(local, self.dst().offset()) < from;
+        if is_early {
+            Season::NOWHERE
+        } else {
+            self.season(local)
+        }
     }
 
     // The season, if its moments decide at both seconds that could show the local time.
