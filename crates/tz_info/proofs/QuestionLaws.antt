@@ -123,6 +123,10 @@ module _ (a : AlternateRule) (from l : ℤ) (dst : Bool) where
   asked_in_turn p q r other h k =
       two_seconds _ _ _ p q r (grind arith) either (asked_since _ _ l _ p q (of_rule _) h) (asked_since _ _ l _ q r (of_rule _) k)
 
+  -- both come too early
+  pub asked_neither : (p : ℕ) → (l -ℤ a.std.offset) <ℤ from → (l -ℤ a.dst.offset) <ℤ from → IsAskedFrom (Alternate a) from l p p
+  asked_neither p first last = nowhere _ p p (λ u k. elim (either u k) [ inl e ↦ grind linear | inr e ↦ grind linear ]) refl
+
   -- if both offsets are equal
   pub asked_once : (p q : ℕ) → a.std.offset ≡ a.dst.offset → IsAskedSince from (l -ℤ (type_when a dst).offset) p q → IsAskedFrom (Alternate a) from l p q
   asked_once p q same h = one_second _ _ p q (λ u k. grind (arith, either)) (asked_since _ _ l _ p q (of_rule _) h)

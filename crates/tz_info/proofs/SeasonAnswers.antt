@@ -4,7 +4,7 @@ use Rattle.std.proofs.Math.Bool.{beq}
 use Rattle.tz_info.proofs.{
   Candidates.{asked_both, asked_found, asked_one, asked_other, one_second, std_or_dst},
   Words.{Alternate as AlternateRule, AlternateAt, Bool, FitsSigned, IsAmidFrom, IsAskedLast, IsSeasonFor, IsWallAnswer, LocalResult, LocalType, Season},
-  Words.{Shows, TypeFrom, arith, false, int_lt, joined, linear, not, refl, shown_if, sym, true, type_when, w64, ℤ, ◌-ℤ◌, ◌↔◌, ◌≡◌, ◌≢◌, ◌≤ℤ◌, ◌⊎◌},
+  Words.{Shows, TypeFrom, arith, false, inl, inr, int_lt, joined, linear, not, refl, shown_if, sym, true, type_when, w64, ℤ, ◌-ℤ◌, ◌<ℤ◌, ◌↔◌, ◌≡◌, ◌≢◌, ◌≤ℤ◌, ◌⊎◌},
 }
 use Rattle.tz_info.specs.declared.rule.transition_rule.TransitionRule.TheVariants.{Alternate}
 
@@ -15,6 +15,11 @@ amid a s _ l dst h = grind linear
 -- ---- the type of the greater offset first, of daylight saving time or of standard time
 pub greater : (a : AlternateRule) (dst : Bool) → dst ≡ int_lt a.std.offset a.dst.offset → (type_when a (not dst)).offset ≤ℤ (type_when a dst).offset
 greater a dst e = grind arith
+
+-- both seconds come too early
+pub found_none : (a : AlternateRule) (from l : ℤ) → (l -ℤ a.std.offset) <ℤ from → (l -ℤ a.dst.offset) <ℤ from
+    → IsWallAnswer (Shows (TypeFrom (Alternate a) from) l) None
+found_none a from l first last = λ u t s. elim (std_or_dst a t from l u s) [ inl e ↦ grind linear | inr e ↦ grind linear ]
 
 module _ (a : AlternateRule) (from l : ℤ) (dst : Bool) where
   -- the second is that of the one type or of the other one

@@ -150,13 +150,6 @@ impl AlternateTime {
 }
 
 impl Season {
-    // No second lies in it.
-    pub(crate) const NOWHERE: Season = Season {
-        from: 0,
-        until: 0,
-        turns: Turns { start: 0, end: 0 },
-    };
-
     // Whether the season's moments alone decide at the second.
     #[inline(always)]
     pub(crate) fn decides(self, unix_time: i64) -> bool

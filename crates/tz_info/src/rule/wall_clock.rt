@@ -3,7 +3,7 @@
 ghost use Rattle.{
   naive_base.specs.{NaiveDateTime.{reading}, Range.{IsWide}},
   offset_core.specs.{LocalResult.{map_of}, WallAnswer.{IsWallAnswer}},
-  std.specs.{Prelude.{◌-ℤ◌, ⊤, MatchOption, ℤ}, Result.{IsOkAnd}},
+  std.specs.{Prelude.{◌-ℤ◌, ◌<ℤ◌, ⊤, IsTrue, MatchOption, ℤ}, Result.{IsOkAnd}},
   tz_base.specs.LocalTypes.{IsUtOffset},
   tz_info.specs.{Counts.{HasRoomFor, RoseWithin}, HeldChanges.{change_held}},
   tz_info.specs.Steps.{Walk.{IsAskedLast}, Gaps.{IsNeverFrom, IsRuleGap}, Seasons.{IsSeason, IsSeasonFor, IsSeasonOf}},
@@ -111,9 +111,12 @@ impl AlternateTime {
             probes.old.rule_questions probes.new.rule_questions }
         ensures rule { IsAlternateRule self.now }
     {
+        if self.is_early(from, local) {
+            return (None, MappedLocalTime::None);
+        }
         // The greater offset has the earlier second.
         let dst_first = self.std().offset() < self.dst().offset();
-        let season = self.season_from(from, local);
+        let season = self.season(local);
         let one = self.ask(
             season,
             from,
@@ -129,20 +132,16 @@ impl AlternateTime {
         (self.season_for(season, from, local), both)
     }
 
-    // The local time's season, or one that decides nowhere if no second that could show it comes at `from`
-    // or later.
+    // Whether no second that could show the local time comes at `from` or later.
     #[inline(always)]
-    fn season_from(&self, from: i64, local: i64) -> Season
+    fn is_early(&self, from: i64, local: i64) -> bool
         requires { IsWide local }
-        ensures { IsSeason self.now result }
+        ensures early { IsTrue result
+            → ((local -ℤ self.now.std.offset) <ℤ from) × ((local -ℤ self.now.dst.offset) <ℤ from) }
+        ensures rule { IsAlternateRule self.now }
     {
-        let is_early = second_showing(local, self.std().offset()) < from
-            && second_showing(local, self.dst().offset()) < from;
-        if is_early {
-            Season::NOWHERE
-        } else {
-            self.season(local)
-        }
+        second_showing(local, self.std().offset()) < from
+            && second_showing(local, self.dst().offset()) < from
     }
 
     // The season, if its moments decide at both seconds that could show the local time.
