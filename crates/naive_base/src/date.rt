@@ -1,9 +1,10 @@
 //! Dates.
-ghost use Rattle.std.specs.Prelude.{◌≡◌, ◌↔◌, ◌+◌, ◌*◌, ◌+ℤ◌, ◌-ℤ◌, ◌*ℤ◌, pos, IfSome, IsTrue};
-ghost use Rattle.gregorian.specs.{Date.{day_number, IsDate}, DateOf.{day_of_month, month_of, year_of}};
-ghost use Rattle.gregorian.specs.Year.{floor_div};
+ghost use Rattle.{
+  gregorian.specs.{Date.{day_number, IsDate}, DateOf.{day_of_month, month_of, year_of}, Year.{floor_div}},
+  naive_base.specs.{Clock.{clock_second, IsClock}, Reading.{day_at, reading_at, second_at}},
+  std.specs.Prelude.{◌≡◌, ◌↔◌, ◌+◌, ◌*◌, ◌+ℤ◌, ◌-ℤ◌, ◌*ℤ◌, pos, IfSome, IsTrue},
+};
 ghost use Rattle.naive_base.specs.Range as range;
-ghost use Rattle.naive_base.specs.{Clock.{clock_second, IsClock}, Reading.{day_at, reading_at, second_at}};
 
 mod back;
 mod days;

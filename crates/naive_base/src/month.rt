@@ -1,7 +1,9 @@
 //! The months of a year, by name.
-ghost use Rattle.std.specs.Prelude.{◌≡◌, ◌⊎◌, ◌<◌, ◌≤◌, ◌+◌, ◌%◌, option_map, take, MatchResult, Some, SomeIff};
-ghost use Rattle.gregorian.specs.{Month.{days_in_month}, Year.{is_leap}};
-ghost use Rattle.naive_base.specs.{MonthNames.{month_name, number_of_month}, Range.{IsYearInRange}};
+ghost use Rattle.{
+  gregorian.specs.{Month.{days_in_month}, Year.{is_leap}},
+  naive_base.specs.{MonthNames.{month_name, number_of_month}, Range.{IsYearInRange}},
+  std.specs.Prelude.{◌≡◌, ◌⊎◌, ◌<◌, ◌≤◌, ◌+◌, ◌%◌, option_map, take, MatchResult, Some, SomeIff},
+};
 
 use crate::OutOfRange;
 use crate::range::{FIRST_YEAR, LAST_YEAR};

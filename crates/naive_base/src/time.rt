@@ -1,7 +1,9 @@
 //! Times of day.
-ghost use Rattle.std.specs.Prelude.{◌≡◌, ◌<◌, ◌*◌};
-ghost use Rattle.gregorian.specs.Year.{floor_mod};
-ghost use Rattle.naive_base.specs.{Clock.{clock_second, IsClock}, Range.{IsTime}, Steps.Moves.{IsWithin}};
+ghost use Rattle.{
+  gregorian.specs.Year.{floor_mod},
+  naive_base.specs.{Clock.{clock_second, IsClock}, Range.{IsTime}, Steps.Moves.{IsWithin}},
+  std.specs.Prelude.{◌≡◌, ◌<◌, ◌*◌},
+};
 
 mod fields;
 mod moves;

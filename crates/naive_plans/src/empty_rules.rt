@@ -1,8 +1,9 @@
 //! Rules whose parts for hours, minutes and seconds leave them no time.
-ghost use Rattle.std.specs.Prelude.{◌≡◌, ◌↔◌, ◌<◌, ◌≤◌, ◌*◌, ◌%◌, IsTrue, ℕ, ℤ};
-ghost use Rattle.gregorian.specs.Year.{floor_mod};
-ghost use Rattle.naive_plans.specs.{RecurrenceRules.{HasSecond}, Steps.OccasionSteps.{IsTimeOn, HasPeriodOfDay}};
-ghost use Rattle.naive_plans.specs.Steps.OccasionSteps.{IsPartOfHours};
+ghost use Rattle.{
+  gregorian.specs.Year.{floor_mod},
+  naive_plans.specs.{RecurrenceRules.{HasSecond}, Steps.OccasionSteps.{IsTimeOn, HasPeriodOfDay, IsPartOfHours}},
+  std.specs.Prelude.{◌≡◌, ◌↔◌, ◌<◌, ◌≤◌, ◌*◌, ◌%◌, IsTrue, ℕ, ℤ},
+};
 
 use crate::Frequency;
 use crate::occasions::Occasions;

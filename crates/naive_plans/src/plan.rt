@@ -1,7 +1,9 @@
 //! Sets of local times, searched forward and backward.
-ghost use Rattle.std.specs.Prelude.{ℤ, MatchOption};
-ghost use Rattle.naive_base.specs.NaiveDateTime.{reading};
-ghost use Rattle.naive_plans.specs.Plans.{HasNoneAfter, HasNoneUntil, IsLastUntil, IsNextAfter};
+ghost use Rattle.{
+  naive_base.specs.NaiveDateTime.{reading},
+  naive_plans.specs.Plans.{HasNoneAfter, HasNoneUntil, IsLastUntil, IsNextAfter},
+  std.specs.Prelude.{ℤ, MatchOption},
+};
 
 use naive_base::NaiveDateTime;
 

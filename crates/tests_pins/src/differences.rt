@@ -1,9 +1,10 @@
 //! Differences of zones of one type each, as of Almaty's clocks before and after 2024-03-01.
 
-ghost use Rattle.std.specs.Prelude.{◌∷◌, [], pos};
-ghost use Rattle.tz_info.specs.Differences.{AreDifferences, IsDifference};
-ghost use Rattle.tests_pins.specs.Changes.{cet, dst_cet, renamed};
-ghost use Rattle.tests_pins.specs.Differences.{always, five_ahead, hour_of, six_ahead};
+ghost use Rattle.{
+  std.specs.Prelude.{◌∷◌, [], pos},
+  tests_pins.specs.{Changes.{cet, dst_cet, renamed}, Differences.{always, five_ahead, hour_of, six_ahead}},
+  tz_info.specs.Differences.{AreDifferences, IsDifference},
+};
 
 /// `<+06>-6` and `<+05>-5` differ in the whole hour from the second 1709229600 on: the old type is that
 /// of the first zone, and the stretch is neither shorter nor listed twice.

@@ -2,10 +2,11 @@
 //! the last local times that those clocks have shown.
 #![tactic(auto)]
 
-ghost use Rattle.std.specs.Prelude.{◌≡◌, ◌∷◌, [], neg_ℤ, pos, List, ℤ};
-ghost use Rattle.zoned_time.specs.Fires.{second_before, AreFires, IsFire, IsLastFire, IsNextFire};
-ghost use Rattle.zoned_time.specs.Reached.{IsReachedAt};
-ghost use Rattle.tests_pins.specs.{Days.{AreSetAt}, Plans.{daily, twice_daily}};
+ghost use Rattle.{
+  std.specs.Prelude.{◌≡◌, ◌∷◌, [], neg_ℤ, pos, List, ℤ},
+  tests_pins.specs.{Days.{AreSetAt}, Plans.{daily, twice_daily}},
+  zoned_time.specs.{Fires.{second_before, AreFires, IsFire, IsLastFire, IsNextFire}, Reached.{IsReachedAt}},
+};
 
 /// In St. John's clocks went from 00:01 on 2005-10-30 back to 23:01, at 02:31:00 UTC. At 03:02:00 UTC
 /// they show 23:32, and have shown 00:00:59, the second 1,130,630,459.

@@ -1,8 +1,10 @@
 //! What is around a local time in New York: one type, two types, or a gap with both its sides.
 
-ghost use Rattle.std.specs.Prelude.{pos};
-ghost use Rattle.tz_info.specs.{Around.{AreTypesAround}, Gaps.{IsShown}, Zones.{TypeAt}};
-ghost use Rattle.tests_pins.specs.NewYork.{edt, est, new_york_zone};
+ghost use Rattle.{
+  std.specs.Prelude.{pos},
+  tests_pins.specs.NewYork.{edt, est, new_york_zone},
+  tz_info.specs.{Around.{AreTypesAround}, Gaps.{IsShown}, Zones.{TypeAt}},
+};
 
 use offset_core::Around;
 

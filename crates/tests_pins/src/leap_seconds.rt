@@ -1,8 +1,10 @@
 //! The 27 leap seconds of UTC from 1972 to 2016: leap times count them, Unix times don't.
 
-ghost use Rattle.std.specs.Prelude.{◌≡◌, [], ◌∷◌, map, pos, neg_ℤ, ◌*ℤ◌};
-ghost use Rattle.tz_info.specs.Leaps.{AreLeapSeconds, IsLeapTime, IsNear, IsUnixTime, thresholds};
-ghost use Rattle.tests_pins.specs.LeapSeconds.{utc_leaps, days_after, entry};
+ghost use Rattle.{
+  std.specs.Prelude.{◌≡◌, [], ◌∷◌, map, pos, neg_ℤ, ◌*ℤ◌},
+  tests_pins.specs.LeapSeconds.{utc_leaps, days_after, entry},
+  tz_info.specs.Leaps.{AreLeapSeconds, IsLeapTime, IsNear, IsUnixTime, thresholds},
+};
 
 /// They may be a zone's, and each ends with a month: at midnight of UTC.
 #[tactic(auto, using(crate::proofs::LeapSeconds::utc_valid), unfolding(crate::proofs::Computed::calendar))]

@@ -1,9 +1,11 @@
 //! How many probes a lookup may take.
 #![tactic(auto, unfolding(crate::proofs::Computed::binary))]
 
-ghost use Rattle.std.specs.Prelude.{◌≡◌};
-ghost use Rattle.tz_info.specs.{Digits.{digits}, Looks.{RoseByInstant, RoseByWallClock}};
-ghost use Rattle.tests_pins.specs.{Looks.{looks}, Zones.{honolulu, hst10}};
+ghost use Rattle.{
+  std.specs.Prelude.{◌≡◌},
+  tests_pins.specs.{Looks.{looks}, Zones.{honolulu, hst10}},
+  tz_info.specs.{Digits.{digits}, Looks.{RoseByInstant, RoseByWallClock}},
+};
 
 /// Binary digits: `0` has none, `11111111` is 255.
 pub fn binary_digits()

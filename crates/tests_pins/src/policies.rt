@@ -2,9 +2,11 @@
 //! are set once, as `zdump -v` of the tz database has them.
 #![tactic(auto)]
 
-ghost use Rattle.std.specs.Prelude.{◌≡◌, neg_ℤ, pos, ℤ};
-ghost use Rattle.zoned_time.specs.{Nearest.{IsNextOf}, Policies.{IsFireBy, IsShownFire}, Stretches.{IsOffsetStretch}};
-ghost use Rattle.tests_pins.specs.{Days.{AreSetAt}, Plans.{daily}};
+ghost use Rattle.{
+  std.specs.Prelude.{◌≡◌, neg_ℤ, pos, ℤ},
+  tests_pins.specs.{Days.{AreSetAt}, Plans.{daily}},
+  zoned_time.specs.{Nearest.{IsNextOf}, Policies.{IsFireBy, IsShownFire}, Stretches.{IsOffsetStretch}},
+};
 
 use zoned_time::{FirePolicy, FoldFires, GapFires};
 

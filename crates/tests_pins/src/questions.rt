@@ -1,9 +1,11 @@
 //! How many questions to a zone's rule are counted.
 #![tactic(auto, using(crate::proofs::AskedRules::asked_rules))]
 
-ghost use Rattle.std.specs.Prelude.{◌≡◌, neg_ℤ, pos, ℕ, ℤ};
-ghost use Rattle.tz_info.specs.Questions.{IsAskedAt, IsAskedFor, IsByRule};
-ghost use Rattle.tests_pins.specs.{NewYork.{new_york_zone}, Zones.{honolulu, hst10}};
+ghost use Rattle.{
+  std.specs.Prelude.{◌≡◌, neg_ℤ, pos, ℕ, ℤ},
+  tests_pins.specs.{NewYork.{new_york_zone}, Zones.{honolulu, hst10}},
+  tz_info.specs.Questions.{IsAskedAt, IsAskedFor, IsByRule},
+};
 
 /// Honolulu's rule answers from the last transition on, and New York's `EST5EDT,M3.2.0,M11.1.0` at
 /// every second.

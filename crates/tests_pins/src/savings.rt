@@ -1,9 +1,11 @@
 //! Amounts of daylight saving time: spans of the tz database, with the column SAVE of its rules.
 
-ghost use Rattle.std.specs.Prelude.{◌≡◌, neg_ℤ, pos, ℤ};
-ghost use Rattle.tz_saving.specs.{Amounts.{usual, IsAmount, IsOfTwo}, Reach.{HasChanges, IsWithinReach}};
-ghost use Rattle.tz_saving.specs.{Candidates.{IsCandidate, IsOnly}, Sides.{IsBefore}};
-ghost use Rattle.tests_pins.specs.Savings.{restless, summer};
+ghost use Rattle.{
+  std.specs.Prelude.{◌≡◌, neg_ℤ, pos, ℤ},
+  tests_pins.specs.Savings.{restless, summer},
+  tz_saving.specs.{Amounts.{usual, IsAmount, IsOfTwo}, Reach.{HasChanges, IsWithinReach}},
+  tz_saving.specs.{Candidates.{IsCandidate, IsOnly}, Sides.{IsBefore}},
+};
 
 /// New York in 2021 (`R u 2007 ma - Mar Su>=8 2 1 D`): an hour.
 pub fn new_york()

@@ -2,10 +2,12 @@
 //! 1970-01-01 00:00:00 UTC, back from `CET` to `UTC` or forward from `UTC` to `CET`.
 #![tactic(auto, using(crate::proofs::Words::ints, crate::proofs::Words::fits_signed_from_abs))]
 
-ghost use Rattle.std.specs.Prelude.{neg_ℤ, pos};
-ghost use Rattle.tz_info.specs.ShownSeconds.{AreShownWithin, IsFirstAtOrAfter, IsFirstWithin, IsLastWithin};
-ghost use Rattle.tz_info.specs.{Reached.{IsLastReached}, ShownSeconds.{ShowsWithin}};
-ghost use Rattle.tests_pins.specs.Changes.{at_epoch, cet, ends, utc};
+ghost use Rattle.{
+  std.specs.Prelude.{neg_ℤ, pos},
+  tests_pins.specs.Changes.{at_epoch, cet, ends, utc},
+  tz_info.specs.ShownSeconds.{AreShownWithin, IsFirstAtOrAfter, IsFirstWithin, IsLastWithin, ShowsWithin},
+  tz_info.specs.Reached.{IsLastReached},
+};
 
 /// Set back, they show the hour from 00:00 on twice: first from -3600 on by `CET`, last at 3599 by `UTC`.
 /// They don't show 00:00 a second before that, nor before 01:00 at 3600.

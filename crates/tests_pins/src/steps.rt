@@ -2,10 +2,12 @@
 //! them.
 #![tactic(auto)]
 
-ghost use Rattle.std.specs.Prelude.{◌≡◌, neg_ℤ, pos, ℤ};
-ghost use Rattle.naive_plans.specs.ClockSteps.{BeginsStep};
-ghost use Rattle.zoned_time.specs.StepBounds.{AreStepBounds};
-ghost use Rattle.tests_pins.specs.Days.{AreSetAt};
+ghost use Rattle.{
+  naive_plans.specs.ClockSteps.{BeginsStep},
+  std.specs.Prelude.{◌≡◌, neg_ℤ, pos, ℤ},
+  tests_pins.specs.Days.{AreSetAt},
+  zoned_time.specs.StepBounds.{AreStepBounds},
+};
 
 use naive_plans::{ClockStep, PartOfDay};
 

@@ -1,9 +1,11 @@
 //! The second at which a wall clock shows a local time, the local time that it shows at a second, and answers of wall clocks, joined.
 
-ghost use Rattle.std.specs.Prelude.{◌≡◌, ◌+ℤ◌, ◌-ℤ◌};
-ghost use Rattle.offset_core.specs.LocalResult.{map_of};
-ghost use Rattle.tz_base.specs.LocalTypes.{IsUtOffset};
-ghost use Rattle.tz_info.specs.{Leaps.{IsNear}, Moments.{IsRuleTime}, Steps.{Answers.{joined}, Runs.{IsEnd}}};
+ghost use Rattle.{
+  offset_core.specs.LocalResult.{map_of},
+  std.specs.Prelude.{◌≡◌, ◌+ℤ◌, ◌-ℤ◌},
+  tz_base.specs.LocalTypes.{IsUtOffset},
+  tz_info.specs.{Leaps.{IsNear}, Moments.{IsRuleTime}, Steps.{Answers.{joined}, Runs.{IsEnd}}},
+};
 
 use offset_core::MappedLocalTime;
 use tz_base::LocalTimeType;

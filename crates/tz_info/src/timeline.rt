@@ -6,10 +6,11 @@
 //! others. A search compares with these two first, and if one of them decides, that counts as a
 //! probe of its item. Hints are not counted.
 
-ghost use Rattle.std.specs.Prelude.{◌≡◌, ◌<◌, ◌≤◌, ◌+◌, ◌-◌, ◌*◌, ◌/◌, [], length, map, option_map, slice_index_or, ⊤};
-ghost use Rattle.std.specs.Prelude.{MatchResult};
-ghost use Rattle.tz_info.specs.{Counts.{HasRoomFor}, Digits.{digits}, Steps.Search.{IsNarrowedTo}};
-ghost use Rattle.tz_info.specs.Steps.Search.{AreEnds, AreOrdered, ArePassed, AreProbesCounted, IsLastOf, IsLeft};
+ghost use Rattle.{
+  std.specs.Prelude.{◌≡◌, ◌<◌, ◌≤◌, ◌+◌, ◌-◌, ◌*◌, ◌/◌, [], length, map, option_map, slice_index_or, ⊤, MatchResult},
+  tz_info.specs.{Counts.{HasRoomFor}, Digits.{digits}},
+  tz_info.specs.Steps.Search.{IsNarrowedTo, AreEnds, AreOrdered, ArePassed, AreProbesCounted, IsLastOf, IsLeft},
+};
 
 mod hints;
 mod probes;

@@ -1,8 +1,10 @@
 //! Theorems of amounts: each function is empty, its contract is proved; never called.
 
-ghost use Rattle.std.specs.Prelude.{◌≡◌, ◌↔◌, IsTrue, ℤ};
-ghost use Rattle.tz_info.specs.Zones.{TypeAt, Zone};
-ghost use Rattle.tz_saving.specs.{Amounts.{IsAmount}, Savings.{IsSavingAt}};
+ghost use Rattle.{
+  std.specs.Prelude.{◌≡◌, ◌↔◌, IsTrue, ℤ},
+  tz_info.specs.Zones.{TypeAt, Zone},
+  tz_saving.specs.{Amounts.{IsAmount}, Savings.{IsSavingAt}},
+};
 
 use crate::Saving;
 

@@ -1,8 +1,10 @@
 //! The next use of a type.
 
-ghost use Rattle.std.specs.Prelude.{◌≡◌, true};
-ghost use Rattle.tz_info.specs.Zones.{TypeAt};
-ghost use Rattle.tz_saving.specs.{Amounts.{IsNextCandidate}, Sides.{IsFound}};
+ghost use Rattle.{
+  std.specs.Prelude.{◌≡◌, true},
+  tz_info.specs.Zones.{TypeAt},
+  tz_saving.specs.{Amounts.{IsNextCandidate}, Sides.{IsFound}},
+};
 
 use crate::candidates::{candidates_at, only_of};
 use crate::sides::{Side, Wanted, nearest_turn};

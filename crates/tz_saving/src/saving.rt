@@ -1,9 +1,10 @@
 //! The amount of daylight saving time at an instant.
 
-ghost use Rattle.std.specs.Prelude.{◌≡◌, ◌≢◌, ◌↔◌, true, IsTrue, MatchResult};
-ghost use Rattle.tz_info.specs.Zones.{IsTypeError, TypeAt};
-ghost use Rattle.tz_saving.specs.Amounts.{usual, IsAmount, IsFlaggedAmount, IsNextCandidate, IsOfTwo};
-ghost use Rattle.tz_saving.specs.Savings.{IsSavingAt};
+ghost use Rattle.{
+  std.specs.Prelude.{◌≡◌, ◌≢◌, ◌↔◌, true, IsTrue, MatchResult},
+  tz_info.specs.Zones.{IsTypeError, TypeAt},
+  tz_saving.specs.{Amounts.{usual, IsAmount, IsFlaggedAmount, IsNextCandidate, IsOfTwo}, Savings.{IsSavingAt}},
+};
 
 use crate::candidates::candidates_at;
 use crate::next_use::next_candidate;

@@ -1,9 +1,11 @@
 //! Dates and times of day, as C reads and writes them.
 
-ghost use Rattle.std.specs.Prelude.{◌≡◌, ◌≢◌, ◌↔◌, IsTrue, MatchResult};
-ghost use Rattle.gregorian.specs.Year.{floor_div, floor_mod};
-ghost use Rattle.naive_base.specs.Range.{IsInRange};
-ghost use Rattle.zoned_ffi.specs.Fields.{AreFieldsAt, AreFieldsOf, AreNoFieldsAt, IsDateTime, IsLocalOf, IsNoLocalOf};
+ghost use Rattle.{
+  gregorian.specs.Year.{floor_div, floor_mod},
+  naive_base.specs.Range.{IsInRange},
+  std.specs.Prelude.{◌≡◌, ◌≢◌, ◌↔◌, IsTrue, MatchResult},
+  zoned_ffi.specs.Fields.{AreFieldsAt, AreFieldsOf, AreNoFieldsAt, IsDateTime, IsLocalOf, IsNoLocalOf},
+};
 
 use crate::refusal::{INSTANT_OUT_OF_RANGE, NO_DATE_TIME, NO_LOCAL_TIME};
 use gregorian::{date_of, day_number, day_of_year, is_date, weekday_of};

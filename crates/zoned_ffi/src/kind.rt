@@ -1,10 +1,12 @@
 //! How bytes are read: as a TZif file, or as a TZ string, with extensions or without.
 #![tactic(auto, using(crate::proofs::Reading::rejections))]
 
-ghost use Rattle.std.specs.Prelude.{◌≡◌, IfErr, IfOk, MatchOption, MatchResult};
-ghost use Rattle.tz_info.specs.Zones.{Zone};
-ghost use Rattle.zoned_ffi.specs.Kinds.{kind_number, IsKind, IsZoneOf, SpellsZone};
-ghost use Rattle.zoned_ffi.specs.Refusals.{refusal_number, IsErrorOfKind, IsFault, IsReaderNumber};
+ghost use Rattle.{
+  std.specs.Prelude.{◌≡◌, IfErr, IfOk, MatchOption, MatchResult},
+  tz_info.specs.Zones.{Zone},
+  zoned_ffi.specs.Kinds.{kind_number, IsKind, IsZoneOf, SpellsZone},
+  zoned_ffi.specs.Refusals.{refusal_number, IsErrorOfKind, IsFault, IsReaderNumber},
+};
 
 use crate::refusal::Refusal;
 use std::alloc::Global;

@@ -1,9 +1,11 @@
 //! A zone that C keeps, as it is asked: the handle is only read, by any number of calls at once.
 
-ghost use Rattle.std.specs.{Option.{MatchOption}, Prelude.{◌≡◌, ℕ}};
-ghost use Rattle.std.specs.declared.{alloc.Global.{Global as Heap}, option.Option.{Option}, sync.Arc.{Arc}};
-ghost use Rattle.tz_info.specs.Zones.{Zone};
-ghost use Rattle.zoned_ffi.specs.Owned.{lent, shared_row};
+ghost use Rattle.{
+  std.specs.{Option.{MatchOption}, Prelude.{◌≡◌, ℕ}},
+  std.specs.declared.{alloc.Global.{Global as Heap}, option.Option.{Option}, sync.Arc.{Arc}},
+  tz_info.specs.Zones.{Zone},
+  zoned_ffi.specs.Owned.{lent, shared_row},
+};
 
 use std::marker::Model;
 use std::ptr::null;

@@ -1,9 +1,11 @@
 //! Lookups of local times one after another, which keep a stretch of the last ones.
 
-ghost use Rattle.std.specs.Prelude.{◌≡◌, ◌↔◌, ◌<ℤ◌, ◌≤ℤ◌, IfSome, IsTrue};
-ghost use Rattle.tz_base.specs.LocalTypes.{IsUtOffset};
-ghost use Rattle.tz_info.specs.Zones.{Zone};
-ghost use Rattle.zoned_ffi.specs.{Steps.ShownOnce.{IsHeldOf, IsOnceBy}, Units.{IsOffsetStretch}};
+ghost use Rattle.{
+  std.specs.Prelude.{◌≡◌, ◌↔◌, ◌<ℤ◌, ◌≤ℤ◌, IfSome, IsTrue},
+  tz_base.specs.LocalTypes.{IsUtOffset},
+  tz_info.specs.Zones.{Zone},
+  zoned_ffi.specs.{Steps.ShownOnce.{IsHeldOf, IsOnceBy}, Units.{IsOffsetStretch}},
+};
 
 use crate::fields::{END, FIRST};
 use crate::instants::NO_OFFSET;

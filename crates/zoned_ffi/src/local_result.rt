@@ -1,9 +1,11 @@
 //! When wall clocks show local times.
 
-ghost use Rattle.std.specs.Prelude.{◌≡◌, ◌-ℤ◌, length, pos};
-ghost use Rattle.offset_core.specs.LocalResult.{map_of};
-ghost use Rattle.naive_base.specs.Range.{IsInRange};
-ghost use Rattle.zoned_ffi.specs.{Steps.Told.{told_of}, WallClocks.{written, AreWallClocks, IsWallClockAt}};
+ghost use Rattle.{
+  naive_base.specs.Range.{IsInRange},
+  offset_core.specs.LocalResult.{map_of},
+  std.specs.Prelude.{◌≡◌, ◌-ℤ◌, length, pos},
+  zoned_ffi.specs.{Steps.Told.{told_of}, WallClocks.{written, AreWallClocks, IsWallClockAt}},
+};
 
 use crate::local_lookups::LocalLookups;
 use naive_base::NaiveDateTime;

@@ -1,9 +1,11 @@
 //! The TZ string of a zone's rule.
 
-ghost use Rattle.std.specs.Prelude.{◌≡◌, ◌≢◌, ◌⊎◌, length, string_bytes, List, MatchResult, ℕ};
-ghost use Rattle.tz_base.specs.Errors.{IsOutOfMemory};
-ghost use Rattle.tz_info.specs.Zones.{Zone};
-ghost use Rattle.zoned_ffi.specs.{Handles.{IsLent, IsNoneLent}, RuleStrings.{IsRuleString}, Texts.{written_over}};
+ghost use Rattle.{
+  std.specs.Prelude.{◌≡◌, ◌≢◌, ◌⊎◌, length, string_bytes, List, MatchResult, ℕ},
+  tz_base.specs.Errors.{IsOutOfMemory},
+  tz_info.specs.Zones.{Zone},
+  zoned_ffi.specs.{Handles.{IsLent, IsNoneLent}, RuleStrings.{IsRuleString}, Texts.{written_over}},
+};
 
 use crate::lent::Lent;
 use crate::refusal::{NOT_OPEN, OUT_OF_MEMORY};

@@ -1,9 +1,11 @@
 //! The standard offset and the amount of daylight saving time, as C reads them.
 #![tactic(auto, using(crate::proofs::Casts::passed_on))]
 
-ghost use Rattle.std.specs.Prelude.{◌≡◌, ◌≢◌, ◌⊎◌};
-ghost use Rattle.tz_info.specs.Zones.{IsTypeRefused, Zone};
-ghost use Rattle.zoned_ffi.specs.{Handles.{IsLent, IsNoneLent}, WrittenSavings.{written_saving, IsWrittenSavingAt}};
+ghost use Rattle.{
+  std.specs.Prelude.{◌≡◌, ◌≢◌, ◌⊎◌},
+  tz_info.specs.Zones.{IsTypeRefused, Zone},
+  zoned_ffi.specs.{Handles.{IsLent, IsNoneLent}, WrittenSavings.{written_saving, IsWrittenSavingAt}},
+};
 
 use crate::lent::Lent;
 use crate::refusal::{NO_LOCAL_TIME, NOT_OPEN};

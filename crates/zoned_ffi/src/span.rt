@@ -1,8 +1,10 @@
 //! Spans of a zone's time, as C reads them.
 
-ghost use Rattle.std.specs.Prelude.{◌≡◌};
-ghost use Rattle.tz_info.specs.HeldChanges.{span_held};
-ghost use Rattle.zoned_ffi.specs.WrittenSpans.{written_span};
+ghost use Rattle.{
+  std.specs.Prelude.{◌≡◌},
+  tz_info.specs.HeldChanges.{span_held},
+  zoned_ffi.specs.WrittenSpans.{written_span},
+};
 
 use crate::local_type::WrittenType;
 use tz_info::HeldSpan;

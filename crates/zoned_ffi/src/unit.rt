@@ -1,8 +1,10 @@
 //! Units in which instants are counted.
 
-ghost use Rattle.std.specs.Prelude.{◌≡◌, ◌≤ℤ◌, ◌*ℤ◌, neg_ℤ, pos, MatchOption};
-ghost use Rattle.gregorian.specs.Year.{floor_div};
-ghost use Rattle.zoned_ffi.specs.Units.{per_second, IsUnit};
+ghost use Rattle.{
+  gregorian.specs.Year.{floor_div},
+  std.specs.Prelude.{◌≡◌, ◌≤ℤ◌, ◌*ℤ◌, neg_ℤ, pos, MatchOption},
+  zoned_ffi.specs.Units.{per_second, IsUnit},
+};
 
 /// The least time that can be counted.
 pub const LEAST: i128 = -9_223_372_036_854_775_807;

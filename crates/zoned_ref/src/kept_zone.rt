@@ -1,9 +1,11 @@
 //! Zones that stay until the program ends.
-ghost use Rattle.std.specs.Prelude.{◌≡◌, IfErr, IfOk, MatchResult};
-ghost use Rattle.tz_info.specs.{TzFiles.{IsTzFile}, Zones.{IsValid, Zone}};
+ghost use Rattle.{
+  std.specs.Prelude.{◌≡◌, IfErr, IfOk, MatchResult},
+  tz_info.specs.{TzFiles.{IsTzFile}, Zones.{IsValid, Zone}},
+  zoned_ref.specs.{KeepError.{IsRefused}, KeptZone.{off_of, zone_of}, Offsets.{AreOffsetsOf, IsNarrow}},
+  zoned_ref.specs.OpenError.{IsNotOpened},
+};
 ghost use Rattle.zoned_ref.specs.TimeZoneRef as borrowed;
-ghost use Rattle.zoned_ref.specs.{KeepError.{IsRefused}, KeptZone.{off_of, zone_of}, Offsets.{AreOffsetsOf, IsNarrow}};
-ghost use Rattle.zoned_ref.specs.OpenError.{IsNotOpened};
 
 use crate::{KeepError, OpenError, TimeZoneRef};
 use std::alloc::Global;

@@ -1,10 +1,11 @@
 //! Theorems: a function here does only what its contract says; never called.
+ghost use Rattle.{
+  std.specs.Prelude.{◌≡◌, ◌↔◌, IsTrue, Option, ℤ},
+  tz_info.specs.{Changes.{IsFirst, IsLast}, Zones.{TypeAt, Zone}},
+  zoned_ref.specs.{TimeZoneRef.{writes_of, zone_of}, ZoneOffset.{ahead_of, type_of}, ZoneChange.{IsAfter, IsUpTo}},
+};
 ghost use Rattle.std.specs.Hash as fed;
-ghost use Rattle.std.specs.Prelude.{◌≡◌, ◌↔◌, IsTrue, Option, ℤ};
-ghost use Rattle.tz_info.specs.{Changes.{IsFirst, IsLast}, Zones.{TypeAt, Zone}};
 ghost use Rattle.zoned_ref.specs.KeptZone as kept;
-ghost use Rattle.zoned_ref.specs.{TimeZoneRef.{writes_of, zone_of}, ZoneOffset.{ahead_of, type_of}};
-ghost use Rattle.zoned_ref.specs.ZoneChange.{IsAfter, IsUpTo};
 
 use crate::{KeptChange, KeptZone, TimeZoneRef, WallClock, ZoneChange, ZoneOffset};
 use std::hash::Hash;

@@ -1,8 +1,10 @@
 //! Parsed zones, borrowed.
-ghost use Rattle.std.specs.{Ordering.{on}, Prelude.{◌≡◌, ◌↔◌, option_map, slice_get, IfSome, IsSome, IsTrue, ℤ}};
-ghost use Rattle.offset_core.specs.Offset.{IsWithinDay};
-ghost use Rattle.zoned_time.specs.Zone.{IsFixed, IsZoneSecond};
-ghost use Rattle.zoned_ref.specs.{OffsetAt.{offset_at}, Offsets.{AreOffsetsOf, HasOffsets, HasOneOffset, IsNarrow}};
+ghost use Rattle.{
+  offset_core.specs.Offset.{IsWithinDay},
+  std.specs.{Ordering.{on}, Prelude.{◌≡◌, ◌↔◌, option_map, slice_get, IfSome, IsSome, IsTrue, ℤ}},
+  zoned_ref.specs.{OffsetAt.{offset_at}, Offsets.{AreOffsetsOf, HasOffsets, HasOneOffset, IsNarrow}},
+  zoned_time.specs.Zone.{IsFixed, IsZoneSecond},
+};
 
 use offset_core::FixedOffset;
 use std::fmt;

@@ -1,8 +1,10 @@
 //! How far a stamp is from the multiples of a span.
-ghost use Rattle.std.specs.{Int.{w64}, Prelude.{◌≡◌, ◌<ℤ◌, ◌-ℤ◌, pos, unsigned_abs, FitsSigned, SomeIff}};
-ghost use Rattle.offset_core.specs.TimeDelta.{nanos_of};
-ghost use Rattle.naive_base.specs.{NaiveDateTime.{reading}, Reading.{total}};
-ghost use Rattle.zoned_round.specs.Multiples.{multiple_above, multiple_below, nearest_multiple};
+ghost use Rattle.{
+  naive_base.specs.{NaiveDateTime.{reading}, Reading.{total}},
+  offset_core.specs.TimeDelta.{nanos_of},
+  std.specs.{Int.{w64}, Prelude.{◌≡◌, ◌<ℤ◌, ◌-ℤ◌, pos, unsigned_abs, FitsSigned, SomeIff}},
+  zoned_round.specs.Multiples.{multiple_above, multiple_below, nearest_multiple},
+};
 
 use crate::RoundingError;
 use naive_base::{NaiveDateTime, Timelike};

@@ -1,7 +1,9 @@
 //! The days of a series, one after another.
-ghost use Rattle.std.specs.{Iterator.{at_most, UpTo}, Iterator.SizeHint.{IsWithinCount}, Prelude.{◌≡◌, ◌-◌, IfSome}};
-ghost use Rattle.zoned_time.specs.DateTime.{zoned};
-ghost use Rattle.zoned_series.specs.{DailySeries.{items_of, series_of}, Series.{GivesBack, GivesNext}};
+ghost use Rattle.{
+  std.specs.{Iterator.{at_most, UpTo, SizeHint.{IsWithinCount}}, Prelude.{◌≡◌, ◌-◌, IfSome}},
+  zoned_series.specs.{DailySeries.{items_of, series_of}, Series.{GivesBack, GivesNext}},
+  zoned_time.specs.DateTime.{zoned},
+};
 
 use crate::{DailySeries, SeriesError};
 use std::iter::{DoubleEndedIterator, ExactSizeIterator, FusedIterator};

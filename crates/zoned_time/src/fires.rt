@@ -1,7 +1,9 @@
 //! The instants at which a plan fires, one after another.
-ghost use Rattle.std.specs.{Iterator.{at_most}, Prelude.{◌≡◌}};
-ghost use Rattle.zoned_time.specs.Fires.{fires_between, fires_by_between, left_of, seconds_left, GivesFire};
-ghost use Rattle.zoned_time.specs.{DateTime.{zoned}, Policies.{IsFireBy}};
+ghost use Rattle.{
+  std.specs.{Iterator.{at_most}, Prelude.{◌≡◌}},
+  zoned_time.specs.{Fires.{fires_between, fires_by_between, left_of, seconds_left, GivesFire}, DateTime.{zoned}},
+  zoned_time.specs.Policies.{IsFireBy},
+};
 
 use crate::policies::{USUAL_POLICY, fire_between};
 use crate::{DateTime, FirePolicy, Utc, ZoneDays};

@@ -1,7 +1,9 @@
 //! Zones of one offset.
-ghost use Rattle.std.specs.Prelude.{refl};
-ghost use Rattle.offset_core.specs.FixedOffset.{seconds_of};
-ghost use Rattle.zoned_time.specs.Zone.{law_by_seconds, meaning_by_seconds};
+ghost use Rattle.{
+  offset_core.specs.FixedOffset.{seconds_of},
+  std.specs.Prelude.{refl},
+  zoned_time.specs.Zone.{law_by_seconds, meaning_by_seconds},
+};
 
 use crate::{Offset, TimeZone};
 use naive_base::NaiveDateTime;

@@ -1,7 +1,9 @@
 //! The days of zones of one offset.
-ghost use Rattle.std.specs.Prelude.{◌≡◌, ◌+ℤ◌};
-ghost use Rattle.naive_base.specs.{NaiveDate.{day_of}, NaiveDateTime.{reading}};
-ghost use Rattle.zoned_time.specs.{Days.{AreEndsOfDay, IsFirstToReach}, Stretches.{IsOffsetStretch}, Zone.{IsFixed}};
+ghost use Rattle.{
+  naive_base.specs.{NaiveDate.{day_of}, NaiveDateTime.{reading}},
+  std.specs.Prelude.{◌≡◌, ◌+ℤ◌},
+  zoned_time.specs.{Days.{AreEndsOfDay, IsFirstToReach}, Stretches.{IsOffsetStretch}, Zone.{IsFixed}},
+};
 
 use crate::{Offset, OffsetStretch, ShownDay, TimeZone, Utc, ZoneDays};
 use naive_base::{NaiveDate, NaiveDateTime, NaiveTime};

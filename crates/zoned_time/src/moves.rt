@@ -1,8 +1,9 @@
 //! The runs of a plan that move if a zone's rules change.
-ghost use Rattle.std.specs.{Iterator.{at_most}, Prelude.{◌≡◌, ◌↔◌, ◌<ℤ◌, ◌≤ℤ◌, IsTrue, MatchOption}};
-ghost use Rattle.zoned_time.specs.{DateTime.{zoned}, Stamps.{in_utc}};
-ghost use Rattle.zoned_time.specs.{Fires.{IsZonedNextFire, NoneFiresBetween}, Moves.{NoneMovesBetween}};
-ghost use Rattle.zoned_time.specs.Moves.{moves_between, moves_of, seconds_left, utc_of_move, GivesMove, IsNextMove};
+ghost use Rattle.{
+  std.specs.{Iterator.{at_most}, Prelude.{◌≡◌, ◌↔◌, ◌<ℤ◌, ◌≤ℤ◌, IsTrue, MatchOption}},
+  zoned_time.specs.{DateTime.{zoned}, Stamps.{in_utc}, Fires.{IsZonedNextFire, NoneFiresBetween}},
+  zoned_time.specs.Moves.{NoneMovesBetween, moves_between, moves_of, seconds_left, utc_of_move, GivesMove, IsNextMove},
+};
 
 use crate::policies::{USUAL_POLICY, fire_between};
 use crate::{DateTime, TimeZone, Utc, ZoneDays};

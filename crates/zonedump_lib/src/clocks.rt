@@ -1,8 +1,10 @@
 //! What clocks show at the second of a change.
 
-ghost use Rattle.std.specs.Prelude.{◌≡◌, false, true, MatchOption, Some};
-ghost use Rattle.naive_base.specs.{NaiveDateTime.{printed_reading}, Stamp.{of_secs}, Text.{reading_text}};
-ghost use Rattle.zonedump_lib.specs.Clocks.{clock_words, is_shown};
+ghost use Rattle.{
+  naive_base.specs.{NaiveDateTime.{printed_reading}, Stamp.{of_secs}, Text.{reading_text}},
+  std.specs.Prelude.{◌≡◌, false, true, MatchOption, Some},
+  zonedump_lib.specs.Clocks.{clock_words, is_shown},
+};
 
 use naive_base::NaiveDateTime;
 use std::fmt;

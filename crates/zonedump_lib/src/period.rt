@@ -1,9 +1,10 @@
 //! The periods in which changes are listed.
 
-ghost use Rattle.std.specs.Prelude.{◌≡◌, MatchOption, Some};
-ghost use Rattle.naive_base.specs.NaiveDate.{day_of};
-ghost use Rattle.zonedump_lib.specs.Periods.{IsPeriod, bound_words, first_second, second_after};
-ghost use Rattle.zonedump_lib.specs.Spans.{IsInYears, year_second};
+ghost use Rattle.{
+  naive_base.specs.NaiveDate.{day_of},
+  std.specs.Prelude.{◌≡◌, MatchOption, Some},
+  zonedump_lib.specs.{Periods.{IsPeriod, bound_words, first_second, second_after}, Spans.{IsInYears, year_second}},
+};
 
 use gregorian::year_start;
 use naive_base::NaiveDate;

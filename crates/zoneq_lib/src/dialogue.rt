@@ -1,8 +1,11 @@
 //! What a run keeps, and what it does with a block of its input.
 
-ghost use Rattle.std.specs.Prelude.{◌≡◌, ◌<◌, ◌++◌, [], false, length, IfErr, OnErr, OnOk};
-ghost use Rattle.zoneq_lib.specs.{Lines.{without_return, HasNoNewline}, Steps.LastLine.{AnswersAtEnd, StopsAtEnd}};
-ghost use Rattle.zoneq_lib.specs.Steps.{Blocks.{AnswersIn, StopsIn}, Hopeless.{IsKeptFor}, Replies.{Replies, StopsAt}};
+ghost use Rattle.{
+  std.specs.Prelude.{◌≡◌, ◌<◌, ◌++◌, [], false, length, IfErr, OnErr, OnOk},
+  zoneq_lib.specs.Lines.{without_return, HasNoNewline},
+  zoneq_lib.specs.Steps.{LastLine.{AnswersAtEnd, StopsAtEnd}, Blocks.{AnswersIn, StopsIn}, Hopeless.{IsKeptFor}},
+  zoneq_lib.specs.Steps.Replies.{Replies, StopsAt},
+};
 
 use crate::answer::answer;
 use crate::hopeless::may_ask;

@@ -1,9 +1,10 @@
 //! Numbers in decimal digits, with any leading zeros.
 
-ghost use Rattle.std.specs.Option.{SomeIff};
-ghost use Rattle.std.specs.Prelude.{◌≡◌, ◌<◌, ◌≤◌, ◌+◌, ◌-◌, ◌*◌, ◌^◌, ◌≤ℤ◌, neg_ℤ, pos, true, IfOk};
-ghost use Rattle.tz_base.specs.{Fronts.{is_digit}, Grammar.{Number}};
-ghost use Rattle.zoneq_lib.specs.{Questions.{integer, next, unix_seconds}, Steps.LineReading.{scan, ReadsAs}};
+ghost use Rattle.{
+  std.specs.{Option.{SomeIff}, Prelude.{◌≡◌, ◌<◌, ◌≤◌, ◌+◌, ◌-◌, ◌*◌, ◌^◌, ◌≤ℤ◌, neg_ℤ, pos, true, IfOk}},
+  tz_base.specs.{Fronts.{is_digit}, Grammar.{Number}},
+  zoneq_lib.specs.{Questions.{integer, next, unix_seconds}, Steps.LineReading.{scan, ReadsAs}},
+};
 
 use crate::bad_line::BadLine;
 use crate::words::{expect_byte, strip_byte};

@@ -1,8 +1,9 @@
 //! Jobs in the order in which they run.
-ghost use Rattle.std.specs.Prelude.{◌≡◌, ◌⊎◌, ◌≤◌, ◌<ℤ◌, ◌≤ℤ◌, [], length, slice_get, IfNone, IfSome, MatchOption};
-ghost use Rattle.std.specs.Prelude.{MatchResult};
-ghost use Rattle.zoned.specs.DateTime.{zoned};
-ghost use Rattle.demo_examples.specs.Queues.{jobs_of, IsAdded, IsFirstAt, IsFirstRun, IsNoneDue, IsTaken, NoneRuns};
+ghost use Rattle.{
+  demo_examples.specs.Queues.{jobs_of, IsAdded, IsFirstAt, IsFirstRun, IsNoneDue, IsTaken, NoneRuns},
+  std.specs.Prelude.{◌≡◌, ◌⊎◌, ◌≤◌, ◌<ℤ◌, ◌≤ℤ◌, [], length, slice_get, IfNone, IfSome, MatchOption, MatchResult},
+  zoned.specs.DateTime.{zoned},
+};
 
 use crate::scheduler::{Job, Queued, SchedulerError};
 use std::alloc::Global;

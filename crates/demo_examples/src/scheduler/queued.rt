@@ -1,7 +1,9 @@
 //! Jobs that wait for their next runs.
-ghost use Rattle.std.specs.Prelude.{◌≡◌, IfSome};
-ghost use Rattle.demo_examples.specs.Fires.{IsNextRun};
-ghost use Rattle.zoned.specs.DateTime.{zoned};
+ghost use Rattle.{
+  demo_examples.specs.Fires.{IsNextRun},
+  std.specs.Prelude.{◌≡◌, IfSome},
+  zoned.specs.DateTime.{zoned},
+};
 
 use crate::scheduler::Job;
 use zoned::{DateTime, KeptZone};

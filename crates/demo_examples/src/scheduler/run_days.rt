@@ -1,7 +1,9 @@
 //! The days on which a job runs.
-ghost use Rattle.std.specs.Prelude.{◌↔◌, IsTrue, ℤ};
-ghost use Rattle.demo_examples.specs.Fires.{RunsOn};
-ghost use Rattle.zoned.specs.NaiveDate.{day_of};
+ghost use Rattle.{
+  demo_examples.specs.Fires.{RunsOn},
+  std.specs.Prelude.{◌↔◌, IsTrue, ℤ},
+  zoned.specs.NaiveDate.{day_of},
+};
 
 use zoned::{Datelike, NaiveDate, Weekday};
 

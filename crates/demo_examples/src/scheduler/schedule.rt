@@ -1,7 +1,9 @@
 //! When a job runs.
-ghost use Rattle.std.specs.Prelude.{◌≡◌, ◌⊎◌, ◌≤◌, ⊤, MatchOption};
-ghost use Rattle.zoned.specs.{DateTime.{zoned}, Fires.{IsZonedNextFire, NoneFiresAfter}};
-ghost use Rattle.demo_examples.specs.Fires.{planned_by, IsPlannedOn};
+ghost use Rattle.{
+  demo_examples.specs.Fires.{planned_by, IsPlannedOn},
+  std.specs.Prelude.{◌≡◌, ◌⊎◌, ◌≤◌, ⊤, MatchOption},
+  zoned.specs.{DateTime.{zoned}, Fires.{IsZonedNextFire, NoneFiresAfter}},
+};
 
 use crate::scheduler::RunDays;
 use zoned::{

@@ -1,8 +1,10 @@
 //! The fields of a local date-time, and local date-times with a field changed or moved by months
 //! and days.
-ghost use Rattle.std.specs.Prelude.{neg_ℤ, pos};
-ghost use Rattle.naive_base.specs.{Fields.{time_at, IsDaysLater, IsMonthsLater}, Months.{days_of, months_of}};
-ghost use Rattle.naive_base.specs.NaiveDateTime.{day_shown_by, reading, IsReadingAtTime, IsReadingOnDay};
+ghost use Rattle.{
+  naive_base.specs.{Fields.{time_at, IsDaysLater, IsMonthsLater}, Months.{days_of, months_of}},
+  naive_base.specs.NaiveDateTime.{day_shown_by, reading, IsReadingAtTime, IsReadingOnDay},
+  std.specs.Prelude.{neg_ℤ, pos},
+};
 
 use crate::{Datelike, Days, IsoWeek, Months, NaiveDateTime, Timelike, Weekday};
 

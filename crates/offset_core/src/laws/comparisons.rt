@@ -1,11 +1,13 @@
 //! Theorems: the contract of each function is proved, and none is called. Each is empty, except one
 //! that names a constant.
+ghost use Rattle.{
+  offset_core.specs.{FixedOffset.{seconds_of}, TimeDelta.{nanos_of}, LocalResult.{fed_of, AreAlike, HoldsOfEach}},
+  offset_core.specs.Nanoseconds.{nanos_per_second},
+  std.specs.{Int.{int_div_euclid, int_rem_euclid}, Ordering.{int_cmp}},
+  std.specs.Prelude.{◌≡◌, ◌↔◌, ◌++◌, neg_ℤ, pos, unsigned_abs, IsTrue},
+};
 ghost use Rattle.std.specs.Hash as fed;
-ghost use Rattle.std.specs.Int.{int_div_euclid, int_rem_euclid};
-ghost use Rattle.std.specs.{Ordering.{int_cmp}, Prelude.{◌≡◌, ◌↔◌, ◌++◌, neg_ℤ, pos, unsigned_abs, IsTrue}};
 ghost use Rattle.offset_core.specs.Around as around;
-ghost use Rattle.offset_core.specs.{FixedOffset.{seconds_of}, TimeDelta.{nanos_of}};
-ghost use Rattle.offset_core.specs.{LocalResult.{fed_of, AreAlike, HoldsOfEach}, Nanoseconds.{nanos_per_second}};
 
 use crate::{
     Around, Choice, FixedOffset, FoldChoice, GapChoice, LocalResult, OutOfRangeError, ResolveError,

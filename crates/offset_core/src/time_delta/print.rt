@@ -1,7 +1,9 @@
 //! How lengths of time print.
-ghost use Rattle.std.specs.{Fmt.{decimal}, Prelude.{◌≡◌, ◌<◌, ◌≤◌, ◌+◌, ◌++◌, length, Some}};
-ghost use Rattle.offset_core.specs.{Digits.{in_digits}, Nanoseconds.{FitsTimeDelta}};
-ghost use Rattle.offset_core.specs.LengthText.{length_text, part_text, printed_length, seconds_text, without_zeros};
+ghost use Rattle.{
+  offset_core.specs.{Digits.{in_digits}, Nanoseconds.{FitsTimeDelta}},
+  offset_core.specs.LengthText.{length_text, part_text, printed_length, seconds_text, without_zeros},
+  std.specs.{Fmt.{decimal}, Prelude.{◌≡◌, ◌<◌, ◌≤◌, ◌+◌, ◌++◌, length, Some}},
+};
 
 use crate::{ShortText, TimeDelta};
 use std::fmt;

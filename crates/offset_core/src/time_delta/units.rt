@@ -1,8 +1,10 @@
 //! A length of time in each of its units.
-ghost use Rattle.std.specs.Duration.{as_nanos};
-ghost use Rattle.std.specs.{Int.{w64}, Prelude.{◌≡◌, ◌<ℤ◌, int_div, int_rem, pos, FitsSigned, MatchResult, SomeIff}};
+ghost use Rattle.{
+  offset_core.specs.TimeDelta.{nanos_of},
+  std.specs.{Duration.{as_nanos}, Int.{w64}},
+  std.specs.Prelude.{◌≡◌, ◌<ℤ◌, int_div, int_rem, pos, FitsSigned, MatchResult, SomeIff},
+};
 ghost use Rattle.offset_core.specs.Nanoseconds as lengths;
-ghost use Rattle.offset_core.specs.TimeDelta.{nanos_of};
 
 use super::{
     NANOS_PER_SECOND, SECONDS_PER_DAY, SECONDS_PER_HOUR, SECONDS_PER_MINUTE, SECONDS_PER_WEEK,

@@ -1,9 +1,13 @@
 -- A rule is asked about years: which one is asked, and which one next.
 use Rattle.std.specs.Prelude.{◌≡◌, Bool, true, if◌then◌else◌, ℤ, pos, ◌-ℤ◌}
 use Rattle.tz_base.specs.declared.change.Change.{Change}
-use Rattle.tz_info.specs.{Changes.{IsChange, Precedes}, Moments.{AlternateAt, IsRuleYear, IsYearOf, end_in, start_in}, Rules.{Alternate, IsAlternateRule}}
-use Rattle.tz_info.specs.Steps.{Changes.{IsNearRuleTime, year_at}, ChangingYears.{is_changing}, Kinds.{are_calm, ends_of, starts_of}}
-use Rattle.tz_info.specs.declared.rule.asked.AskedYear.{AskedYear}
+use Rattle.tz_info.specs.{
+  Changes.{IsChange, Precedes},
+  Moments.{AlternateAt, IsRuleYear, IsYearOf, end_in, start_in},
+  Rules.{Alternate, IsAlternateRule},
+  Steps.{Changes.{IsNearRuleTime, year_at}, ChangingYears.{is_changing}, Kinds.{are_calm, ends_of, starts_of}},
+  declared.rule.asked.AskedYear.{AskedYear},
+}
 
 -- whether clocks change in the year, by a rule whose types differ
 abbrev pub changes_in_year : Alternate → ℤ → Bool

@@ -1,8 +1,10 @@
 -- What a rule says of a second: the type in force, and the seconds on both sides at which clocks change.
-use Rattle.std.specs.Prelude.{◌≡◌, Bool, true, false, ℤ, Option, option_map}
-use Rattle.tz_base.specs.{LocalTypes.{LocalType}, declared.change.Change.{Change}}
-use Rattle.tz_info.specs.{Changes.{IsNearest}, Moments.{AlternateAt, type_when}, Rules.{Alternate}, Steps.Changes.{IsAhead, IsChangeAt}}
-use Rattle.tz_info.specs.{Steps.Gaps.{moment_change}, declared.rule.{beside.Beside.{Beside}, moments.Moment.{Moment}}}
+use Rattle.{
+  std.specs.Prelude.{◌≡◌, Bool, true, false, ℤ, Option, option_map},
+  tz_base.specs.{LocalTypes.{LocalType}, declared.change.Change.{Change}},
+  tz_info.specs.{Changes.{IsNearest}, Moments.{AlternateAt, type_when}, Rules.{Alternate}},
+  tz_info.specs.{Steps.{Changes.{IsAhead, IsChangeAt}, Gaps.{moment_change}}, declared.rule.{beside.Beside.{Beside}, moments.Moment.{Moment}}},
+}
 
 -- the change at the moment that was found, if one was
 abbrev pub change_found : Alternate → Option Moment → Option Change

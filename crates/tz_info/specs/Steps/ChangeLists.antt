@@ -1,12 +1,23 @@
 -- The changes of a stretch as a list that is made second by second. Which list that is says `AreChanges`.
-use Rattle.std.specs.Prelude.{ℕ, zero, suc, ◌==◌, length, List, [], ◌∷◌, ◌++◌, slice_get, slice_index_or, Bool, true, not, ◌&&◌, if◌then◌else◌, nat_lt, ℤ, pos}
-use Rattle.std.specs.Prelude.{neg_ℤ, ◌+ℤ◌, ◌-ℤ◌, int_le, int_lt, unsigned_abs, Option, Some, None}
 use Rattle.naive_base.specs.{DateOf.{year_of}, Year.{floor_div}}
-use Rattle.tz_base.specs.{LocalTypes.{LocalType}, contracts.local_time_type.LocalTimeTypePartialEq.TheImpl.{eq-value as type_eq}}
-use Rattle.tz_base.specs.declared.change.Change.{Change}
-use Rattle.tz_info.specs.{Leaps.{corrections, correction_at, least_time, passed_count}, Moments.{start_in, end_in, type_when}}
-use Rattle.tz_info.specs.{Rules.{Alternate as AlternateRule}, Steps.Turns.{is_in_three}, Transitions.{passed}, Zones.{Zone, index_at}}
-use Rattle.tz_info.specs.declared.rule.transition_rule.TransitionRule.{TransitionRule, TheVariants.{Fixed, Alternate}}
+use Rattle.std.specs.{
+  Prelude.{ℕ, zero, suc, ◌==◌, length, List, [], ◌∷◌, ◌++◌, slice_get, slice_index_or, Bool, true, not, ◌&&◌, if◌then◌else◌, nat_lt, ℤ, pos, neg_ℤ},
+  Prelude.{◌+ℤ◌, ◌-ℤ◌, int_le, int_lt, unsigned_abs, Option, Some, None},
+}
+use Rattle.tz_base.specs.{
+  LocalTypes.{LocalType},
+  contracts.local_time_type.LocalTimeTypePartialEq.TheImpl.{eq-value as type_eq},
+  declared.change.Change.{Change},
+}
+use Rattle.tz_info.specs.{
+  Leaps.{corrections, correction_at, least_time, passed_count},
+  Moments.{start_in, end_in, type_when},
+  Rules.{Alternate as AlternateRule},
+  Steps.Turns.{is_in_three},
+  Transitions.{passed},
+  Zones.{Zone, index_at},
+  declared.rule.transition_rule.TransitionRule.{TransitionRule, TheVariants.{Fixed, Alternate}},
+}
 
 -- ---- the type in force at a second, if one is
 -- 64 bits hold the number

@@ -1,10 +1,17 @@
 -- Years in which a rule of two types changes the clocks. Whether it does depends on the year's key: the weekday that the year
 -- begins with, and which one of four years is a leap year, of the year before it to the second one after it.
-use Rattle.std.specs.Prelude.{ℕ, ◌+◌, ◌*◌, Bool, false, true, not, if◌then◌else◌, List, [], ◌∷◌, map, slice_index_or, ℤ, pos, ◌+ℤ◌, ◌-ℤ◌, ◌*ℤ◌, ◌≤ℤ◌, neg_ℤ}
-use Rattle.std.specs.{Prelude.{int_le, int_lt}, List.{list_any}}
-use Rattle.std.proofs.Math.Bool.{beq}
 use Rattle.naive_base.specs.{Year.{is_leap, year_start}, Weekday.{weekday_of}}
-use Rattle.tz_info.specs.{Rules.{Alternate}, Steps.{Kinds.{are_calm, ends_of, kind_place, starts_of}, Turns.{dst_by}}, declared.rule.{changing.YearsNear.{YearsNear}, moments.Turns.{Turns}}}
+use Rattle.std.specs.{
+  Prelude.{ℕ, ◌+◌, ◌*◌, Bool, false, true, not, if◌then◌else◌, List, [], ◌∷◌, map, slice_index_or, ℤ, pos, ◌+ℤ◌, ◌-ℤ◌, ◌*ℤ◌, ◌≤ℤ◌, neg_ℤ, int_le},
+  Prelude.{int_lt},
+  List.{list_any},
+}
+use Rattle.std.proofs.Math.Bool.{beq}
+use Rattle.tz_info.specs.{
+  Rules.{Alternate},
+  Steps.{Kinds.{are_calm, ends_of, kind_place, starts_of}, Turns.{dst_by}},
+  declared.rule.{changing.YearsNear.{YearsNear}, moments.Turns.{Turns}},
+}
 
 -- the place of the test that holds among the four, or 4
 abbrev pub place_of : Bool → Bool → Bool → Bool → ℕ

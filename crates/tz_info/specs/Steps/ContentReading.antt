@@ -1,12 +1,22 @@
 -- How the parts of a TZif file's block are parsed, by the places of records: values, or the error.
-use Rattle.std.specs.Prelude.{ℕ, ℤ, zero, suc, int_lt, nat_lt, ◌+◌, ◌*◌, ◌==◌, Bool, true, false, not, ◌&&◌, if◌then◌else◌, List, [], ◌∷◌, ◌++◌, length, take}
-use Rattle.std.specs.{Prelude.{drop, slice_index, Result, Ok, Err, Option, Some, None, ◌≡◌, ◌⊎◌}, Int.{w32}, List.{position_from}}
-use Rattle.tz_base.specs.{LocalTypes.{LocalType, expected_of_type}, Fronts.{◌>>=◌}, declared.error.Error.{Error}}
-use Rattle.tz_base.specs.declared.error.Error.TheVariants.{InvalidTzFile, LocalTimeType, OutOfMemory}
-use Rattle.tz_base.specs.declared.error.Expected.TheVariants.{ZeroOrOneAsIsDst, NameWithinDesignations, ZeroByteAfterName, StandardTimeWhereTimeIsUt}
-use Rattle.tz_base.specs.Names.{is_name}
-use Rattle.tz_info.specs.{Steps.Below.{all_below}, FileContents.{signed, file_time, designation_of, offset_in, mark_in, place_in, least_offset}}
-use Rattle.tz_info.specs.declared.zone.lists.{transition.Transition.{Transition}, leap_second.LeapSecond.{LeapSecond}}
+use Rattle.std.specs.{
+  Prelude.{ℕ, ℤ, zero, suc, int_lt, nat_lt, ◌+◌, ◌*◌, ◌==◌, Bool, true, false, not, ◌&&◌, if◌then◌else◌, List, [], ◌∷◌, ◌++◌, length, take, drop},
+  Prelude.{slice_index, Result, Ok, Err, Option, Some, None, ◌≡◌, ◌⊎◌},
+  Int.{w32},
+  List.{position_from},
+}
+use Rattle.tz_base.specs.{
+  LocalTypes.{LocalType, expected_of_type},
+  Fronts.{◌>>=◌},
+  declared.error.Error.{Error, TheVariants.{InvalidTzFile, LocalTimeType, OutOfMemory}},
+  declared.error.Expected.TheVariants.{ZeroOrOneAsIsDst, NameWithinDesignations, ZeroByteAfterName, StandardTimeWhereTimeIsUt},
+  Names.{is_name},
+}
+use Rattle.tz_info.specs.{
+  Steps.Below.{all_below},
+  FileContents.{signed, file_time, designation_of, offset_in, mark_in, place_in, least_offset},
+  declared.zone.lists.{transition.Transition.{Transition}, leap_second.LeapSecond.{LeapSecond}},
+}
 
 -- a function returned what parsing gives, unless memory ran out
 abbrev pub GivesInMemory : {X Y : Type 0} → (X → Y) → Result X Error → Result Y Error → Type 0

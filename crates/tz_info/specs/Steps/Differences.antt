@@ -1,7 +1,9 @@
 -- The way to the differences of two zones.
-use Rattle.std.specs.Prelude.{ℤ, pos, ◌≡◌, ◌≢◌, ◌⊎◌, ◌-ℤ◌, ◌≤ℤ◌, ◌<ℤ◌, List, [], ◌∷◌, ◌++◌, AllPairs, Contains}
-use Rattle.tz_base.specs.LocalTypes.{LocalType}
-use Rattle.tz_info.specs.{Differences.{IsDifference, IsInDifference}, declared.zone.ask.differences.Difference.{Difference}}
+use Rattle.{
+  std.specs.Prelude.{ℤ, pos, ◌≡◌, ◌≢◌, ◌⊎◌, ◌-ℤ◌, ◌≤ℤ◌, ◌<ℤ◌, List, [], ◌∷◌, ◌++◌, AllPairs, Contains},
+  tz_base.specs.LocalTypes.{LocalType},
+  tz_info.specs.{Differences.{IsDifference, IsInDifference}, declared.zone.ask.differences.Difference.{Difference}},
+}
 
 -- from the second `at` on and before `end`, both zones keep their types; if `end` is before `limit`, one changes there
 pub record IsPairUntil (first second : ℤ → LocalType → Type 0) (at limit end : ℤ) : Type 0 where

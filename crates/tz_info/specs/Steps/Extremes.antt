@@ -1,8 +1,10 @@
 -- The least and the greatest of some offsets, and how they are found.
 use Rattle.std.specs.Prelude.{◌≡◌, ◌⊎◌, List, map, ℤ, ◌≤ℤ◌}
 use Rattle.tz_base.specs.LocalTypes.{LocalType}
-use Rattle.tz_info.specs.{Windows.{IsGreatest, IsLeast}, declared.rule.transition_rule.TransitionRule.{TransitionRule, TheVariants.{Fixed, Alternate}}}
-use Rattle.tz_info.specs.declared.zone.made.extremes.Extremes.{Extremes}
+use Rattle.tz_info.specs.{
+  Windows.{IsGreatest, IsLeast},
+  declared.{rule.transition_rule.TransitionRule.{TransitionRule, TheVariants.{Fixed, Alternate}}, zone.made.extremes.Extremes.{Extremes}},
+}
 
 abbrev pub offsets_of : List LocalType → List ℤ
 offsets_of types = map (λ t. t.offset) types

@@ -1,9 +1,14 @@
 -- How the lists of a TZif file are parsed, and what its parser returns.
 use Rattle.std.specs.Prelude.{ℕ, ◌≡◌, ◌⊎◌, ◌*◌, ◌+◌, Result, Ok, Err, List, length, option_map}
 use Rattle.tz_base.specs.{Fronts.{◌>>=◌}, declared.error.Error.{Error}, Grammar.{read}}
-use Rattle.tz_info.specs.{Zones.{Zone}, FileBlocks.{parts_of}, FilePieces.{FilePieces, file}, TzFiles.{IsTzFile, IsZoneFault}}
-use Rattle.tz_info.specs.Steps.{ContentReading.{values_below, transition_in, leap_second_in, type_in, indicators_of}, FooterReading.{footer_of}}
-use Rattle.tz_info.specs.declared.file.reader.{Pieces.{Pieces}, Lists.{Lists}}
+use Rattle.tz_info.specs.{
+  Zones.{Zone},
+  FileBlocks.{parts_of},
+  FilePieces.{FilePieces, file},
+  TzFiles.{IsTzFile, IsZoneFault},
+  Steps.{ContentReading.{values_below, transition_in, leap_second_in, type_in, indicators_of}, FooterReading.{footer_of}},
+  declared.file.reader.{Pieces.{Pieces}, Lists.{Lists}},
+}
 
 abbrev pub pieces_of : Pieces → FilePieces
 pieces_of p = record {

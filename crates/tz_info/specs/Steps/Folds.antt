@@ -1,8 +1,10 @@
 -- The way back from the last second that shows a local time to the change that set clocks back.
-use Rattle.std.specs.Prelude.{ℤ, ◌≡◌, ◌+ℤ◌, ◌≤ℤ◌, ◌<ℤ◌}
-use Rattle.offset_core.specs.WallAnswer.{IsShownBetween}
-use Rattle.tz_base.specs.LocalTypes.{LocalType}
-use Rattle.tz_info.specs.{WallClocks.{Shows}, Zones.{Zone, TypeAt}}
+use Rattle.{
+  offset_core.specs.WallAnswer.{IsShownBetween},
+  std.specs.Prelude.{ℤ, ◌≡◌, ◌+ℤ◌, ◌≤ℤ◌, ◌<ℤ◌},
+  tz_base.specs.LocalTypes.{LocalType},
+  tz_info.specs.{WallClocks.{Shows}, Zones.{Zone, TypeAt}},
+}
 
 -- several seconds show the local time: the first one and the last one are these
 pub record AreEndsOfFold (z : Zone) (local first last : ℤ) : Type 0 where

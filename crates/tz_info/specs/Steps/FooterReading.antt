@@ -1,8 +1,16 @@
 -- How the footer of a TZif file is parsed: its rule, or the error.
-use Rattle.std.specs.{Prelude.{ℕ, ◌==◌, ◌&&◌, ◌||◌, Bool, if◌then◌else◌, List, [], ◌∷◌, slice_index, Result, Ok, Err, Option, Some, None}, Bool.{nat_eq}}
-use Rattle.std.specs.{List.{list_any, starts_with, ends_with}, Str.{is_utf8}, Char.{is_ascii_whitespace}}
-use Rattle.tz_base.specs.{Fronts.{◌>>=◌}, declared.error.Error.{Error, TheVariants.{InvalidTzFile, Utf8}}}
-use Rattle.tz_base.specs.{declared.error.Expected.TheVariants.{FooterInUtf8, FooterBetweenNewlines, TzTextInFooter}, Grammar.{read}}
+use Rattle.std.specs.{
+  Prelude.{ℕ, ◌==◌, ◌&&◌, ◌||◌, Bool, if◌then◌else◌, List, [], ◌∷◌, slice_index, Result, Ok, Err, Option, Some, None},
+  Bool.{nat_eq},
+  List.{list_any, starts_with, ends_with},
+  Str.{is_utf8},
+  Char.{is_ascii_whitespace},
+}
+use Rattle.tz_base.specs.{
+  Fronts.{◌>>=◌},
+  declared.error.{Error.{Error, TheVariants.{InvalidTzFile, Utf8}}, Expected.TheVariants.{FooterInUtf8, FooterBetweenNewlines, TzTextInFooter}},
+  Grammar.{read},
+}
 use Rattle.tz_info.specs.{Steps.ContentReading.{is_zero}, TzGrammar.{text}, declared.rule.transition_rule.TransitionRule.{TransitionRule}}
 
 abbrev pub trimmed_front : List ℕ → List ℕ

@@ -1,8 +1,10 @@
 -- The way to the first second at which clocks show more than a local time that they never show.
-use Rattle.std.specs.Prelude.{◌≡◌, not, ℤ, pos, ◌+ℤ◌, ◌-ℤ◌, ◌≤ℤ◌, ◌<ℤ◌}
-use Rattle.tz_base.specs.{LocalTypes.{LocalType}, declared.change.Change.{Change}}
-use Rattle.tz_info.specs.{Leaps.{IsNear}, Moments.{AlternateAt, type_when}, Rules.{Alternate}, Steps.Runs.{IsWindowOf}, Zones.{Zone, TypeAt}}
-use Rattle.tz_info.specs.declared.rule.moments.Moment.{Moment}
+use Rattle.{
+  std.specs.Prelude.{◌≡◌, not, ℤ, pos, ◌+ℤ◌, ◌-ℤ◌, ◌≤ℤ◌, ◌<ℤ◌},
+  tz_base.specs.{LocalTypes.{LocalType}, declared.change.Change.{Change}},
+  tz_info.specs.{Leaps.{IsNear}, Moments.{AlternateAt, type_when}, Rules.{Alternate}, Steps.Runs.{IsWindowOf}, Zones.{Zone, TypeAt}},
+  tz_info.specs.declared.rule.moments.Moment.{Moment},
+}
 
 -- clocks show less at each near second up to s
 abbrev pub AreLess : Zone → ℤ → ℤ → Type 0

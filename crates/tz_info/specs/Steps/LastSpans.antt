@@ -1,9 +1,11 @@
 -- The span after a zone's last clock change.
-use Rattle.std.specs.{Prelude.{ℤ, ◌<ℤ◌, ◌≤ℤ◌, FitsSigned}, Int.{w64}}
-use Rattle.naive_base.specs.Range.{IsWide}
-use Rattle.offset_core.specs.WallAnswer.{IsShownOnce}
-use Rattle.tz_info.specs.{Changes.{HasNoChange, IsLast}, Spans.{IsSpanAt}, WallClocks.{Shows}, Zones.{Zone, TypeAt}}
-use Rattle.tz_info.specs.declared.zone.made.last_span.LastSpan.{LastSpan}
+use Rattle.{
+  naive_base.specs.Range.{IsWide},
+  offset_core.specs.WallAnswer.{IsShownOnce},
+  std.specs.{Prelude.{ℤ, ◌<ℤ◌, ◌≤ℤ◌, FitsSigned}, Int.{w64}},
+  tz_info.specs.{Changes.{HasNoChange, IsLast}, Spans.{IsSpanAt}, WallClocks.{Shows}, Zones.{Zone, TypeAt}},
+  tz_info.specs.declared.zone.made.last_span.LastSpan.{LastSpan},
+}
 
 -- each later second up to the last that has a type lies in the span; after no later second clocks change, and the change that began
 -- the span is the last one up to it; only one second shows a later local time, at the span's type

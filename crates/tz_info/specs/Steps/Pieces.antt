@@ -1,12 +1,19 @@
 -- The pieces of some neighbouring segments, and the search in them.
-use Rattle.std.specs.Prelude.{ℕ, zero, suc, ℤ, ◌≡◌, ◌⊎◌, ◌+◌, ◌-◌, ◌*◌, ◌<◌, ◌≤◌, ◌+ℤ◌, ◌≤ℤ◌, if◌then◌else◌, nat_lt, List, length, Option, None as none}
-use Rattle.std.specs.{Prelude.{slice_get, Some as some}, Int.{saturate_signed, w64}}
 use Rattle.naive_base.specs.Range.{IsWide}
 use Rattle.offset_core.specs.declared.local_result.LocalResult.{LocalResult, TheVariants.{None, Single, Ambiguous}}
+use Rattle.std.specs.{
+  Prelude.{ℕ, zero, suc, ℤ, ◌≡◌, ◌⊎◌, ◌+◌, ◌-◌, ◌*◌, ◌<◌, ◌≤◌, ◌+ℤ◌, ◌≤ℤ◌, if◌then◌else◌, nat_lt, List, length, Option, None as none, slice_get},
+  Prelude.Some as some,
+  Int.{saturate_signed, w64},
+}
 use Rattle.tz_base.specs.{LocalTypes.{LocalType, IsUtOffset}, declared.change.Change.{Change}}
-use Rattle.tz_info.specs.{Steps.{Segments.{begin_of, index_of}, WallPieces.{AreInOrder, IsShownAmong, answer_at}}, Zones.{Zone}}
-use Rattle.tz_info.specs.declared.zone.made.{segments.{Segment.{Segment}, ZoneLists.{ZoneLists}}, pieces.Piece.{Piece}, shown.Shown.{Shown}}
-use Rattle.tz_info.specs.declared.zone.{made.shown.Shown.TheVariants.{Skipped, Once, Several}, lists.transition.Transition.{Transition}}
+use Rattle.tz_info.specs.{
+  Steps.{Segments.{begin_of, index_of}, WallPieces.{AreInOrder, IsShownAmong, answer_at}},
+  Zones.{Zone},
+  declared.zone.made.{segments.{Segment.{Segment}, ZoneLists.{ZoneLists}}, pieces.Piece.{Piece}},
+  declared.zone.made.shown.Shown.{Shown, TheVariants.{Skipped, Once, Several}},
+  declared.zone.lists.transition.Transition.{Transition},
+}
 
 -- the zone of lists that are lent
 abbrev pub zone_in : ZoneLists → Zone

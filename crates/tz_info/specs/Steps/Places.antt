@@ -1,7 +1,12 @@
 -- What the functions that look for the fault of a file hand from one to the next.
 use Rattle.std.specs.Prelude.{ℕ, ◌≡◌, ◌≢◌, Bool, List, slice_index, MatchOption, Option, Some, None}
-use Rattle.tz_info.specs.{FileContents.{HasNoZero}, FilePlaces.{HoldsOfNone, IsFirstBelow, IsFooterPlace, IsTextPlace}, Footers.{SaysRule}, TzFiles.{HasRule}}
-use Rattle.tz_info.specs.declared.rule.transition_rule.TransitionRule.{TransitionRule}
+use Rattle.tz_info.specs.{
+  FileContents.{HasNoZero},
+  FilePlaces.{HoldsOfNone, IsFirstBelow, IsFooterPlace, IsTextPlace},
+  Footers.{SaysRule},
+  TzFiles.{HasRule},
+  declared.rule.transition_rule.TransitionRule.{TransitionRule},
+}
 
 -- the first of the numbers below n of which P holds, or nothing if it holds of none
 abbrev pub Finds : (ℕ → Type 0) → ℕ → Option ℕ → Type 0

@@ -1,11 +1,16 @@
 -- The rule's day of a year in closed form, and that it is the day which its text describes.
-use Rattle.std.proofs.Common.{◌≡◌, ℕ, ◌+◌, ◌-◌, ◌*◌, ◌%◌, ◌<◌, ◌≤◌, Bool, false, nat_le, nat_lt, ◌&&◌, if◌then◌else◌, arith, refl, sym, ℤ}
-use Rattle.std.proofs.{Common.{pos, ◌+ℤ◌}, lemmas.Bool.{Decides.{nat_tests}}}
 use Rattle.naive_base.specs.{Year.{is_leap, year_start}, Month.{days_in_month, days_of_months}, Date.{day_number}, Weekday.{weekday_of}}
-use Rattle.naive_base.proofs.ForCallers.{floors, leap_day, months_early, months_late, month_bounds, months_step, months_rise, place_is, number_at}
-use Rattle.naive_base.proofs.ForCallers.{weekday_later, weekday_below}
-use Rattle.tz_info.specs.{RuleDays.{IsRuleDay, IsCommonDate, IsWeekdayInWeek, IsDayOf}, declared.rule.day.DayForm.{DayForm}}
-use Rattle.tz_info.specs.declared.rule.day.DayForm.TheVariants.{Julian1, Julian0, MonthWeekday}
+use Rattle.naive_base.proofs.{
+  ForCallers.{floors, leap_day, months_early, months_late, month_bounds, months_step, months_rise, place_is, number_at, weekday_later, weekday_below},
+}
+use Rattle.std.proofs.{
+  Common.{◌≡◌, ℕ, ◌+◌, ◌-◌, ◌*◌, ◌%◌, ◌<◌, ◌≤◌, Bool, false, nat_le, nat_lt, ◌&&◌, if◌then◌else◌, arith, refl, sym, ℤ, pos, ◌+ℤ◌},
+  lemmas.Bool.Decides.{nat_tests},
+}
+use Rattle.tz_info.specs.{
+  RuleDays.{IsRuleDay, IsCommonDate, IsWeekdayInWeek, IsDayOf},
+  declared.rule.day.DayForm.{DayForm, TheVariants.{Julian1, Julian0, MonthWeekday}},
+}
 
 -- how many days of the year come before the n-th date of a common year
 abbrev pub julian_place : Bool → ℕ → ℕ

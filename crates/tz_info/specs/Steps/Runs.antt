@@ -1,8 +1,10 @@
 -- Runs of seconds at which one type is in force.
-use Rattle.std.specs.Prelude.{◌≡◌, Bool, true, false, ℤ, pos, neg_ℤ, ◌-ℤ◌, ◌≤ℤ◌, ◌<ℤ◌, Option, MatchOption}
-use Rattle.tz_base.specs.LocalTypes.{LocalType}
-use Rattle.tz_info.specs.{Changes.{Precedes}, Leaps.{IsNear}, Windows.{IsGreatest, IsLeast, offsets}, Zones.{Zone, TypeAt}}
-use Rattle.tz_info.specs.ShownSeconds.{IsFirstWithin, IsLastWithin, ShowsWithin}
+use Rattle.{
+  std.specs.Prelude.{◌≡◌, Bool, true, false, ℤ, pos, neg_ℤ, ◌-ℤ◌, ◌≤ℤ◌, ◌<ℤ◌, Option, MatchOption},
+  tz_base.specs.LocalTypes.{LocalType},
+  tz_info.specs.{Changes.{Precedes}, Leaps.{IsNear}, Windows.{IsGreatest, IsLeast, offsets}, Zones.{Zone, TypeAt}},
+  tz_info.specs.ShownSeconds.{IsFirstWithin, IsLastWithin, ShowsWithin},
+}
 
 -- the type of `at` is in force from the second `at` on and before `end`; if `end` is before `limit`, another type is in force then
 pub record IsRunUntil (in_force : ℤ → LocalType → Type 0) (at limit end : ℤ) : Type 0 where

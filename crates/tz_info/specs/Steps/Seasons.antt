@@ -1,7 +1,12 @@
 -- Seasons: the moments of one year, for several seconds near it.
 use Rattle.std.specs.Prelude.{Option, Some, ℤ, length, ◌-ℤ◌, ◌≤ℤ◌, ◌<ℤ◌}
-use Rattle.tz_info.specs.{Moments.{AlternateAt, IsRuleTime, type_when}, Rules.{Alternate}, Steps.{Turns.{is_dst_by_one}, WallPieces.{IsStart}}, Zones.{Zone}}
-use Rattle.tz_info.specs.declared.rule.{season.Season.{Season}, transition_rule.TransitionRule.{TransitionRule}}
+use Rattle.tz_info.specs.{
+  Moments.{AlternateAt, IsRuleTime, type_when},
+  Rules.{Alternate},
+  Steps.{Turns.{is_dst_by_one}, WallPieces.{IsStart}},
+  Zones.{Zone},
+  declared.rule.{season.Season.{Season}, transition_rule.TransitionRule.{TransitionRule}},
+}
 use Rattle.tz_info.specs.declared.rule.transition_rule.TransitionRule.TheVariants as rules
 
 -- the second u lies in the season

@@ -1,6 +1,8 @@
 -- Where segments end on the wall-clock axis, and the first one in which clocks show a local time or a later one.
-use Rattle.std.specs.Prelude.{ℕ, suc, ℤ, pos, ◌≡◌, ◌-◌, ◌<◌, ◌≤◌, ◌-ℤ◌, ◌+ℤ◌, ◌≤ℤ◌, ◌<ℤ◌, ◌↔◌, List, length, Option, None, Some, slice_get, slice_index_or}
-use Rattle.std.specs.{Prelude.{FitsSigned}, Int.{saturate_signed, w64}}
+use Rattle.std.specs.{
+  Prelude.{ℕ, suc, ℤ, pos, ◌≡◌, ◌-◌, ◌<◌, ◌≤◌, ◌-ℤ◌, ◌+ℤ◌, ◌≤ℤ◌, ◌<ℤ◌, ◌↔◌, List, length, Option, None, Some, slice_get, slice_index_or, FitsSigned},
+  Int.{saturate_signed, w64},
+}
 use Rattle.tz_base.specs.LocalTypes.{IsUtOffset, LocalType}
 use Rattle.tz_info.specs.{Steps.Segments.{begin_of, index_of}, declared.zone.lists.transition.Transition.{Transition}}
 

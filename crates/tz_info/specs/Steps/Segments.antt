@@ -1,7 +1,12 @@
 -- Segments: from one transition to the next one type is in force. Segment i comes after the first i transitions.
 use Rattle.std.specs.Prelude.{ℕ, suc, length, List, map, take, ℤ, ◌+ℤ◌, Option, Some, None}
-use Rattle.tz_info.specs.{Leaps.{correction_at, least_time}, Lists.{last_else}, Transitions.{passed}, Zones.{Zone}}
-use Rattle.tz_info.specs.declared.{rule.transition_rule.TransitionRule.{TransitionRule}, zone.lists.transition.Transition.{Transition}}
+use Rattle.tz_info.specs.{
+  Leaps.{correction_at, least_time},
+  Lists.{last_else},
+  Transitions.{passed},
+  Zones.{Zone},
+  declared.{rule.transition_rule.TransitionRule.{TransitionRule}, zone.lists.transition.Transition.{Transition}},
+}
 
 -- the segment of the second u: how many transitions have come by then
 unfoldable pub segment_of : Zone → ℤ → ℕ

@@ -1,7 +1,9 @@
 -- From a second on: the last local time that clocks show up to another second, and the first second at or after a local time.
-use Rattle.std.specs.Prelude.{ℤ, pos, ◌-ℤ◌, ◌≤ℤ◌}
-use Rattle.tz_base.specs.LocalTypes.{LocalType}
-use Rattle.tz_info.specs.{Leaps.{IsNear}, ShownSeconds.{ShowsAtOrAfter}, WallClocks.{Shows}}
+use Rattle.{
+  std.specs.Prelude.{ℤ, pos, ◌-ℤ◌, ◌≤ℤ◌},
+  tz_base.specs.LocalTypes.{LocalType},
+  tz_info.specs.{Leaps.{IsNear}, ShownSeconds.{ShowsAtOrAfter}, WallClocks.{Shows}},
+}
 
 -- l is the last local time that clocks show from the second `begin` to t
 pub record IsReachedSince (in_force : ℤ → LocalType → Type 0) (begin t l : ℤ) : Type 0 where

@@ -1,10 +1,13 @@
 -- What the reader of a TZ string hands from one function to the next: the rule of it, and its limits.
-use Rattle.std.specs.{Prelude.{ℕ, ℤ, ◌≡◌, ◌+◌, Bool, false, List, Result, Ok, Err, Some}, Char.{is_ascii_whitespace}, List.{prefix_len}}
 use Rattle.offset_core.specs.Offset.{IsWithinDay}
+use Rattle.std.specs.{Prelude.{ℕ, ℤ, ◌≡◌, ◌+◌, Bool, false, List, Result, Ok, Err, Some}, Char.{is_ascii_whitespace}, List.{prefix_len}}
 use Rattle.tz_base.specs.{LocalTypes.{LocalType}, declared.parse_error.ParseError.{ParseError}}
-use Rattle.tz_info.specs.{Rules.{Alternate, IsWithinWeek}, Steps.FooterReading.{rule_in, trimmed}, TzGrammar.{text_fault_position}}
-use Rattle.tz_info.specs.declared.rule.{day.{DayForm.{DayForm}, DayTime.{DayTime}}, reader.text.Spelled.{Spelled}}
-use Rattle.tz_info.specs.declared.rule.transition_rule.TransitionRule.{TransitionRule}
+use Rattle.tz_info.specs.{
+  Rules.{Alternate, IsWithinWeek},
+  Steps.FooterReading.{rule_in, trimmed},
+  TzGrammar.{text_fault_position},
+  declared.rule.{day.{DayForm.{DayForm}, DayTime.{DayTime}}, reader.text.Spelled.{Spelled}, transition_rule.TransitionRule.{TransitionRule}},
+}
 use Rattle.tz_info.specs.declared.rule.reader.text.Spelled.TheVariants as spelled
 use Rattle.tz_info.specs.declared.rule.transition_rule.TransitionRule.TheVariants as rules
 

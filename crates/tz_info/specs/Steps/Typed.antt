@@ -1,7 +1,9 @@
 -- From which second on, and up to which one, a zone has a type.
-use Rattle.std.specs.{Prelude.{ℤ, pos, ◌≡◌, ◌-ℤ◌, ◌≤ℤ◌, ◌<ℤ◌, FitsSigned, Option, Some, MatchOption}, Int.{w64}}
-use Rattle.tz_base.specs.{LocalTypes.{LocalType}, declared.change.Change.{Change}}
-use Rattle.tz_info.specs.{Leaps.{least_time}, Zones.{Zone, TypeAt}}
+use Rattle.{
+  std.specs.{Prelude.{ℤ, pos, ◌≡◌, ◌-ℤ◌, ◌≤ℤ◌, ◌<ℤ◌, FitsSigned, Option, Some, MatchOption}, Int.{w64}},
+  tz_base.specs.{LocalTypes.{LocalType}, declared.change.Change.{Change}},
+  tz_info.specs.{Leaps.{least_time}, Zones.{Zone, TypeAt}},
+}
 
 -- the zone has a type at the second u
 abbrev pub IsTyped : Zone → ℤ → Type 0

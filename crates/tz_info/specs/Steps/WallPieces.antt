@@ -1,14 +1,23 @@
 -- The wall-clock axis of a zone in pieces: on each of them the segments between the zone's entries answer alike.
-use Rattle.std.specs.Prelude.{ℕ, ℤ, pos, ◌≡◌, ◌⊎◌, ◌+◌, ◌*◌, ◌<◌, ◌≤◌, ◌+ℤ◌, ◌≤ℤ◌, ◌<ℤ◌, ◌↔◌, int_le, List, length, map, filter, AllPairs, FitsSigned, suc}
-use Rattle.std.specs.{Prelude.{Option, None as none, Some as some}, Int.{w64}}
 use Rattle.naive_base.specs.Range.{IsWide}
 use Rattle.offset_core.specs.{WallAnswer.{IsWallAnswer}, declared.local_result.LocalResult.{LocalResult, TheVariants.{None, Single, Ambiguous}}}
+use Rattle.std.specs.{
+  Prelude.{ℕ, ℤ, pos, ◌≡◌, ◌⊎◌, ◌+◌, ◌*◌, ◌<◌, ◌≤◌, ◌+ℤ◌, ◌≤ℤ◌, ◌<ℤ◌, ◌↔◌, int_le, List, length, map, filter, AllPairs, FitsSigned, suc, Option},
+  Prelude.{None as none, Some as some},
+  Int.{w64},
+}
 use Rattle.tz_base.specs.LocalTypes.{LocalType}
-use Rattle.tz_info.specs.{Leaps.{IsLeapTime, IsNear}, Lists.{last_else}, Steps.{Entries.{AreEntries, Entries}, SegmentEnds.{AreEnds}}}
-use Rattle.tz_info.specs.{Steps.Segments.{begin_of, index_of, segment_of, table_count}, Transitions.{AreRising, NameTypes, passed}, WallClocks.{Shows}}
-use Rattle.tz_info.specs.{Zones.{Zone, HasType, TypeAt}, declared.rule.transition_rule.TransitionRule.{TransitionRule}}
-use Rattle.tz_info.specs.declared.zone.{lists.leap_second.LeapSecond.{LeapSecond}, made.{pieces.Piece.{Piece}, shown.Shown.{Shown}}}
-use Rattle.tz_info.specs.declared.zone.{made.shown.Shown.TheVariants.{Less, Skipped, Once, Several}, lists.transition.Transition.{Transition}}
+use Rattle.tz_info.specs.{
+  Leaps.{IsLeapTime, IsNear},
+  Lists.{last_else},
+  Steps.{Entries.{AreEntries, Entries}, SegmentEnds.{AreEnds}, Segments.{begin_of, index_of, segment_of, table_count}},
+  Transitions.{AreRising, NameTypes, passed},
+  WallClocks.{Shows},
+  Zones.{Zone, HasType, TypeAt},
+  declared.rule.transition_rule.TransitionRule.{TransitionRule},
+  declared.zone.lists.{leap_second.LeapSecond.{LeapSecond}, transition.Transition.{Transition}},
+  declared.zone.made.{pieces.Piece.{Piece}, shown.Shown.{Shown, TheVariants.{Less, Skipped, Once, Several}}},
+}
 
 -- the starts of the pieces don't fall
 abbrev pub AreInOrder : List Piece → Type 0

@@ -1,8 +1,10 @@
 //! The data blocks of a file (RFC 8536 section 3.2).
 
-ghost use Rattle.std.specs.Prelude.{◌≤◌};
-ghost use Rattle.tz_base.specs.Grammar.{IsRead};
-ghost use Rattle.tz_info.specs.FileBlocks.{block, parts_of};
+ghost use Rattle.{
+  std.specs.Prelude.{◌≤◌},
+  tz_base.specs.Grammar.{IsRead},
+  tz_info.specs.FileBlocks.{block, parts_of},
+};
 
 use crate::file::header::{Counts, read_exact};
 use tz_base::{Cursor, Error};

@@ -1,9 +1,11 @@
 //! What the records of a data block say (RFC 8536 section 3.2).
 
-ghost use Rattle.std.specs.Prelude.{◌≡◌, ◌⊎◌, ◌+◌, ◌*◌, length, slice_index};
-ghost use Rattle.tz_base.specs.Fronts.{Gives};
-ghost use Rattle.tz_info.specs.Steps.ContentReading.{transition_in, values_below, GivesInMemory};
-ghost use Rattle.tz_info.specs.Steps.ContentReading.{indicators_of, leap_second_in, leap_second_of, pair_agrees};
+ghost use Rattle.{
+  std.specs.Prelude.{◌≡◌, ◌⊎◌, ◌+◌, ◌*◌, length, slice_index},
+  tz_base.specs.Fronts.{Gives},
+  tz_info.specs.Steps.ContentReading.{transition_in, values_below, GivesInMemory, indicators_of, leap_second_in},
+  tz_info.specs.Steps.ContentReading.{leap_second_of, pair_agrees},
+};
 
 use crate::file::numbers::{record_at, signed_32, time_of};
 use crate::zone::LeapSecond;

@@ -1,9 +1,10 @@
 //! The footer of a file (RFC 8536 section 3.3).
 
-ghost use Rattle.std.specs.{List.{list_any}, Prelude.{◌≡◌}, Str.{is_utf8}};
-ghost use Rattle.tz_base.specs.Fronts.{Gives};
-ghost use Rattle.tz_info.specs.Steps.ContentReading.{is_zero};
-ghost use Rattle.tz_info.specs.Steps.FooterReading.{footer_at, is_between_newlines, is_no_text};
+ghost use Rattle.{
+  std.specs.{List.{list_any}, Prelude.{◌≡◌}, Str.{is_utf8}},
+  tz_base.specs.Fronts.{Gives},
+  tz_info.specs.Steps.{ContentReading.{is_zero}, FooterReading.{footer_at, is_between_newlines, is_no_text}},
+};
 
 use crate::file::contents::byte_or_zero;
 use crate::rule::TransitionRule;

@@ -1,10 +1,11 @@
 //! Theorems of the changes of a zone's clocks: each function is empty, its contract is proved; never
 //! called.
 
-ghost use Rattle.std.specs.Prelude.{◌≡◌, ◌<ℤ◌, ◌≤ℤ◌, ◌-ℤ◌, ◌∷◌, pos, List, Option, ℤ};
-ghost use Rattle.tz_base.specs.LocalTypes.{LocalType};
-ghost use Rattle.tz_info.specs.{Changes.{AreChanges, IsChange, IsFirst, IsLast}, Gaps.{IsTypeBeforeGap}};
-ghost use Rattle.tz_info.specs.Zones.{TypeAt, Zone};
+ghost use Rattle.{
+  std.specs.Prelude.{◌≡◌, ◌<ℤ◌, ◌≤ℤ◌, ◌-ℤ◌, ◌∷◌, pos, List, Option, ℤ},
+  tz_base.specs.LocalTypes.{LocalType},
+  tz_info.specs.{Changes.{AreChanges, IsChange, IsFirst, IsLast}, Gaps.{IsTypeBeforeGap}, Zones.{TypeAt, Zone}},
+};
 
 use tz_base::Change;
 

@@ -1,8 +1,10 @@
 //! Theorems of equality and clones: each function is empty, its contract is proved; never called.
 
-ghost use Rattle.std.specs.Prelude.{◌≡◌, ◌↔◌, IsTrue};
-ghost use Rattle.tz_info.specs.HeldChanges.{change_held, second_held, span_held};
-ghost use Rattle.tz_info.specs.{ChangesLeft.{changes_left}, Rules.{Alternate as AlternateRule}, Zones.{Zone}};
+ghost use Rattle.{
+  std.specs.Prelude.{◌≡◌, ◌↔◌, IsTrue},
+  tz_info.specs.{HeldChanges.{change_held, second_held, span_held}, ChangesLeft.{changes_left}},
+  tz_info.specs.{Rules.{Alternate as AlternateRule}, Zones.{Zone}},
+};
 
 use crate::DayForm;
 use crate::change::{HeldChange, HeldSecond, HeldSpan, TypedSecond};

@@ -1,8 +1,10 @@
 //! Theorems of spans: each function is empty, its contract is proved; never called.
 
-ghost use Rattle.std.specs.Prelude.{◌≡◌, ◌-ℤ◌, pos, ℤ};
-ghost use Rattle.tz_base.specs.LocalTypes.{LocalType};
-ghost use Rattle.tz_info.specs.{Changes.{IsChange}, Spans.{IsInSpan, IsSpan, IsSpanAt}, Zones.{TypeAt, Zone}};
+ghost use Rattle.{
+  std.specs.Prelude.{◌≡◌, ◌-ℤ◌, pos, ℤ},
+  tz_base.specs.LocalTypes.{LocalType},
+  tz_info.specs.{Changes.{IsChange}, Spans.{IsInSpan, IsSpan, IsSpanAt}, Zones.{TypeAt, Zone}},
+};
 
 use tz_base::{Change, Span};
 

@@ -1,8 +1,10 @@
 //! Two types that take turns each year.
 
-ghost use Rattle.std.specs.Prelude.{◌≡◌, ◌↔◌, IsTrue, MatchResult};
-ghost use Rattle.offset_core.specs.Offset.{IsWithinDay};
-ghost use Rattle.tz_info.specs.Rules.{expected_of_alternate, Alternate, IsAlternate, IsAlternateRule};
+ghost use Rattle.{
+  offset_core.specs.Offset.{IsWithinDay},
+  std.specs.Prelude.{◌≡◌, ◌↔◌, IsTrue, MatchResult},
+  tz_info.specs.Rules.{expected_of_alternate, Alternate, IsAlternate, IsAlternateRule},
+};
 
 use crate::change::is_same_type;
 use crate::rule::changing::{any_of, changing_keys, year_key};

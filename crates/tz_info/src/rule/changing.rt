@@ -4,10 +4,11 @@
 //! four years is a leap year, of the year before it to the second one after it. It is found once for
 //! each of the 35 keys, when the rule is made.
 
-ghost use Rattle.std.specs.{List.{list_any}, Prelude.{◌≡◌, ◌<◌, ◌≤◌, ◌≤ℤ◌, neg_ℤ, pos}};
-ghost use Rattle.tz_info.specs.Steps.ChangingYears.{changing_keys, dst_near, flips_at, has_flip, is_changing};
-ghost use Rattle.tz_info.specs.Steps.ChangingYears.{key_years, leap_place, moment_by, place_of, turns_in};
-ghost use Rattle.tz_info.specs.Steps.ChangingYears.{year_key, years_near, AreWithinYears};
+ghost use Rattle.{
+  std.specs.{List.{list_any}, Prelude.{◌≡◌, ◌<◌, ◌≤◌, ◌≤ℤ◌, neg_ℤ, pos}},
+  tz_info.specs.Steps.ChangingYears.{changing_keys, dst_near, flips_at, has_flip, is_changing, key_years, leap_place},
+  tz_info.specs.Steps.ChangingYears.{moment_by, place_of, turns_in, year_key, years_near, AreWithinYears},
+};
 
 use crate::rule::kinds::{are_calm, kind_of};
 use crate::rule::moments::{Turns, is_dst_by_three};

@@ -1,9 +1,10 @@
 //! How many days of a year come before a rule's day.
 
-ghost use Rattle.std.specs.{Int.{IsInRange}, Prelude.{◌≡◌, ◌<◌, ◌≤◌, ◌+ℤ◌, pos}};
-ghost use Rattle.naive_base.specs.Date.{day_number};
-ghost use Rattle.naive_base.specs.{Month.{days_in_month}, Weekday.{weekday_of}, Year.{is_leap, year_start}};
-ghost use Rattle.tz_info.specs.{RuleDays.{IsWrittenDate}, Steps.RuleDays.{julian_place, weekday_place}};
+ghost use Rattle.{
+  naive_base.specs.{Date.{day_number}, Month.{days_in_month}, Weekday.{weekday_of}, Year.{is_leap, year_start}},
+  std.specs.{Int.{IsInRange}, Prelude.{◌≡◌, ◌<◌, ◌≤◌, ◌+ℤ◌, pos}},
+  tz_info.specs.{RuleDays.{IsWrittenDate}, Steps.RuleDays.{julian_place, weekday_place}},
+};
 
 use gregorian::{day_number, days_in_month, days_in_year, is_leap_year, month_and_day, weekday_of};
 

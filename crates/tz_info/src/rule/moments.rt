@@ -1,8 +1,10 @@
 //! The moments at which a rule's types give way to each other.
 
-ghost use Rattle.std.specs.Prelude.{◌≡◌, if◌then◌else◌, ◌||◌, int_le};
-ghost use Rattle.tz_info.specs.{Rules.{Alternate}, Steps.Changes.{nearer_one}};
-ghost use Rattle.tz_info.specs.Steps.{Beside.{change_found}, Turns.{dst_by, is_between, is_dst_by_one}};
+ghost use Rattle.{
+  std.specs.Prelude.{◌≡◌, if◌then◌else◌, ◌||◌, int_le},
+  tz_info.specs.Rules.{Alternate},
+  tz_info.specs.Steps.{Changes.{nearer_one}, Beside.{change_found}, Turns.{dst_by, is_between, is_dst_by_one}},
+};
 
 // A second at which daylight saving time starts, or ends.
 #[derive(Clone, Copy)]

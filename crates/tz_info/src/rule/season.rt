@@ -1,10 +1,11 @@
 //! The moments of one year at which a rule's types give way to each other, and the seconds at which
 //! only these decide.
 
-ghost use Rattle.std.specs.Prelude.{◌≡◌, ◌↔◌, ◌<◌, ◌+ℤ◌, pos, IsTrue, MatchResult};
-ghost use Rattle.naive_base.specs.{DateOf.{day_of_year, year_of}, Year.{floor_div, year_start, IsDay, LiesIn}};
-ghost use Rattle.tz_info.specs.Moments.{IsRuleTime};
-ghost use Rattle.tz_info.specs.{Rules.{IsAlternateRule}, Steps.{Kinds.{kind_place}, Seasons.{IsDecidedIn}}};
+ghost use Rattle.{
+  naive_base.specs.{DateOf.{day_of_year, year_of}, Year.{floor_div, year_start, IsDay, LiesIn}},
+  std.specs.Prelude.{◌≡◌, ◌↔◌, ◌<◌, ◌+ℤ◌, pos, IsTrue, MatchResult},
+  tz_info.specs.{Moments.{IsRuleTime}, Rules.{IsAlternateRule}, Steps.{Kinds.{kind_place}, Seasons.{IsDecidedIn}}},
+};
 
 use crate::rule::alternate::AlternateTime;
 use crate::rule::kinds::{kind_by, kind_of};

@@ -5,10 +5,13 @@
 //! last one before it. The latest item at a second of a stretch is then the one of its hint, or one
 //! of the few up to that of the next hint.
 
-ghost use Rattle.std.specs.Prelude.{◌≡◌, ◌<◌, ◌≤◌, ◌+◌, ◌/◌, ◌^◌, ◌≤ℤ◌, ◌-ℤ◌, length, map, pos, slice_index, suc, ⊤};
-ghost use Rattle.std.specs.Prelude.{List, MatchOption, MatchResult, ℕ, ℤ};
-ghost use Rattle.tz_info.specs.Steps.Hints.{stretch_of, AreHints, AreMarked, AreNonDecreasing, AreRaised, AreStepsUntil};
-ghost use Rattle.tz_info.specs.Steps.{Hints.{IsHinted, RiseFromZero}, Search.{item_time, AreEnds, AreOrdered}};
+ghost use Rattle.{
+  std.specs.Prelude.{◌≡◌, ◌<◌, ◌≤◌, ◌+◌, ◌/◌, ◌^◌, ◌≤ℤ◌, ◌-ℤ◌, length, map, pos, slice_index, suc, ⊤, List},
+  std.specs.Prelude.{MatchOption, MatchResult, ℕ, ℤ},
+  tz_info.specs.Steps.Hints.{stretch_of, AreHints, AreMarked, AreNonDecreasing, AreRaised, AreStepsUntil, IsHinted},
+  tz_info.specs.Steps.Hints.{RiseFromZero},
+  tz_info.specs.Steps.Search.{item_time, AreEnds, AreOrdered},
+};
 
 use crate::timeline::Ends;
 use crate::timeline::timed::Timed;

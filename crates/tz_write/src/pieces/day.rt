@@ -1,8 +1,10 @@
 //! Days, and the times of day after them.
 
-ghost use Rattle.std.specs.Prelude.{◌≡◌, ◌++◌, ◌∷◌, string_bytes, OnOk};
-ghost use Rattle.tz_info.specs.TzGrammar.{comma};
-ghost use Rattle.tz_write.specs.Steps.TextPieces.{spelled_date, time_after};
+ghost use Rattle.{
+  std.specs.Prelude.{◌≡◌, ◌++◌, ◌∷◌, string_bytes, OnOk},
+  tz_info.specs.TzGrammar.{comma},
+  tz_write.specs.Steps.TextPieces.{spelled_date, time_after},
+};
 
 use crate::pieces::clock::{push_byte, push_number};
 use crate::pieces::offset::push_time;

@@ -1,8 +1,10 @@
 //! Names.
 
-ghost use Rattle.std.specs.{List.{list_all}, Prelude.{◌≡◌, ◌++◌, string_bytes, OnOk}};
-ghost use Rattle.tz_info.specs.TzGrammar.{is_letter};
-ghost use Rattle.tz_write.specs.Steps.TextPieces.{spelled_name};
+ghost use Rattle.{
+  std.specs.{List.{list_all}, Prelude.{◌≡◌, ◌++◌, string_bytes, OnOk}},
+  tz_info.specs.TzGrammar.{is_letter},
+  tz_write.specs.Steps.TextPieces.{spelled_name},
+};
 
 use crate::pieces::clock::push_byte;
 use std::alloc::AllocError;

@@ -1,7 +1,8 @@
 //! When the day of an instant starts.
-ghost use Rattle.std.specs.Prelude.{ℤ, MatchOption};
-ghost use Rattle.zoned_time.specs.DateTime.{zoned, home_law_of};
-ghost use Rattle.zoned_time.specs.Days.{IsFirstOutOfRange, IsInDay, IsZonedAtOrAfter, midnight};
+ghost use Rattle.{
+  std.specs.Prelude.{ℤ, MatchOption},
+  zoned_time.specs.{DateTime.{zoned, home_law_of}, Days.{IsFirstOutOfRange, IsInDay, IsZonedAtOrAfter, midnight}},
+};
 
 use super::DateTime;
 use crate::ZoneDays;

@@ -1,9 +1,11 @@
 //! Equality, order and hash of instants: only by their UTC date-times.
+ghost use Rattle.{
+  std.proofs.Common.{rules},
+  std.specs.{Cmp.{partial_order_from_own_ties, Rules.{comparing, hashing}}, Prelude.{◌≡◌, ◌↔◌, ◌++◌, ◌==◌, IsTrue}},
+  std.specs.Ordering.{as_partial_cmp, eq_of_both, int_cmp, int_eq, nat_cmp, on, then_cmp},
+  zoned_time.specs.{DateTime.{zoned}, Order.{compared}},
+};
 ghost use Rattle.std.specs.Hash as fed;
-ghost use Rattle.std.{proofs.Common.{rules}, specs.Cmp.Rules.{comparing, hashing}};
-ghost use Rattle.std.specs.{Cmp.{partial_order_from_own_ties}, Prelude.{◌≡◌, ◌↔◌, ◌++◌, ◌==◌, IsTrue}};
-ghost use Rattle.std.specs.Ordering.{as_partial_cmp, eq_of_both, int_cmp, int_eq, nat_cmp, on, then_cmp};
-ghost use Rattle.zoned_time.specs.{DateTime.{zoned}, Order.{compared}};
 
 use super::{DateTime, Instant};
 use crate::{Offset, TimeZone};

@@ -1,7 +1,9 @@
 //! Theorems of plans and their fires: each function is empty, its contract is proved; never called.
-ghost use Rattle.std.specs.Prelude.{◌↔◌, ◌<ℤ◌, ◌≤ℤ◌, ◌∷◌, [], All, Contains, List, ℤ};
-ghost use Rattle.zoned_time.specs.{DateTime.{zoned}, Policies.{AreFiresBy, AreLeft, IsFireBy}};
-ghost use Rattle.zoned_time.specs.Fires.{left_of, usual_policy, AreFires, IsFire, RiseFrom};
+ghost use Rattle.{
+  std.specs.Prelude.{◌↔◌, ◌<ℤ◌, ◌≤ℤ◌, ◌∷◌, [], All, Contains, List, ℤ},
+  zoned_time.specs.{DateTime.{zoned}, Policies.{AreFiresBy, AreLeft, IsFireBy}},
+  zoned_time.specs.Fires.{left_of, usual_policy, AreFires, IsFire, RiseFrom},
+};
 
 use crate::{FirePolicy, Fires, TimeZone, ZoneDays};
 use naive_plans::Plan;

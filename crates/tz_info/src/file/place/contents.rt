@@ -1,9 +1,12 @@
 //! Where what the pieces of a file say is at fault.
 
-ghost use Rattle.std.specs.Prelude.{◌≡◌, length, MatchOption};
-ghost use Rattle.tz_info.specs.FileContents.{IndicatorsAgree};
-ghost use Rattle.tz_info.specs.FilePlaces.{before_field, ArePartPlaces, AreTypes, IsContentPlace, IsFirstBelow};
-ghost use Rattle.tz_info.specs.{FilePlaces.{IsOtherPair, IsTypePlace}, Steps.FileLists.{pieces_of, HasLengths}};
+ghost use Rattle.{
+  std.specs.Prelude.{◌≡◌, length, MatchOption},
+  tz_info.specs.FileContents.{IndicatorsAgree},
+  tz_info.specs.FilePlaces.{before_field, ArePartPlaces, AreTypes, IsContentPlace, IsFirstBelow, IsOtherPair},
+  tz_info.specs.FilePlaces.{IsTypePlace},
+  tz_info.specs.Steps.FileLists.{pieces_of, HasLengths},
+};
 
 use crate::file::contents::byte_or_zero;
 use crate::file::numbers::record_at;

@@ -1,8 +1,10 @@
 //! Where lists that make no zone are at fault.
 
-ghost use Rattle.std.specs.Prelude.{◌≡◌, ◌↔◌, ◌<◌, IsTrue};
-ghost use Rattle.tz_info.specs.FilePlaces.{leap_at, time_at, ArePartPlaces, IsListPlace, IsNotLater, IsOtherIndex, IsOtherLeap};
-ghost use Rattle.tz_info.specs.Steps.{FileLists.{pieces_of, HasLengths}, Places.{Finds}};
+ghost use Rattle.{
+  std.specs.Prelude.{◌≡◌, ◌↔◌, ◌<◌, IsTrue},
+  tz_info.specs.FilePlaces.{leap_at, time_at, ArePartPlaces, IsListPlace, IsNotLater, IsOtherIndex, IsOtherLeap},
+  tz_info.specs.Steps.{FileLists.{pieces_of, HasLengths}, Places.{Finds}},
+};
 
 use crate::file::contents::leap_second_of;
 use crate::file::numbers::{record_at, time_of};

@@ -1,8 +1,10 @@
 //! The names of a TZ string: letters, or any bytes between `<` and `>`.
 
-ghost use Rattle.std.specs.Prelude.{◌≡◌, ◌==◌};
-ghost use Rattle.tz_base.specs.{Fronts.{after_run, run_of}, Grammar.{IsRead}};
-ghost use Rattle.tz_info.specs.TzGrammar.{greater, is_letter, is_not_greater, name};
+ghost use Rattle.{
+  std.specs.Prelude.{◌≡◌, ◌==◌},
+  tz_base.specs.{Fronts.{after_run, run_of}, Grammar.{IsRead}},
+  tz_info.specs.TzGrammar.{greater, is_letter, is_not_greater, name},
+};
 
 use tz_base::{Cursor, Error};
 

@@ -1,8 +1,10 @@
 //! All changes of a stretch of time, from both ends.
 
-ghost use Rattle.std.specs.{Iterator.{item_count, YieldsFirst, YieldsLast}, Prelude.{◌↔◌, ◌<ℤ◌, ◌≤ℤ◌, ℤ}};
-ghost use Rattle.tz_info.specs.{Changes.{AreChanges, IsNearest}, Zones.{IsRuleOrNone, IsValid, TypeAt}};
-ghost use Rattle.tz_info.specs.{ChangesLeft.{changes_left}, Leaps.{least_time}, Steps.Changes.{IsInStretch}};
+ghost use Rattle.{
+  std.specs.{Iterator.{item_count, YieldsFirst, YieldsLast}, Prelude.{◌↔◌, ◌<ℤ◌, ◌≤ℤ◌, ℤ}},
+  tz_info.specs.{Changes.{AreChanges, IsNearest}, Zones.{IsRuleOrNone, IsValid, TypeAt}, ChangesLeft.{changes_left}},
+  tz_info.specs.{Leaps.{least_time}, Steps.Changes.{IsInStretch}},
+};
 
 use crate::change::if_within;
 use crate::zone::time_zone::TimeZone;

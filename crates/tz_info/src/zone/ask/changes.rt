@@ -3,10 +3,13 @@
 //! Before the last transition only an entry of the change table can change the type, and each does.
 //! After it only the rule can. What the last transition itself changes is asked.
 
-ghost use Rattle.std.specs.Prelude.{◌≡◌, ◌≢◌, ◌<◌, ◌≤◌, ◌<ℤ◌, ◌≤ℤ◌, length, neg_ℤ, option_map, pos, MatchOption};
-ghost use Rattle.tz_info.specs.{Changes.{IsFirst, IsLast, IsNearest}, HeldChanges.{change_held}, Rules.{Alternate as AlternateRule}};
-ghost use Rattle.tz_info.specs.Steps.{Changes.{count_ahead, place_ahead, IsAhead, IsBegin, IsChangeAt, IsChangeByRule, IsInTable}};
-ghost use Rattle.tz_info.specs.{Steps.Entries.{entry_time, AreEntries}, Zones.{HasType, IsValid, TypeAt}};
+ghost use Rattle.{
+  std.specs.Prelude.{◌≡◌, ◌≢◌, ◌<◌, ◌≤◌, ◌<ℤ◌, ◌≤ℤ◌, length, neg_ℤ, option_map, pos, MatchOption},
+  tz_info.specs.{Changes.{IsFirst, IsLast, IsNearest}, HeldChanges.{change_held}, Rules.{Alternate as AlternateRule}},
+  tz_info.specs.Steps.Changes.{count_ahead, place_ahead, IsAhead, IsBegin, IsChangeAt, IsChangeByRule, IsInTable},
+  tz_info.specs.Steps.Entries.{entry_time, AreEntries},
+  tz_info.specs.Zones.{HasType, IsValid, TypeAt},
+};
 
 use crate::change::{HeldChange, change_between, change_copied, held};
 use crate::rule::{AlternateTime, TransitionRule};

@@ -1,9 +1,11 @@
 //! The differences of two zones: the stretches of time in which they have different local time
 //! types.
 
-ghost use Rattle.std.specs.Prelude.{◌≡◌, ◌<ℤ◌, MatchResult};
-ghost use Rattle.tz_info.specs.{Differences.{AreDifferences}, Steps.Differences.{IsListedIf, IsPairUntil}};
-ghost use Rattle.tz_info.specs.{Leaps.{IsNear}, Zones.{TypeAt}};
+ghost use Rattle.{
+  std.specs.Prelude.{◌≡◌, ◌<ℤ◌, MatchResult},
+  tz_info.specs.{Differences.{AreDifferences}, Steps.Differences.{IsListedIf, IsPairUntil}, Leaps.{IsNear}},
+  tz_info.specs.Zones.{TypeAt},
+};
 
 use crate::change::is_same_type;
 use crate::zone::ask::runs::end_by;

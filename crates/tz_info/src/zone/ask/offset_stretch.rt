@@ -1,8 +1,10 @@
 //! Stretches of seconds at which one offset is in force.
 
-ghost use Rattle.std.specs.Prelude.{◌≡◌, ◌⊎◌, ◌≤ℤ◌, ◌<ℤ◌, ℤ, pos, IfSome, MatchOption};
-ghost use Rattle.tz_base.specs.LocalTypes.{LocalType};
-ghost use Rattle.tz_info.specs.Zones.{TypeAt, IsTypeRefused};
+ghost use Rattle.{
+  std.specs.Prelude.{◌≡◌, ◌⊎◌, ◌≤ℤ◌, ◌<ℤ◌, ℤ, pos, IfSome, MatchOption},
+  tz_base.specs.LocalTypes.{LocalType},
+  tz_info.specs.Zones.{TypeAt, IsTypeRefused},
+};
 
 use crate::zone::ask::runs::{end_by, start_by};
 use crate::zone::time_zone::TimeZone;

@@ -1,8 +1,10 @@
 //! Runs: of a stretch of time, the seconds of one span of the zone.
 
-ghost use Rattle.std.specs.Prelude.{◌↔◌, ◌<ℤ◌, ◌≤ℤ◌, ℤ, true, false};
-ghost use Rattle.tz_info.specs.{HeldChanges.{span_held}, Leaps.{IsNear}, Zones.{TypeAt}};
-ghost use Rattle.tz_info.specs.{Spans.{IsSince, IsSpanAt, IsUntil}, Steps.Runs.{IsEndOfRun}};
+ghost use Rattle.{
+  std.specs.Prelude.{◌↔◌, ◌<ℤ◌, ◌≤ℤ◌, ℤ, true, false},
+  tz_info.specs.{HeldChanges.{span_held}, Leaps.{IsNear}, Zones.{TypeAt}, Spans.{IsSince, IsSpanAt, IsUntil}},
+  tz_info.specs.Steps.Runs.{IsEndOfRun},
+};
 
 use crate::change::HeldSpan;
 use crate::zone::time_zone::TimeZone;

@@ -1,8 +1,11 @@
 //! The spans of a zone, one after another.
 
-ghost use Rattle.std.specs.Prelude.{◌≡◌, option_map};
-ghost use Rattle.tz_info.specs.{HeldChanges.{span_held}, SpanSteps.{IsSpanIfAny}, Zones.{TypeAt}};
-ghost use Rattle.tz_info.specs.SpanSteps.{begin_of, end_of, spans_most, IsNextSpan, IsPlace, IsPreviousSpan};
+ghost use Rattle.{
+  std.specs.Prelude.{◌≡◌, option_map},
+  tz_info.specs.HeldChanges.{span_held},
+  tz_info.specs.SpanSteps.{IsSpanIfAny, begin_of, end_of, spans_most, IsNextSpan, IsPlace, IsPreviousSpan},
+  tz_info.specs.Zones.{TypeAt},
+};
 
 use crate::change::HeldSpan;
 use crate::zone::time_zone::TimeZone;

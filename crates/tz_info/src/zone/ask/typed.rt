@@ -1,8 +1,10 @@
 //! The seconds at which a zone has a type: all of them from the first one to the last one.
 
-ghost use Rattle.std.specs.Prelude.{◌↔◌, ◌<ℤ◌, ◌≤ℤ◌, ◌+ℤ◌, ◌-ℤ◌, option_map, pos, IsTrue, MatchOption};
-ghost use Rattle.tz_info.specs.{HeldChanges.{change_held}, Steps.Typed.{IsTypedUntil}};
-ghost use Rattle.tz_info.specs.Steps.Typed.{IsBeginBy, IsEndBy, IsLastTyped, IsSearched, IsTyped, IsTypedFrom};
+ghost use Rattle.{
+  std.specs.Prelude.{◌↔◌, ◌<ℤ◌, ◌≤ℤ◌, ◌+ℤ◌, ◌-ℤ◌, option_map, pos, IsTrue, MatchOption},
+  tz_info.specs.HeldChanges.{change_held},
+  tz_info.specs.Steps.Typed.{IsTypedUntil, IsBeginBy, IsEndBy, IsLastTyped, IsSearched, IsTyped, IsTypedFrom},
+};
 
 use crate::change::HeldChange;
 use crate::zone::time_zone::TimeZone;

@@ -1,8 +1,10 @@
 //! The leap seconds of a zone, and which seconds have a leap time.
 
-ghost use Rattle.std.specs.Prelude.{◌≡◌, ◌↔◌, ◌≤ℤ◌, ◌+ℤ◌, ◌-ℤ◌, [], pos, IsFalse, IsTrue, MatchResult, ℤ};
-ghost use Rattle.tz_info.specs.Leaps.{correction_at, AreLeapSeconds, IsLeapTime, IsLeapTimeRefused};
-ghost use Rattle.tz_info.specs.Steps.Starts.{IsLastWithLeapTime};
+ghost use Rattle.{
+  std.specs.Prelude.{◌≡◌, ◌↔◌, ◌≤ℤ◌, ◌+ℤ◌, ◌-ℤ◌, [], pos, IsFalse, IsTrue, MatchResult, ℤ},
+  tz_info.specs.Leaps.{correction_at, AreLeapSeconds, IsLeapTime, IsLeapTimeRefused},
+  tz_info.specs.Steps.Starts.{IsLastWithLeapTime},
+};
 
 use crate::zone::lists::leap_second::LeapSecond;
 use crate::zone::lists::leap_time::{correction_after, passed_at};

@@ -1,9 +1,11 @@
 //! How many leap seconds are passed, and Unix times of leap times.
 
-ghost use Rattle.std.specs.Prelude.{◌≡◌, ◌↔◌, ◌<◌, ◌≤◌, length, pos, take, IsTrue, MatchResult};
-ghost use Rattle.tz_info.specs.Leaps.{correction_before, corrections, expected_of_leap_time, passed_count};
-ghost use Rattle.tz_info.specs.{Leaps.{AreLeapSeconds, IsUnixTime, IsUnixTimeRefused}, Steps.Starts.{AreBefore}};
-ghost use Rattle.tz_info.specs.Lists.{last_else};
+ghost use Rattle.{
+  std.specs.Prelude.{◌≡◌, ◌↔◌, ◌<◌, ◌≤◌, length, pos, take, IsTrue, MatchResult},
+  tz_info.specs.Leaps.{correction_before, corrections, expected_of_leap_time, passed_count, AreLeapSeconds, IsUnixTime},
+  tz_info.specs.Leaps.{IsUnixTimeRefused},
+  tz_info.specs.{Steps.Starts.{AreBefore}, Lists.{last_else}},
+};
 
 use crate::zone::lists::leap_second::LeapSecond;
 use tz_base::{Error, Expected};

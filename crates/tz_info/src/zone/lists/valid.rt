@@ -1,9 +1,10 @@
 //! Whether lists make a zone.
 
-ghost use Rattle.std.specs.Prelude.{◌↔◌, ◌<◌, ◌≤ℤ◌, ◌+ℤ◌, length, map, pos, All, IfSome, IsTrue, MatchResult};
-ghost use Rattle.tz_info.specs.{Leaps.{AreLeapSeconds, IsFirstLeap, IsNextLeap, IsOneStep}, Steps.Validity.{Stands}};
-ghost use Rattle.tz_info.specs.Transitions.{AreTransitions};
-ghost use Rattle.tz_info.specs.Zones.{last_transition, Agrees, IsValid, ListFault, Zone};
+ghost use Rattle.{
+  std.specs.Prelude.{◌↔◌, ◌<◌, ◌≤ℤ◌, ◌+ℤ◌, length, map, pos, All, IfSome, IsTrue, MatchResult},
+  tz_info.specs.{Leaps.{AreLeapSeconds, IsFirstLeap, IsNextLeap, IsOneStep}, Steps.Validity.{Stands}},
+  tz_info.specs.{Transitions.{AreTransitions}, Zones.{last_transition, Agrees, IsValid, ListFault, Zone}},
+};
 
 use crate::change::is_same_type;
 use crate::rule::TransitionRule;

@@ -1,8 +1,10 @@
 //! The least and the greatest offset of a zone.
 
-ghost use Rattle.std.specs.Prelude.{◌<◌, length};
-ghost use Rattle.tz_info.specs.{RuleTypes.{IsRule}, Windows.{offsets}, Zones.{IsRuleOrNone}};
-ghost use Rattle.tz_info.specs.Steps.Extremes.{offsets_of, AreExtremes, AreJoined, AreJoinedByRule};
+ghost use Rattle.{
+  std.specs.Prelude.{◌<◌, length},
+  tz_info.specs.{RuleTypes.{IsRule}, Windows.{offsets}, Zones.{IsRuleOrNone}},
+  tz_info.specs.Steps.Extremes.{offsets_of, AreExtremes, AreJoined, AreJoinedByRule},
+};
 
 use crate::rule::TransitionRule;
 use tz_base::LocalTimeType;

@@ -1,9 +1,12 @@
 //! A zone's index of the wall-clock axis.
 
-ghost use Rattle.std.specs.Prelude.{◌≡◌, ◌<◌, ◌≤◌, ◌-◌, ◌^◌, length, slice_index_or, MatchOption, MatchResult};
-ghost use Rattle.tz_info.specs.{Counts.{HasRoomFor, RoseByPieces, RoseWithin}, Steps.Entries.{most_looks, AreEntries}};
-ghost use Rattle.tz_info.specs.Steps.{Pieces.{zone_in, ArePieces}, WallPieces.{answer_at, top_of, IsCounted, IsIndex}};
-ghost use Rattle.tz_info.specs.{Steps.SegmentEnds.{AreEnds}, Zones.{IsValid}};
+ghost use Rattle.{
+  std.specs.Prelude.{◌≡◌, ◌<◌, ◌≤◌, ◌-◌, ◌^◌, length, slice_index_or, MatchOption, MatchResult},
+  tz_info.specs.Counts.{HasRoomFor, RoseByPieces, RoseWithin},
+  tz_info.specs.Steps.{Entries.{most_looks, AreEntries}, Pieces.{zone_in, ArePieces}},
+  tz_info.specs.Steps.{WallPieces.{answer_at, top_of, IsCounted, IsIndex}, SegmentEnds.{AreEnds}},
+  tz_info.specs.Zones.{IsValid},
+};
 
 use crate::timeline::{Probes, Timed, Timeline};
 use crate::zone::made::change_list::ChangeList;

@@ -1,9 +1,10 @@
 //! The pieces of a zone's table in one pass over its entries, where their cuts come in order.
 
-ghost use Rattle.std.specs.Prelude.{◌≡◌, ◌<◌, ◌≤◌, ◌<ℤ◌, ◌≤ℤ◌, length, ⊤, IsFalse, IsTrue, MatchOption};
-ghost use Rattle.std.specs.Prelude.{MatchResult};
-ghost use Rattle.tz_info.specs.Steps.Pieces.{zone_in, AreCutsCrossed, ArePieces, ArePiecesAt};
-ghost use Rattle.tz_info.specs.Steps.{SegmentEnds.{AreEndsRising}, WallPieces.{IsTable}};
+ghost use Rattle.{
+  std.specs.Prelude.{◌≡◌, ◌<◌, ◌≤◌, ◌<ℤ◌, ◌≤ℤ◌, length, ⊤, IsFalse, IsTrue, MatchOption, MatchResult},
+  tz_info.specs.Steps.{Pieces.{zone_in, AreCutsCrossed, ArePieces, ArePiecesAt}, SegmentEnds.{AreEndsRising}},
+  tz_info.specs.Steps.WallPieces.{IsTable},
+};
 
 use crate::zone::lists::kept::Kept;
 use crate::zone::made::pieces::Piece;

@@ -1,8 +1,10 @@
 //! Pieces of the wall-clock axis: on each of them local times have one answer.
 
-ghost use Rattle.std.specs.Prelude.{◌≡◌, ◌<◌, ◌≤◌, ◌+◌, length, take, IsFalse, IsTrue, MatchResult};
-ghost use Rattle.tz_info.specs.Steps.{Merging.{IsMerged, IsNext, IsStep}, WallPieces.{answer_before, AreInOrder}};
-ghost use Rattle.tz_info.specs.Steps.Shown.{HasGreatNumber};
+ghost use Rattle.{
+  std.specs.Prelude.{◌≡◌, ◌<◌, ◌≤◌, ◌+◌, length, take, IsFalse, IsTrue, MatchResult},
+  tz_info.specs.Steps.{Merging.{IsMerged, IsNext, IsStep}, WallPieces.{answer_before, AreInOrder}},
+  tz_info.specs.Steps.Shown.{HasGreatNumber},
+};
 
 use crate::zone::made::shown::{Packed, Shown, together};
 use std::alloc::{AllocError, Global};

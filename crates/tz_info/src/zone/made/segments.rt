@@ -1,8 +1,10 @@
 //! The segments between entries, and the pieces of the wall-clock axis that they make.
 
-ghost use Rattle.std.specs.Prelude.{◌≡◌, ◌<◌, ◌≤◌, ◌+◌, length, MatchResult};
-ghost use Rattle.tz_info.specs.Steps.{Pieces.{cut_of, zone_in, ArePieces, IsSegment}, WallPieces.{IsTable}};
-ghost use Rattle.tz_info.specs.{Steps.Segments.{index_of}, Transitions.{NameTypes}};
+ghost use Rattle.{
+  std.specs.Prelude.{◌≡◌, ◌<◌, ◌≤◌, ◌+◌, length, MatchResult},
+  tz_info.specs.Steps.{Pieces.{cut_of, zone_in, ArePieces, IsSegment}, WallPieces.{IsTable}, Segments.{index_of}},
+  tz_info.specs.Transitions.{NameTypes},
+};
 
 use crate::rule::TransitionRule;
 use crate::timeline::Timed;
