@@ -4,7 +4,8 @@ use Rattle.std.proofs.Math.Bool.{beq}
 use Rattle.tz_info.proofs.{
   Candidates.{asked_both, asked_found, asked_one, asked_other, one_second, std_or_dst},
   Words.{Alternate as AlternateRule, AlternateAt, Bool, FitsSigned, IsAmidFrom, IsAskedLast, IsSeasonFor, IsWallAnswer, LocalResult, LocalType, Season},
-  Words.{Shows, TypeFrom, arith, false, inl, inr, int_lt, joined, linear, not, refl, shown_if, sym, true, type_when, w64, ℤ, ◌-ℤ◌, ◌<ℤ◌, ◌↔◌, ◌≡◌, ◌≢◌, ◌≤ℤ◌, ◌⊎◌},
+  Words.{Shows, TypeFrom, arith, false, inl, inr, int_lt, joined, linear, not, refl, shown_if, sym, true, type_when, w64, ℤ, ◌-ℤ◌, ◌<ℤ◌, ◌↔◌, ◌≡◌, ◌≢◌},
+  Words.{◌≤ℤ◌, ◌⊎◌},
 }
 use Rattle.tz_info.specs.declared.rule.transition_rule.TransitionRule.TheVariants.{Alternate}
 

@@ -1,9 +1,7 @@
 //! Instants of a second, and those that a choice takes.
-ghost use Rattle.{
-  naive_base.specs.{NaiveDateTime.{reading}, Range.{IsInRange}, Reading.{behind}, Stamp.{of_secs}},
-  std.specs.Prelude.{◌≡◌, ◌<◌, MatchOption, MatchResult},
-  zoned_time.specs.{DateTime.{zoned}, Relocal.{instant_of, HasInstant}, Zoned.{IsAt}},
-};
+ghost use Rattle.std.specs.Prelude.{◌≡◌, ◌<◌, MatchOption, MatchResult};
+ghost use Rattle.naive_base.specs.{NaiveDateTime.{reading}, Range.{IsInRange}, Reading.{behind}, Stamp.{of_secs}};
+ghost use Rattle.zoned_time.specs.{DateTime.{zoned}, Relocal.{instant_of, HasInstant}, Zoned.{IsAt}};
 
 use crate::{DateTime, Offset, TimeZone};
 use naive_base::NaiveDateTime;
