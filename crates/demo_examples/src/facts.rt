@@ -1,8 +1,7 @@
 //! Facts about instants, stated in the words that the library passes on. None has a proof file.
+ghost use Rattle.std.specs.Int.{w64};
+ghost use Rattle.std.specs.Prelude.{IfOk, IfSome, ℤ, ◌≡◌, ◌<ℤ◌, ◌≤ℤ◌, ◌+ℤ◌, ◌++◌, ◌∷◌, option_map, pos, string_bytes, FitsSigned, IfErr};
 ghost use Rattle.{
-  std.specs.Int.{w64},
-  std.specs.Prelude.{IfOk, IfSome, ℤ, ◌≡◌, ◌<ℤ◌, ◌≤ℤ◌, ◌+ℤ◌, ◌++◌, ◌∷◌, option_map, pos, string_bytes, FitsSigned},
-  std.specs.Prelude.{IfErr},
   zoned.specs.{Choice.{IsUnresolved}, InstantFields.{IsOnly}, Laws.{IsMultiple}, LocalTypes.{LocalType}},
   zoned.specs.{DateTime.{wall_of, zoned, IsIn}, NaiveDateTime.{reading}, Reading.{reading_at, total}},
   zoned.specs.{FixedOffset.{printed_offset, seconds_of}, KeptZone.{change_of, law_of, off_of, zone_of}},

@@ -1,7 +1,7 @@
 //! A custom zone, whose clocks are never set.
+ghost use Rattle.std.{proofs.Common.{rules}, specs.Prelude.{◌≡◌, refl}};
 ghost use Rattle.{
   demo_examples.specs.Nepal.{ahead_of_utc, law_of, meaning_of},
-  std.{proofs.Common.{rules}, specs.Prelude.{◌≡◌, refl}},
   zoned.specs.FixedOffset.{seconds_of},
 };
 

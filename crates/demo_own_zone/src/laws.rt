@@ -1,9 +1,9 @@
 //! Theorems: each function is empty, its contract is proved; never called.
+ghost use Rattle.std.specs.Prelude.{◌≡◌, ◌↔◌, pos, IsTrue, ℤ};
 ghost use Rattle.{
   demo_own_zone.specs.Odd.{odd_offset},
   naive_base.specs.{Range.{IsWide}, Year.{floor_mod}},
   offset_core.specs.WallAnswer.{IsNeverShown, IsShownBetween},
-  std.specs.Prelude.{◌≡◌, ◌↔◌, pos, IsTrue, ℤ},
   zoned_time.specs.Zone.{ShowsByOffset},
 };
 

@@ -1,8 +1,8 @@
 //! Dates: a year, a month and a day of the month.
+ghost use Rattle.std.specs.{Int.{IsInRange}, Prelude.{◌≡◌, ◌↔◌, ◌<◌, ◌≤◌, ◌+◌, ◌*◌, ◌/◌, ◌%◌, ◌+ℤ◌, pos, IsTrue, ℕ, ℤ}};
 ghost use Rattle.{
   gregorian.specs.{Date.{day_number, IsDate}, DateOf.{day_of_month, month_of, year_of}},
   gregorian.specs.{Steps.Cycle.{number_from_march}, Year.{days_in_year, year_start, IsDay, LiesIn}},
-  std.specs.{Int.{IsInRange}, Prelude.{◌≡◌, ◌↔◌, ◌<◌, ◌≤◌, ◌+◌, ◌*◌, ◌/◌, ◌%◌, ◌+ℤ◌, pos, IsTrue, ℕ, ℤ}},
 };
 
 use super::years::{days_of_years, place_of, year_from_base, years_since_base};

@@ -1,9 +1,7 @@
 //! Days in their years, and what a year's calendar depends on.
 
-ghost use Rattle.{
-  gregorian.specs.{DateOf.{day_of_year, year_of}, Year.{is_leap, year_start, IsDay}, Weekdays.{weekday_of}},
-  std.specs.Prelude.{◌≡◌, ◌<◌, ◌+◌, ◌*◌, ◌/◌, ◌%◌, ◌&&◌, ◌==◌, ◌||◌, not},
-};
+ghost use Rattle.std.specs.Prelude.{◌≡◌, ◌<◌, ◌+◌, ◌*◌, ◌/◌, ◌%◌, ◌&&◌, ◌==◌, ◌||◌, not};
+ghost use Rattle.gregorian.specs.{DateOf.{day_of_year, year_of}, Year.{is_leap, year_start, IsDay}, Weekdays.{weekday_of}};
 
 use super::years::{days_since_january, place_of};
 

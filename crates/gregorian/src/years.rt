@@ -1,8 +1,8 @@
 //! Years, laid end to end.
+ghost use Rattle.std.specs.{Int.{IsInRange}, Prelude.{◌≡◌, ◌↔◌, ◌<◌, ◌≤◌, ◌+◌, ◌*◌, ◌/◌, ◌%◌, ◌+ℤ◌, pos, IsTrue, ℤ}};
 ghost use Rattle.{
   gregorian.specs.{DateOf.{day_of_year, year_of}, Steps.Cycle.{days_of_years}},
   gregorian.specs.Year.{days_in_year, is_leap, year_start, IsDay, IsYear, LiesIn},
-  std.specs.{Int.{IsInRange}, Prelude.{◌≡◌, ◌↔◌, ◌<◌, ◌≤◌, ◌+◌, ◌*◌, ◌/◌, ◌%◌, ◌+ℤ◌, pos, IsTrue, ℤ}},
 };
 
 /// The first day of the years that an `i32` holds.

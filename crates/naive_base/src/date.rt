@@ -1,8 +1,8 @@
 //! Dates.
+ghost use Rattle.std.specs.Prelude.{◌≡◌, ◌↔◌, ◌+◌, ◌*◌, ◌+ℤ◌, ◌-ℤ◌, ◌*ℤ◌, pos, IfSome, IsTrue};
 ghost use Rattle.{
   gregorian.specs.{Date.{day_number, IsDate}, DateOf.{day_of_month, month_of, year_of}, Year.{floor_div}},
   naive_base.specs.{Clock.{clock_second, IsClock}, Reading.{day_at, reading_at, second_at}},
-  std.specs.Prelude.{◌≡◌, ◌↔◌, ◌+◌, ◌*◌, ◌+ℤ◌, ◌-ℤ◌, ◌*ℤ◌, pos, IfSome, IsTrue},
 };
 ghost use Rattle.naive_base.specs.Range as range;
 

@@ -1,9 +1,9 @@
 //! Values that show a date.
+ghost use Rattle.std.specs.Prelude.{◌≡◌, ◌<◌, ◌≤◌, ◌+◌, Option, ℤ};
 ghost use Rattle.{
   gregorian.specs.{DateOf.{day_of_month, day_of_year, month_of, year_of}, Month.{days_in_month}, Year.{is_leap}},
   naive_base.specs.{Fields.{IsDateGiven, IsOrdinalGiven}, Weekday.{weekday_number, weekday_of}, IsoWeek.{IsWeekOf}},
   naive_base.specs.Range.{IsWideYear},
-  std.specs.Prelude.{◌≡◌, ◌<◌, ◌≤◌, ◌+◌, Option, ℤ},
 };
 
 use crate::{IsoWeek, Weekday};

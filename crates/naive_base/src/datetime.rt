@@ -1,9 +1,9 @@
 //! Local date-times.
+ghost use Rattle.std.specs.Prelude.{◌≡◌, ◌↔◌, ◌<◌, ◌+ℤ◌, ◌-ℤ◌, option_map, pos, IsTrue, SomeIff};
 ghost use Rattle.{
   naive_base.specs.{Range.{IsInRange, IsReading}, Reading.{ahead, behind, day_at, reading_at, second_at}},
   naive_base.specs.Stamp.{of_secs, IsStamp},
   offset_core.specs.FixedOffset.{seconds_of},
-  std.specs.Prelude.{◌≡◌, ◌↔◌, ◌<◌, ◌+ℤ◌, ◌-ℤ◌, option_map, pos, IsTrue, SomeIff},
 };
 
 mod fields;

@@ -1,8 +1,8 @@
 //! Seconds from 1970-01-01 00:00:00, by days.
+ghost use Rattle.std.specs.Prelude.{◌≡◌, ◌<◌};
 ghost use Rattle.{
   gregorian.specs.Year.{floor_div, floor_mod},
   naive_base.specs.Steps.Moves.{IsWithin},
-  std.specs.Prelude.{◌≡◌, ◌<◌},
 };
 
 // Days before every second that is asked about, so that all divisions are of unsigned numbers. A

@@ -1,8 +1,8 @@
 //! Weeks of ISO 8601.
+ghost use Rattle.std.specs.Prelude.{◌≡◌, ◌+◌, ◌≤◌, pos, neg_ℤ, ◌≤ℤ◌};
 ghost use Rattle.{
   gregorian.specs.DateOf.{year_of},
   naive_base.specs.Range.{IsWideDay, IsWideYear},
-  std.specs.Prelude.{◌≡◌, ◌+◌, ◌≤◌, pos, neg_ℤ, ◌≤ℤ◌},
 };
 
 /// A week by the rule of ISO 8601: it runs from Monday to Sunday, and belongs to the year that its

@@ -1,11 +1,11 @@
 //! Theorems: the contract of each function is proved, and none is called. Each is empty, except one
 //! that names constants.
+ghost use Rattle.std.specs.Prelude.{◌≡◌, ◌↔◌, ◌<◌, ◌+ℤ◌, ◌-ℤ◌, ◌*ℤ◌, neg_ℤ, pos, ℕ, ℤ};
 ghost use Rattle.{
   gregorian.specs.{Date.{day_number}, DateOf.{year_of}, Year.{floor_div}},
   naive_base.specs.{IsoWeek.{iso_number, iso_year, IsWeekOf}, NaiveDate.{day_of, printed_date}},
   naive_base.specs.NaiveTime.{fraction_of, printed_time, second_of},
   naive_base.specs.NaiveDateTime.{debug_reading, printed_reading, reading},
-  std.specs.Prelude.{◌≡◌, ◌↔◌, ◌<◌, ◌+ℤ◌, ◌-ℤ◌, ◌*ℤ◌, neg_ℤ, pos, ℕ, ℤ},
 };
 ghost use Rattle.naive_base.specs.Range as range;
 ghost use Rattle.naive_base.specs.Reading as readings;

@@ -1,8 +1,8 @@
 //! The months of a year, by name.
+ghost use Rattle.std.specs.Prelude.{◌≡◌, ◌⊎◌, ◌<◌, ◌≤◌, ◌+◌, ◌%◌, option_map, take, MatchResult, Some, SomeIff};
 ghost use Rattle.{
   gregorian.specs.{Month.{days_in_month}, Year.{is_leap}},
   naive_base.specs.{MonthNames.{month_name, number_of_month}, Range.{IsYearInRange}},
-  std.specs.Prelude.{◌≡◌, ◌⊎◌, ◌<◌, ◌≤◌, ◌+◌, ◌%◌, option_map, take, MatchResult, Some, SomeIff},
 };
 
 use crate::OutOfRange;

@@ -1,9 +1,9 @@
 //! How dates, times and local date-times print.
+ghost use Rattle.std.specs.{Fmt.{decimal}, Prelude.{◌≡◌, ◌<◌, ◌≤◌, ◌+◌, ◌++◌, length, Some}};
 ghost use Rattle.{
   naive_base.specs.{IsoWeek.{printed_week}, NaiveTime.{printed_time}, Range.{IsWideYear}, NaiveDate.{printed_date}},
   naive_base.specs.NaiveDateTime.{debug_reading, printed_reading, reading},
   naive_base.specs.Text.{clock_text, four_digits, fraction_text, reading_text, year_text},
-  std.specs.{Fmt.{decimal}, Prelude.{◌≡◌, ◌<◌, ◌≤◌, ◌+◌, ◌++◌, length, Some}},
 };
 
 use crate::{IsoWeek, NaiveDate, NaiveDateTime, NaiveTime, Timelike};

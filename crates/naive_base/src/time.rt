@@ -1,8 +1,8 @@
 //! Times of day.
+ghost use Rattle.std.specs.Prelude.{◌≡◌, ◌<◌, ◌*◌};
 ghost use Rattle.{
   gregorian.specs.Year.{floor_mod},
   naive_base.specs.{Clock.{clock_second, IsClock}, Range.{IsTime}, Steps.Moves.{IsWithin}},
-  std.specs.Prelude.{◌≡◌, ◌<◌, ◌*◌},
 };
 
 mod fields;

@@ -1,8 +1,8 @@
 //! Values that show a time of day.
+ghost use Rattle.std.specs.Prelude.{◌≡◌, ◌<◌, Option};
 ghost use Rattle.{
   naive_base.specs.Clock.{hour_hand, minute_hand, second_hand},
   naive_base.specs.Fields.{TimeOfDay, IsGiven, with_hour, with_minute, with_second, with_fraction},
-  std.specs.Prelude.{◌≡◌, ◌<◌, Option},
 };
 
 /// A value that shows a time of day.

@@ -1,8 +1,8 @@
 //! Weeks that begin on a chosen day of the week.
+ghost use Rattle.std.specs.{Prelude.{◌≡◌, ◌<ℤ◌, ◌≤ℤ◌, ◌+ℤ◌, pos, MatchOption}, Range.{range_inclusive_end, range_inclusive_start}};
 ghost use Rattle.{
   naive_base.specs.{NaiveDate.{day_of, IsDateOfDay}, Weekday.{weekday_number, weekday_of}, Range.{IsDayInRange}},
   naive_base.specs.Week.{first_of},
-  std.specs.{Prelude.{◌≡◌, ◌<ℤ◌, ◌≤ℤ◌, ◌+ℤ◌, pos, MatchOption}, Range.{range_inclusive_end, range_inclusive_start}},
 };
 
 use crate::{Datelike, NaiveDate, Weekday};

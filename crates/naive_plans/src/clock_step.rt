@@ -1,9 +1,9 @@
 //! Steps of the local clock: days, weeks, months, years and parts of a day.
+ghost use Rattle.std.specs.Prelude.{◌≡◌, ◌<◌, ◌≤◌, ◌+◌, ◌-◌, ◌%◌, ◌≤ℤ◌, ◌+ℤ◌, ◌-ℤ◌, neg_ℤ, pos, MatchOption};
 ghost use Rattle.{
   naive_base.specs.{NaiveDate.{day_of}, NaiveDateTime.{reading}, Range.{IsWide, IsWideDay}},
   naive_plans.specs.{ClockSteps.{seconds_of_step, BeginsOnDay, BeginsStep, IsPart}, PartsOfDay.{IsPartOfDay}},
   naive_plans.specs.Steps.{Members.{IsFirstAfter, IsLastUpTo}, StepPlaces.{IsNear, IsNearDay, IsPlace}},
-  std.specs.Prelude.{◌≡◌, ◌<◌, ◌≤◌, ◌+◌, ◌-◌, ◌%◌, ◌≤ℤ◌, ◌+ℤ◌, ◌-ℤ◌, neg_ℤ, pos, MatchOption},
 };
 
 use crate::day_plan::{at_second, date_after, date_before};

@@ -1,9 +1,9 @@
 //! The local times that match a line of a crontab.
+ghost use Rattle.std.specs.Prelude.{◌↔◌, ◌⊎◌, ◌<◌, ◌≤◌, IsTrue, ℤ};
 ghost use Rattle.{
   naive_base.specs.NaiveDate.{day_of},
   naive_plans.specs.{Cron.{IsCronDay, IsCronMinute, IsCronTime}, DayPlans.{IsPlannedOnItsDay}},
   naive_plans.specs.Steps.CronDates.{ListsNoDateBefore, ListsNoDayUpTo},
-  std.specs.Prelude.{◌↔◌, ◌⊎◌, ◌<◌, ◌≤◌, IsTrue, ℤ},
 };
 
 use crate::{DayPlan, Plan, ReversibleDayPlan, ReversiblePlan, last_local_time, next_local_time};

@@ -1,10 +1,10 @@
 //! Plans that list seconds of the day for each date.
+ghost use Rattle.std.specs.Prelude.{◌≡◌, ◌<◌, ◌≤◌, ◌+ℤ◌, ◌-ℤ◌, pos, IsTrue, MatchOption, ℕ, ℤ};
 ghost use Rattle.{
   naive_base.specs.{NaiveDate.{day_of}, NaiveDateTime.{reading}, Reading.{reading_at}, Range.{IsWideDay}},
   naive_plans.specs.DayPlans.{second_before, HasNoSecondFrom, HasNoSecondUntil, IsFirstSecondFrom, IsLastSecondUntil},
   naive_plans.specs.DayPlans.{IsPlannedOnItsDay},
   naive_plans.specs.Plans.{HasNoneAfter, HasNoneUntil, IsLastUntil, IsNextAfter},
-  std.specs.Prelude.{◌≡◌, ◌<◌, ◌≤◌, ◌+ℤ◌, ◌-ℤ◌, pos, IsTrue, MatchOption, ℕ, ℤ},
 };
 
 use naive_base::{NaiveDate, NaiveDateTime, NaiveTime};

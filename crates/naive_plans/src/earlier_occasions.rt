@@ -1,11 +1,11 @@
 //! The last time of a rule up to a second, in whole seconds.
+ghost use Rattle.std.specs.Prelude.{◌≡◌, ◌<◌, ◌≤◌, ◌*◌, ◌<ℤ◌, ◌≤ℤ◌, ◌+ℤ◌, ◌-ℤ◌, neg_ℤ, pos, MatchOption, ℕ, ℤ};
 ghost use Rattle.{
   gregorian.specs.Year.{floor_div},
   naive_plans.specs.{DayPlans.{HasNoSecondUntil, IsLastSecondUntil}, Plans.{HasNoneUntil, IsLastUntil}},
   naive_plans.specs.RecurrenceRules.{IsOccasion, IsOccasionOn, IsOnDate},
   naive_plans.specs.Steps.OccasionSteps.{IsTimeOn, IsCounted, IsEndOfLast, IsSkippedBack},
   naive_plans.specs.Steps.RuleSteps.{IsRuleDay, IsRuleSecond},
-  std.specs.Prelude.{◌≡◌, ◌<◌, ◌≤◌, ◌*◌, ◌<ℤ◌, ◌≤ℤ◌, ◌+ℤ◌, ◌-ℤ◌, neg_ℤ, pos, MatchOption, ℕ, ℤ},
 };
 
 use crate::occasions::Occasions;

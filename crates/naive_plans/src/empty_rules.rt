@@ -1,8 +1,8 @@
 //! Rules whose parts for hours, minutes and seconds leave them no time.
+ghost use Rattle.std.specs.Prelude.{◌≡◌, ◌↔◌, ◌<◌, ◌≤◌, ◌*◌, ◌%◌, IsTrue, ℕ, ℤ};
 ghost use Rattle.{
   gregorian.specs.Year.{floor_mod},
   naive_plans.specs.{RecurrenceRules.{HasSecond}, Steps.OccasionSteps.{IsTimeOn, HasPeriodOfDay, IsPartOfHours}},
-  std.specs.Prelude.{◌≡◌, ◌↔◌, ◌<◌, ◌≤◌, ◌*◌, ◌%◌, IsTrue, ℕ, ℤ},
 };
 
 use crate::Frequency;

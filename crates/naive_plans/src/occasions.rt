@@ -1,4 +1,5 @@
 //! The times that a rule's parts let through, in whole seconds, and the next of them.
+ghost use Rattle.std.specs.Prelude.{◌≡◌, ◌↔◌, ◌<◌, ◌≤◌, ◌*◌, ◌<ℤ◌, ◌≤ℤ◌, ◌+ℤ◌, ◌*ℤ◌, neg_ℤ, pos, IsTrue, MatchOption, ℕ, ℤ};
 ghost use Rattle.{
   gregorian.specs.Year.{floor_div, floor_mod},
   naive_base.specs.{NaiveDateTime.{reading}, Range.{IsInRange}},
@@ -6,7 +7,6 @@ ghost use Rattle.{
   naive_plans.specs.RecurrenceRules.{HasHour, HasMinute, HasSecond, IsOccasion, IsOccasionOn, IsOnDate},
   naive_plans.specs.Steps.OccasionSteps.{IsStartOfNext, IsTimeOn, HasNoneBetween, IsCounted, IsFirstBetween, IsSkipped},
   naive_plans.specs.Steps.RuleSteps.{least_period, own_period, IsPeriod, IsRuleDay, IsRuleSecond, IsStarted},
-  std.specs.Prelude.{◌≡◌, ◌↔◌, ◌<◌, ◌≤◌, ◌*◌, ◌<ℤ◌, ◌≤ℤ◌, ◌+ℤ◌, ◌*ℤ◌, neg_ℤ, pos, IsTrue, MatchOption, ℕ, ℤ},
 };
 
 use crate::RecurrenceRule;

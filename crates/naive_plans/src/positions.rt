@@ -1,4 +1,5 @@
 //! `BYSETPOS`: places among the times that a rule's other parts let through in one of its periods.
+ghost use Rattle.std.specs.Prelude.{◌≡◌, ◌↔◌, ◌⊎◌, ◌<◌, ◌≤◌, ◌+◌, ◌<ℤ◌, ◌≤ℤ◌, ◌+ℤ◌, ◌-ℤ◌, neg_ℤ, pos, Contains, IsTrue, MatchOption, ℕ, ℤ};
 ghost use Rattle.{
   gregorian.specs.Year.{floor_mod},
   naive_plans.specs.RecurrenceRules.{IsOccasion},
@@ -6,8 +7,6 @@ ghost use Rattle.{
   naive_plans.specs.Steps.Members.{HasNoneLeft, HasNoneUpTo, IsFirstAfter, IsLastUpTo},
   naive_plans.specs.Steps.PositionSteps.{HasSecondAt, IsBeyond, IsChain, IsLength},
   naive_plans.specs.RecurrenceSets.{HasAfter, HasBefore, IsAtPosition, IsInPeriod, IsListedNth, IsNth},
-  std.specs.Prelude.{◌≡◌, ◌↔◌, ◌⊎◌, ◌<◌, ◌≤◌, ◌+◌, ◌<ℤ◌, ◌≤ℤ◌, ◌+ℤ◌, ◌-ℤ◌, neg_ℤ, pos, Contains, IsTrue, MatchOption},
-  std.specs.Prelude.{ℕ, ℤ},
 };
 
 use crate::Frequency;

@@ -1,11 +1,11 @@
 //! Recurrences of RFC 5545.
+ghost use Rattle.std.specs.Prelude.{◌≡◌, ◌≢◌, ◌↔◌, ◌<◌, ◌<ℤ◌, ◌≤ℤ◌, ◌-ℤ◌, neg_ℤ, pos, All, IsTrue, MatchOption, MatchResult, ℤ};
 ghost use Rattle.{
   naive_base.specs.{NaiveDateTime.{reading}, Range.{IsWide}},
   naive_plans.specs.Plans.{HasNoneUntil, IsLastUntil},
   naive_plans.specs.RecurrenceSets.{HasTimesOf, IsPlannedUpTo, IsRuleTime, IsWithinCount, IsWithinEnd},
   naive_plans.specs.Steps.{OccasionSteps.{HasNoneBetween, IsFirstBetween}, RuleSteps.{IsBounded}},
   naive_plans.specs.Steps.RecurrenceSteps.{HasNoneLater, IsFirstLater, IsLastSecond},
-  std.specs.Prelude.{◌≡◌, ◌≢◌, ◌↔◌, ◌<◌, ◌<ℤ◌, ◌≤ℤ◌, ◌-ℤ◌, neg_ℤ, pos, All, IsTrue, MatchOption, MatchResult, ℤ},
 };
 ghost use Rattle.naive_plans.specs.AllowedRules as allowed;
 

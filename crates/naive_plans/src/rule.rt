@@ -1,10 +1,10 @@
 //! Rules of RFC 5545: what their parts say of a date and of a time of day.
 
+ghost use Rattle.std.specs.Prelude.{◌≡◌, ◌↔◌, ◌<◌, ◌≤◌, ◌+◌, ◌-◌, ◌+ℤ◌, ◌-ℤ◌, neg_ℤ, pos, Contains, IsTrue};
 ghost use Rattle.{
   gregorian.specs.{DateOf.{day_of_year, year_of}, Year.{days_in_year, floor_mod, is_leap}, Month.{days_in_month}},
   naive_base.specs.{Range.{IsWideDay}, Weekday.{weekday_number}},
   naive_plans.specs.{AllowedRules.{HasNoPart}, Steps.RuleSteps.{IsNearRuleDay, IsRuleDay}},
-  std.specs.Prelude.{◌≡◌, ◌↔◌, ◌<◌, ◌≤◌, ◌+◌, ◌-◌, ◌+ℤ◌, ◌-ℤ◌, neg_ℤ, pos, Contains, IsTrue},
 };
 ghost use Rattle.naive_plans.specs.RecurrenceRules as rules;
 

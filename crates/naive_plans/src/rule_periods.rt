@@ -1,10 +1,10 @@
 //! The periods of rules, by their numbers.
+ghost use Rattle.std.specs.Prelude.{◌≡◌, ◌<◌, ◌≤◌, ◌+◌, ◌*◌, ◌/◌, ◌<ℤ◌, ◌≤ℤ◌, ◌+ℤ◌, ◌-ℤ◌, ◌*ℤ◌, neg_ℤ, pos, ℤ};
 ghost use Rattle.{
   gregorian.specs.{Date.{day_number}, DateOf.{year_of}, Year.{floor_div, floor_mod, year_start}},
   naive_base.specs.Weekday.{weekday_number},
   naive_plans.specs.RecurrenceRules.{month_number},
   naive_plans.specs.Steps.RuleSteps.{IsRuleSecond, least_period, own_period, IsLastPeriod, IsPeriod, IsRuleDay},
-  std.specs.Prelude.{◌≡◌, ◌<◌, ◌≤◌, ◌+◌, ◌*◌, ◌/◌, ◌<ℤ◌, ◌≤ℤ◌, ◌+ℤ◌, ◌-ℤ◌, ◌*ℤ◌, neg_ℤ, pos, ℤ},
 };
 
 use crate::seconds::{SECONDS_PER_DAY, day_of, seconds_of};

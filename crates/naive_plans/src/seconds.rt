@@ -1,8 +1,8 @@
 //! Seconds of local time: their days, and which of two comes first.
+ghost use Rattle.std.specs.Prelude.{◌≡◌, ◌↔◌, ◌<◌, ◌≤◌, ℤ, pos, neg_ℤ, ◌+ℤ◌, ◌-ℤ◌, ◌*ℤ◌, ◌<ℤ◌, ◌≤ℤ◌, IsTrue, MatchOption};
 ghost use Rattle.{
   gregorian.specs.Year.{floor_div, floor_mod},
   naive_base.specs.Range.{IsWide},
-  std.specs.Prelude.{◌≡◌, ◌↔◌, ◌<◌, ◌≤◌, ℤ, pos, neg_ℤ, ◌+ℤ◌, ◌-ℤ◌, ◌*ℤ◌, ◌<ℤ◌, ◌≤ℤ◌, IsTrue, MatchOption},
 };
 
 pub(crate) const SECONDS_PER_DAY: i64 = 86_400;

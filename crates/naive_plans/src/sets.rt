@@ -1,10 +1,10 @@
 //! Lists of local times, and plans made of others.
+ghost use Rattle.std.specs.Prelude.{◌≡◌, ◌↔◌, ◌-ℤ◌, pos, IsTrue, MatchOption};
 ghost use Rattle.{
   naive_base.specs.{NaiveDateTime.{reading}, Range.{IsWide}},
   naive_plans.specs.Plans.{HasNoneAfter, HasNoneUntil, IsLastUntil, IsNextAfter},
   naive_plans.specs.PlanSets.{HasLocalTime, IsInBoth, IsInEither, IsInFirstOnly},
   naive_plans.specs.Steps.Sets.{IsEarlierOf, IsKept, IsLaterOf, IsSelected},
-  std.specs.Prelude.{◌≡◌, ◌↔◌, ◌-ℤ◌, pos, IsTrue, MatchOption},
 };
 
 use crate::day_plan::{at_second, date_before};

@@ -1,9 +1,9 @@
 //! Theorems: each function is empty, its contract is proved; never called.
+ghost use Rattle.std.specs.Prelude.{◌≡◌, ◌+ℤ◌, ◌*ℤ◌, int_div, int_rem, neg_ℤ, pos, Option, ℕ, ℤ};
 ghost use Rattle.{
   offset_core.specs.{FixedOffset.{printed_offset, IsOffsetOf}, TimeDelta.{nanos_of, IsDeltaOfParts}},
   offset_core.specs.{LocalResult.{earliest_of, latest_of, single_of}, Nanoseconds.{nanos_per_second}},
   offset_core.specs.WallAnswer.{IsNeverShown, IsShownBetween, IsShownOnce, IsWallAnswer},
-  std.specs.Prelude.{◌≡◌, ◌+ℤ◌, ◌*ℤ◌, int_div, int_rem, neg_ℤ, pos, Option, ℕ, ℤ},
 };
 
 use crate::{FixedOffset, LocalResult, TimeDelta};

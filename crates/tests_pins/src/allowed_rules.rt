@@ -1,9 +1,9 @@
 //! Which rules RFC 5545 allows, by its section 3.3.10.
 #![tactic(auto, unfolding(crate::proofs::Computed::calendar))]
 
+ghost use Rattle.std.specs.Prelude.{◌∷◌, [], neg_ℤ, pos, Contains};
 ghost use Rattle.{
   naive_plans.specs.AllowedRules.{HasAllowedNumbers, IsAllowed, IsFault},
-  std.specs.Prelude.{◌∷◌, [], neg_ℤ, pos, Contains},
   tests_pins.specs.Recurrences.{every, local, nth, on_weekdays, plain},
 };
 ghost use Rattle.tests_pins.specs.Recurrences as rfc;

@@ -1,8 +1,8 @@
 //! Lines that `zoneq` reads, and their answers.
 
+ghost use Rattle.std.specs.Prelude.{◌≡◌, ◌∷◌, [], codes, neg_ℤ, pos};
 ghost use Rattle.{
   naive_base.specs.Stamp.{of_secs},
-  std.specs.Prelude.{◌≡◌, ◌∷◌, [], codes, neg_ℤ, pos},
   tests_pins.specs.{Changes.{unnamed}, NewYork.{edt, est, new_york_zone}, Zones.{honolulu, hst10}},
   tz_base.specs.Grammar.{Spells},
   zoneq_lib.specs.Answers.{shown_date_time, shown_refusal, shown_type, shown_wall, shown_zone, AnswersAt, AnswersWall},

@@ -1,12 +1,12 @@
 //! The Gregorian calendar, weekdays and the weeks of ISO 8601.
 #![tactic(auto, using(crate::proofs::ChangeDays::march_2021), unfolding(crate::proofs::Computed::calendar))]
 
+ghost use Rattle.std.specs.Prelude.{◌≡◌, ◌+ℤ◌, codes, false, neg_ℤ, pos, true, ℤ};
 ghost use Rattle.{
   naive_base.specs.{Date.{day_number, IsDate}, DateOf.{day_of_month, day_of_year, month_of, year_of}},
   naive_base.specs.{IsoWeek.{iso_number, iso_year, IsWeekOf}, MonthNames.{month_name, number_of_month}},
   naive_base.specs.{Month.{days_in_month, days_of_months}, Year.{days_in_year, is_leap, year_start}},
   naive_base.specs.{Named.{whole_years, IsDayOfIsoWeek, IsWeekdayOfMonth}, Weekday.{weekday_of}},
-  std.specs.Prelude.{◌≡◌, ◌+ℤ◌, codes, false, neg_ℤ, pos, true, ℤ},
 };
 
 use naive_base::{IsoWeek, Month};

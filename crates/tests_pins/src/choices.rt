@@ -2,10 +2,10 @@
 //! are set back by an hour then: 00:30 is shown never, or twice.
 #![tactic(auto, using(crate::proofs::SetClocks::set_clocks))]
 
+ghost use Rattle.std.specs.Prelude.{◌≡◌, neg_ℤ, pos, ℤ};
 ghost use Rattle.{
   naive_base.specs.Range.{first_reading, first_second, last_second},
   offset_core.specs.ResolveNumbers.{resolve_error_number},
-  std.specs.Prelude.{◌≡◌, neg_ℤ, pos, ℤ},
   tests_pins.specs.Choices.{back, earliest, forward, half_past, latest, refuse, set_back, set_forward, shift},
   zoned_time.specs.{Choice.{IsBeforeGap, IsResolved, IsTaken, IsUnresolved}, Zoned.{Zoned}},
 };

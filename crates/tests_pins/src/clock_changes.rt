@@ -1,7 +1,7 @@
 //! Clock changes: New York's in 2021, and what counts as one.
 
+ghost use Rattle.std.specs.Prelude.{◌∷◌, [], neg_ℤ, pos, ⊤};
 ghost use Rattle.{
-  std.specs.Prelude.{◌∷◌, [], neg_ℤ, pos, ⊤},
   tests_pins.specs.{Changes.{at_epoch, autumn, cet, change_at, dst_cet, renamed, spring}, NewYork.{new_york_zone}},
   tz_base.specs.LocalTypes.{LocalType},
   tz_info.specs.{Changes.{AreChanges, IsChange, IsFirst, IsFromUntil, IsLast}, Zones.{TypeAt}},

@@ -2,9 +2,9 @@
 //! database has them. Each zone is taken as if clocks had been set that once.
 #![tactic(auto, using(crate::proofs::SetDays::set_days))]
 
+ghost use Rattle.std.specs.Prelude.{◌≡◌, ℤ, pos, neg_ℤ};
 ghost use Rattle.{
   naive_base.specs.Stamp.{of_secs},
-  std.specs.Prelude.{◌≡◌, ℤ, pos, neg_ℤ},
   tests_pins.specs.Days.{AreSetAt},
   zoned_time.specs.Days.{AreEndsOfDay, IsNeverOnDay, IsFirstInstantFrom, IsInDay, midnight},
   zoned_time.specs.DayEnds.{HasNoEnd, IsEndOfDay, IsFirstOfWeek, IsLengthOfDay, first_day_of_year, first_of_month},

@@ -1,7 +1,7 @@
 //! Differences of zones of one type each, as of Almaty's clocks before and after 2024-03-01.
 
+ghost use Rattle.std.specs.Prelude.{◌∷◌, [], pos};
 ghost use Rattle.{
-  std.specs.Prelude.{◌∷◌, [], pos},
   tests_pins.specs.{Changes.{cet, dst_cet, renamed}, Differences.{always, five_ahead, hour_of, six_ahead}},
   tz_info.specs.Differences.{AreDifferences, IsDifference},
 };

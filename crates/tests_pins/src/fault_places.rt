@@ -2,8 +2,8 @@
 //! 0, its version at 4, its counts at 20, 24, 28, 32, 36 and 40, and ends at 44, where the first
 //! block begins. A block of one type and four bytes of designations has ten bytes.
 
+ghost use Rattle.std.specs.Prelude.{◌++◌, ◌∷◌, [], take};
 ghost use Rattle.{
-  std.specs.Prelude.{◌++◌, ◌∷◌, [], take},
   tests_pins.specs.FaultyFiles.{count, header_of, of_first_leap, of_indicators, of_record, of_second_leap},
   tests_pins.specs.FaultyFiles.{of_second_record, of_transitions, one_and_two, plain_header, under, utc_record},
   tests_pins.specs.FaultyFiles.{with_footer, with_other_rule, with_second, IsOnlyPlace},

@@ -2,12 +2,12 @@
 //! documentation has them.
 #![tactic(auto, using(crate::proofs::GivenDays::given_days), unfolding(crate::proofs::Computed::calendar))]
 
+ghost use Rattle.std.specs.Prelude.{◌≡◌, neg_ℤ, pos, Option, ℤ};
 ghost use Rattle.{
   naive_base.specs.{Date.{day_number}, Months.{month_number, month_of_number, year_of_number}},
   naive_base.specs.Fields.{with_fraction, with_hour, with_minute, with_second, IsDateGiven, IsDaysLater, IsMonthsLater},
   naive_base.specs.Fields.{IsOrdinalGiven},
   naive_base.specs.Weekday.{days_from_monday, weekday_number, weekday_of},
-  std.specs.Prelude.{◌≡◌, neg_ℤ, pos, Option, ℤ},
   tests_pins.specs.Fields.{clock, given, itself, march_day},
 };
 

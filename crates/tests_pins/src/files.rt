@@ -1,7 +1,7 @@
 //! Parts of TZif files, as Honolulu's file has them (RFC 8536 appendix B.2).
 
+ghost use Rattle.std.specs.Prelude.{◌≡◌, ◌++◌, ◌∷◌, [], false, neg_ℤ, pos, true, Bool, List, ℕ};
 ghost use Rattle.{
-  std.specs.Prelude.{◌≡◌, ◌++◌, ◌∷◌, [], false, neg_ℤ, pos, true, Bool, List, ℕ},
   tests_pins.specs.Files.{long_record, of_types, one_leap_second, one_to_six, short_record, with_leap_second},
   tests_pins.specs.{LeapSeconds.{entry}, Zones.{hst, hst10}},
   tests_pins.specs.Honolulu.{designations, first_time, hst_footer, hst_record, least_time_bytes},

@@ -2,8 +2,8 @@
 //! the last local times that those clocks have shown.
 #![tactic(auto)]
 
+ghost use Rattle.std.specs.Prelude.{◌≡◌, ◌∷◌, [], neg_ℤ, pos, List, ℤ};
 ghost use Rattle.{
-  std.specs.Prelude.{◌≡◌, ◌∷◌, [], neg_ℤ, pos, List, ℤ},
   tests_pins.specs.{Days.{AreSetAt}, Plans.{daily, twice_daily}},
   zoned_time.specs.{Fires.{second_before, AreFires, IsFire, IsLastFire, IsNextFire}, Reached.{IsReachedAt}},
 };

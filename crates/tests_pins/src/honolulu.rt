@@ -1,8 +1,8 @@
 //! The file of Pacific/Honolulu, whole (RFC 8536 appendix B.2): its bytes spell the lists that the
 //! appendix says, these make a zone, and they spell no other.
 
+ghost use Rattle.std.specs.Prelude.{◌≡◌, ◌++◌, ◌∷◌, [], neg_ℤ, pos, List, ℕ};
 ghost use Rattle.{
-  std.specs.Prelude.{◌≡◌, ◌++◌, ◌∷◌, [], neg_ℤ, pos, List, ℕ},
   tests_pins.specs.Honolulu.{counts, designations, file_with, honolulu_block, honolulu_file, honolulu_header},
   tests_pins.specs.Honolulu.{indicators, long_times, parts, pieces, short_file, short_times, type_indexes},
   tests_pins.specs.Honolulu.{type_records},

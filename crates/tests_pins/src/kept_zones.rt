@@ -1,8 +1,8 @@
 //! Clock changes of parsed zones as two instants, and zones that are not kept.
 
+ghost use Rattle.std.specs.Prelude.{◌≡◌, pos};
 ghost use Rattle.{
   naive_base.specs.{Range.{first_second, last_second}, Stamp.{of_secs}},
-  std.specs.Prelude.{◌≡◌, pos},
   tests_pins.specs.{Changes.{spring, wide}, NewYork.{edt, est}, Zones.{utc_zone}},
   zoned_ref.specs.{KeepError.{given_back, IsRefused}, ZoneChange.{change_of_instants, IsAfter, IsUpTo}},
   zoned_ref.specs.{Offsets.{IsNarrow}, OpenError.{reason_of}},

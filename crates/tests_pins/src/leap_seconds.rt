@@ -1,7 +1,7 @@
 //! The 27 leap seconds of UTC from 1972 to 2016: leap times count them, Unix times don't.
 
+ghost use Rattle.std.specs.Prelude.{◌≡◌, [], ◌∷◌, map, pos, neg_ℤ, ◌*ℤ◌};
 ghost use Rattle.{
-  std.specs.Prelude.{◌≡◌, [], ◌∷◌, map, pos, neg_ℤ, ◌*ℤ◌},
   tests_pins.specs.LeapSeconds.{utc_leaps, days_after, entry},
   tz_info.specs.Leaps.{AreLeapSeconds, IsLeapTime, IsNear, IsUnixTime, thresholds},
 };

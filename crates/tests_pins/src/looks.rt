@@ -1,8 +1,8 @@
 //! How many probes a lookup may take.
 #![tactic(auto, unfolding(crate::proofs::Computed::binary))]
 
+ghost use Rattle.std.specs.Prelude.{◌≡◌};
 ghost use Rattle.{
-  std.specs.Prelude.{◌≡◌},
   tests_pins.specs.{Looks.{looks}, Zones.{honolulu, hst10}},
   tz_info.specs.{Digits.{digits}, Looks.{RoseByInstant, RoseByWallClock}},
 };

@@ -3,8 +3,8 @@
 //! all year.
 #![tactic(auto)]
 
+ghost use Rattle.std.specs.Prelude.{◌≡◌, neg_ℤ, pos, ℤ};
 ghost use Rattle.{
-  std.specs.Prelude.{◌≡◌, neg_ℤ, pos, ℤ},
   tests_pins.specs.{Days.{plain_law, AreSetAt, IsAlways}, Plans.{daily}},
   zoned_time.specs.Moves.{seconds_left, moves_between, utc_of_move, FiresInFirstOnly, IsMove, IsNextMove},
   zoned_time.specs.Moves.{NoneMovesBefore, NoneMovesBetween},

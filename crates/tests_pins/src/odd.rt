@@ -1,9 +1,9 @@
 //! The odd zone: its clocks are a second ahead at each odd second.
 
+ghost use Rattle.std.specs.Prelude.{◌≡◌, pos, neg_ℤ};
 ghost use Rattle.{
   demo_own_zone.specs.Odd.{odd_offset},
   offset_core.specs.WallAnswer.{IsNeverShown, IsShownBetween},
-  std.specs.Prelude.{◌≡◌, pos, neg_ℤ},
   zoned_time.specs.Zone.{ShowsByOffset},
 };
 

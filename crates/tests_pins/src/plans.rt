@@ -1,10 +1,10 @@
 //! Plans: their local times after and up to another one, and lines of a crontab.
 #![tactic(auto)]
 
+ghost use Rattle.std.specs.Prelude.{◌≡◌, ◌⊎◌, neg_ℤ, pos, ℕ, ℤ};
 ghost use Rattle.{
   naive_plans.specs.{ClockSteps.{BeginsStep, IsPart}, Plans.{IsLastUntil, IsNextAfter}, Cron.{IsCronDay, IsCronTime}},
   naive_plans.specs.{PartsOfDay.{IsPartOfDay}, DayPlans.{IsFirstSecondFrom, IsLastSecondUntil, IsPlannedOnItsDay}},
-  std.specs.Prelude.{◌≡◌, ◌⊎◌, neg_ℤ, pos, ℕ, ℤ},
   tests_pins.specs.Plans.{daily, IsAlsoOnFridays, IsOnTheFirst},
 };
 

@@ -2,8 +2,8 @@
 //! are set once, as `zdump -v` of the tz database has them.
 #![tactic(auto)]
 
+ghost use Rattle.std.specs.Prelude.{◌≡◌, neg_ℤ, pos, ℤ};
 ghost use Rattle.{
-  std.specs.Prelude.{◌≡◌, neg_ℤ, pos, ℤ},
   tests_pins.specs.{Days.{AreSetAt}, Plans.{daily}},
   zoned_time.specs.{Nearest.{IsNextOf}, Policies.{IsFireBy, IsShownFire}, Stretches.{IsOffsetStretch}},
 };

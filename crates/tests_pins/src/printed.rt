@@ -1,10 +1,10 @@
 //! Printed bytes of offsets, times, dates and local date-times.
 #![tactic(auto, unfolding(crate::proofs::Computed::printing))]
 
+ghost use Rattle.std.specs.{Fmt.{decimal}, Prelude.{◌≡◌, ◌∷◌, codes, neg_ℤ, pos}};
 ghost use Rattle.{
   naive_base.specs.Text.{date_text, reading_text, time_text, year_text},
   offset_core.specs.Offset.{offset_text, IsWithinDay},
-  std.specs.{Fmt.{decimal}, Prelude.{◌≡◌, ◌∷◌, codes, neg_ℤ, pos}},
 };
 
 /// Strictly within a day.

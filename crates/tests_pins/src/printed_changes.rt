@@ -1,10 +1,10 @@
 //! Clock changes as text: the lines of `zdump -v`, a line of a table, and JSON.
 #![tactic(auto, using(crate::proofs::ChangeDays::march_2021), unfolding(crate::proofs::Computed::wording))]
 
+ghost use Rattle.std.specs.Prelude.{◌≡◌, ◌++◌, ◌∷◌, [], codes, false, neg_ℤ, pos, true};
 ghost use Rattle.{
   json.specs.{Print.{print}, Tree.{json_tokens}},
   naive_base.specs.NaiveDate.{day_of},
-  std.specs.Prelude.{◌≡◌, ◌++◌, ◌∷◌, [], codes, false, neg_ℤ, pos, true},
   tests_pins.specs.{Changes.{change_at, spring, unnamed}, Differences.{in_march}, NewYork.{edt, est}},
   zonedump_lib.specs.{ChangeLines.{change_lines}, ChangeValues.{change_value, step_name, type_value}},
   zonedump_lib.specs.DifferenceForms.{difference_lines, differences_value, lone_value, moved_by},

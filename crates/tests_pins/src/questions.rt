@@ -1,8 +1,8 @@
 //! How many questions to a zone's rule are counted.
 #![tactic(auto, using(crate::proofs::AskedRules::asked_rules))]
 
+ghost use Rattle.std.specs.Prelude.{◌≡◌, neg_ℤ, pos, ℕ, ℤ};
 ghost use Rattle.{
-  std.specs.Prelude.{◌≡◌, neg_ℤ, pos, ℕ, ℤ},
   tests_pins.specs.{NewYork.{new_york_zone}, Zones.{honolulu, hst10}},
   tz_info.specs.Questions.{IsAskedAt, IsAskedFor, IsByRule},
 };

@@ -1,8 +1,8 @@
 //! Local date-times in a leap second: moves and differences, as chrono's documentation gives them.
 
+ghost use Rattle.std.specs.Prelude.{◌≡◌, ◌<◌, neg_ℤ, pos};
 ghost use Rattle.{
   naive_base.specs.{Clock.{clock_second, IsFraction}, Reading.{difference, moved, IsEarlier, Reading}},
-  std.specs.Prelude.{◌≡◌, ◌<◌, neg_ℤ, pos},
   tests_pins.specs.Readings.{clock_reading},
 };
 

@@ -1,10 +1,10 @@
 //! Rules of RFC 5545: examples of its section 3.8.5.3 and others.
 #![tactic(auto, unfolding(crate::proofs::Computed::calendar))]
 
+ghost use Rattle.std.specs.Prelude.{◌≡◌, ◌∷◌, [], neg_ℤ, pos};
 ghost use Rattle.{
   naive_base.specs.Date.{day_number},
   naive_plans.specs.RecurrenceRules.{fourth_of_week, IsOccasion, IsOnYearDay},
-  std.specs.Prelude.{◌≡◌, ◌∷◌, [], neg_ℤ, pos},
   tests_pins.specs.Recurrences.{at_nine, nth, on_weekdays, plain},
 };
 ghost use Rattle.tests_pins.specs.Recurrences as rfc;

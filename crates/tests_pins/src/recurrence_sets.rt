@@ -2,10 +2,10 @@
 //! its section 3.8.5.3.
 #![tactic(auto, unfolding(crate::proofs::Computed::calendar))]
 
+ghost use Rattle.std.specs.Prelude.{◌≡◌, pos};
 ghost use Rattle.{
   naive_base.specs.NaiveDateTime.{reading},
   naive_plans.specs.RecurrenceSets.{HasTimesOf, IsAtPosition, IsRecurrenceTime, IsRuleTime},
-  std.specs.Prelude.{◌≡◌, pos},
   tests_pins.specs.Recurrences.{at_nine},
 };
 ghost use Rattle.tests_pins.specs.Recurrences as rfc;

@@ -1,7 +1,7 @@
 //! Multiples and digits, as chrono's documentation of rounding has them.
 
+ghost use Rattle.std.specs.Prelude.{◌≡◌, codes, neg_ℤ, pos, Result, ℤ};
 ghost use Rattle.{
-  std.specs.Prelude.{◌≡◌, codes, neg_ℤ, pos, Result, ℤ},
   tests_pins.specs.{Instants.{IsLater}, Readings.{clock_reading}},
   zoned_round.specs.{Durations.{IsRoundedTo, IsRoundingLength}, Errors.{message, IsRoundingFault}},
   zoned_round.specs.{Multiples.{multiple_above, multiple_below, nearest_multiple}, Subseconds.{cut, rounded}},

@@ -1,9 +1,9 @@
 //! The days of rules, and New York's clocks in 2021 by `EST5EDT,M3.2.0,M11.1.0` (POSIX.1 section
 //! 8.3).
 
+ghost use Rattle.std.specs.Prelude.{◌≡◌, neg_ℤ, pos};
 ghost use Rattle.{
   naive_base.specs.Date.{day_number},
-  std.specs.Prelude.{◌≡◌, neg_ℤ, pos},
   tests_pins.specs.NewYork.{edt, est, new_york, new_york_rule},
   tz_info.specs.{Moments.{end_in, start_in, IsRuleYear, IsYearOf}, RuleTypes.{IsRuleRefused, RuleAt}},
   tz_info.specs.{RuleDayOf.{rule_day}, RuleDays.{IsDayOf, IsRuleDay}, Rules.{IsWithinWeek}},

@@ -1,11 +1,11 @@
 //! Runs of dates: how many are left, as chrono's tests of its iterators have it.
 #![tactic(auto, unfolding(crate::proofs::Computed::calendar))]
 
+ghost use Rattle.std.specs.Prelude.{◌≡◌, neg_ℤ, pos, ◌+ℤ◌, ◌-ℤ◌};
 ghost use Rattle.{
   naive_base.specs.{Date.{day_number}, Range.{first_day, last_day}},
   naive_base.specs.Runs.{days_after_first, days_back_from, days_back_left, days_before_last, days_from, days_left},
   naive_base.specs.Runs.{weeks_back_from, weeks_back_left, weeks_from, weeks_left},
-  std.specs.Prelude.{◌≡◌, neg_ℤ, pos, ◌+ℤ◌, ◌-ℤ◌},
 };
 
 use naive_base::{

@@ -1,7 +1,7 @@
 //! Amounts of daylight saving time: spans of the tz database, with the column SAVE of its rules.
 
+ghost use Rattle.std.specs.Prelude.{◌≡◌, neg_ℤ, pos, ℤ};
 ghost use Rattle.{
-  std.specs.Prelude.{◌≡◌, neg_ℤ, pos, ℤ},
   tests_pins.specs.Savings.{restless, summer},
   tz_saving.specs.{Amounts.{usual, IsAmount, IsOfTwo}, Reach.{HasChanges, IsWithinReach}},
   tz_saving.specs.{Candidates.{IsCandidate, IsOnly}, Sides.{IsBefore}},

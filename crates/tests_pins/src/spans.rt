@@ -1,8 +1,8 @@
 //! Spans: New York's standard time from November 2020 to March 2021, the steps over it in both directions,
 //! and the years of a rule that never changes the clocks.
 
+ghost use Rattle.std.specs.Prelude.{◌≡◌, pos, Option, Some};
 ghost use Rattle.{
-  std.specs.Prelude.{◌≡◌, pos, Option, Some},
   tests_pins.specs.{NewYork.{est, new_york_zone}, Spans.{place_before, rule_years, span_of, steady_zone, winter}},
   tz_info.specs.{Spans.{IsInSpan, IsSpan, IsSpanAt}, Zones.{TypeAt}, SpanSteps.{IsNextSpan, IsPreviousSpan, SpanPlace}},
 };

@@ -2,9 +2,9 @@
 //! them.
 #![tactic(auto)]
 
+ghost use Rattle.std.specs.Prelude.{◌≡◌, neg_ℤ, pos, ℤ};
 ghost use Rattle.{
   naive_plans.specs.ClockSteps.{BeginsStep},
-  std.specs.Prelude.{◌≡◌, neg_ℤ, pos, ℤ},
   tests_pins.specs.Days.{AreSetAt},
   zoned_time.specs.StepBounds.{AreStepBounds},
 };

@@ -1,7 +1,7 @@
 //! TZ strings and the rules that they spell (POSIX.1 section 8.3, RFC 8536 section 3.3.1).
 
+ghost use Rattle.std.specs.Prelude.{◌≡◌, ◌++◌, ◌∷◌, [], codes, false, neg_ℤ, pos, true, Bool, ℕ};
 ghost use Rattle.{
-  std.specs.Prelude.{◌≡◌, ◌++◌, ◌∷◌, [], codes, false, neg_ℤ, pos, true, Bool, ℕ},
   tests_pins.specs.NewYork.{edt, est, new_york_rule, new_york_zone},
   tests_pins.specs.Texts.{day_0, fo_5, foo, foo_23, foo_23_rule, foo_24, foo_5_06_07, foo_5_30, foo_5_60, foo_ahead},
   tests_pins.specs.Texts.{foo_behind, foo_minus_5, foo_plus_5, jerusalem_rule, jerusalem_text, new_york_text, no_days},

@@ -1,9 +1,9 @@
 //! Rules, tables and zones as `zonedump` prints them.
 #![tactic(auto, unfolding(crate::proofs::Computed::wording))]
 
+ghost use Rattle.std.specs.Prelude.{◌≡◌, ◌++◌, ◌∷◌, [], codes, neg_ℤ, pos};
 ghost use Rattle.{
   json.specs.{Print.{print}, Tree.{json_tokens}},
-  std.specs.Prelude.{◌≡◌, ◌++◌, ◌∷◌, [], codes, neg_ℤ, pos},
   tests_pins.specs.{Changes.{autumn, spring}, NewYork.{new_york_rule, new_york_zone}, Texts.{utc_rule}},
   tests_pins.specs.{LeapSeconds.{entry}, Zones.{utc_zone}},
   zonedump_lib.specs.{ChangeLines.{change_lines}, JsonValues.{day_value, leap_value, rule_value, zone_value}},

@@ -1,11 +1,11 @@
 //! What is taken of two values, and lengths of time.
 
+ghost use Rattle.std.specs.Prelude.{◌≡◌, ◌∷◌, [], ◌*ℤ◌, neg_ℤ, pos, ℕ};
 ghost use Rattle.{
   offset_core.specs.LocalResult.{all_or_none, earliest_of, latest_of, single_of},
   offset_core.specs.Nanoseconds.{nanos_per_day, nanos_per_hour, nanos_per_microsecond, nanos_per_millisecond},
   offset_core.specs.Nanoseconds.{nanos_per_minute, nanos_per_second, nanos_per_week, nearest_length, FitsTimeDelta},
   offset_core.specs.TimeDelta.{nanos_of, sum_of, IsCheckedSum},
-  std.specs.Prelude.{◌≡◌, ◌∷◌, [], ◌*ℤ◌, neg_ℤ, pos, ℕ},
 };
 
 use offset_core::{LocalResult, TimeDelta};

@@ -1,9 +1,9 @@
 //! What New York's clocks show in 2021, over all seconds of 64 bits: a gap on 14 March, from 02:00
 //! to 03:00, and a fold on 7 November, from 01:00 to 02:00.
 
+ghost use Rattle.std.specs.Prelude.{◌≡◌, pos};
 ghost use Rattle.{
   offset_core.specs.WallAnswer.{IsWallAnswer},
-  std.specs.Prelude.{◌≡◌, pos},
   tests_pins.specs.NewYork.{edt, est, new_york_zone},
   tz_base.specs.LocalTypes.{LocalType},
   tz_info.specs.{Gaps.{IsTypeBeforeGap}, WallClocks.{Shows}, Zones.{TypeAt}},

@@ -1,8 +1,8 @@
 //! TZ strings and files that are written: the shortest string, and the bytes of a file.
 #![tactic(auto, using(crate::proofs::WrittenPins::written_pins), unfolding(crate::proofs::Computed::written))]
 
+ghost use Rattle.std.specs.Prelude.{◌≡◌, ◌++◌, ◌∷◌, [], codes, false, true, Bool};
 ghost use Rattle.{
-  std.specs.Prelude.{◌≡◌, ◌++◌, ◌∷◌, [], codes, false, true, Bool},
   tests_pins.specs.{Changes.{unnamed}, Honolulu.{designations, hst_footer, long_times, type_indexes, type_records}},
   tests_pins.specs.{NewYork.{new_york_rule, new_york_zone}, WrittenZones.{first_block, second_header}},
   tests_pins.specs.{Texts.{new_york_long, new_york_text, utc_text}, Zones.{honolulu, hst, hst10}},

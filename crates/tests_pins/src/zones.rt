@@ -1,8 +1,8 @@
 //! Zones with transitions: what is in force before the first, at it, and from the last on.
 #![tactic(auto, using(crate::proofs::LeapSeconds::leapless))]
 
+ghost use Rattle.std.specs.Prelude.{◌∷◌, [], neg_ℤ, pos, true};
 ghost use Rattle.{
-  std.specs.Prelude.{◌∷◌, [], neg_ℤ, pos, true},
   tests_pins.specs.Zones.{change, early_hst, honolulu, honolulu_type, hst, hst10, listed, lmt, two_types},
   tz_info.specs.Zones.{IsValid, TypeAt},
 };

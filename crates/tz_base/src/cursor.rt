@@ -1,9 +1,8 @@
 //! A cursor over bytes.
 
+ghost use Rattle.std.specs.{Fn.{FnReturnsAt}, Option.{option_copied}};
+ghost use Rattle.std.specs.Prelude.{EachIndex, IfOk, IsTrue, OnErr, ◌≡◌, ◌↔◌, ◌<◌, ◌≤◌, ◌++◌, [], false, length, slice_get, slice_index, true};
 ghost use Rattle.{
-  std.specs.{Fn.{FnReturnsAt}, Option.{option_copied}},
-  std.specs.Prelude.{EachIndex, IfOk, IsTrue, OnErr, ◌≡◌, ◌↔◌, ◌<◌, ◌≤◌, ◌++◌, [], false, length, slice_get},
-  std.specs.Prelude.{slice_index, true},
   tz_base.specs.Fronts.{exact_at, int_at, number_within, optional_tag_at, tag_at, AllDigits, Gives},
   tz_base.specs.Grammar.{be_u32, read},
 };

@@ -1,10 +1,8 @@
 //! Abbreviations of local time types.
 
-ghost use Rattle.{
-  std.specs.{Bool.{nat_eq}, Cmp.{partial_equiv_from_equiv, Lexicographic.{nat_list_eq_equiv, pointwise}}},
-  std.specs.Prelude.{◌≡◌, ◌↔◌, IsTrue, MatchResult},
-  tz_base.specs.Names.{expected_of_name, is_name_byte, zero_ended, IsName},
-};
+ghost use Rattle.std.specs.{Bool.{nat_eq}, Cmp.{partial_equiv_from_equiv, Lexicographic.{nat_list_eq_equiv, pointwise}}};
+ghost use Rattle.std.specs.Prelude.{◌≡◌, ◌↔◌, IsTrue, MatchResult};
+ghost use Rattle.tz_base.specs.Names.{expected_of_name, is_name_byte, zero_ended, IsName};
 
 use crate::error::{Error, Expected};
 use std::fmt;

@@ -1,8 +1,8 @@
 //! The second at which a wall clock shows a local time, the local time that it shows at a second, and answers of wall clocks, joined.
 
+ghost use Rattle.std.specs.Prelude.{◌≡◌, ◌+ℤ◌, ◌-ℤ◌};
 ghost use Rattle.{
   offset_core.specs.LocalResult.{map_of},
-  std.specs.Prelude.{◌≡◌, ◌+ℤ◌, ◌-ℤ◌},
   tz_base.specs.LocalTypes.{IsUtOffset},
   tz_info.specs.{Leaps.{IsNear}, Moments.{IsRuleTime}, Steps.{Answers.{joined}, Runs.{IsEnd}}},
 };

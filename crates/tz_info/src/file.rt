@@ -1,7 +1,7 @@
 //! Time zone files (TZif, RFC 8536): the zone that the bytes of a file spell.
 
+ghost use Rattle.std.specs.{Prelude.{◌≡◌, ◌⊎◌, IfErr, IfOk, MatchResult}, Result.{IsErrAnd}};
 ghost use Rattle.{
-  std.specs.{Prelude.{◌≡◌, ◌⊎◌, IfErr, IfOk, MatchResult}, Result.{IsErrAnd}},
   tz_base.specs.Errors.{IsOutOfMemory},
   tz_info.specs.{FileHeaders.{HasOtherMagic}, FilePlaces.{IsFilePlace}, PosixZones.{IsPlaced}},
   tz_info.specs.{FilePieces.{FilePieces, HasPieces}, TzFiles.{IsFileFault, IsTzFile, IsZoneFault}},

@@ -10,9 +10,8 @@ pub mod spans;
 pub mod texts;
 pub mod wall_clocks;
 
+ghost use Rattle.std.specs.Prelude.{◌≡◌, ◌↔◌, ◌⊎◌, ◌<◌, ◌+◌, ◌<ℤ◌, ◌≤ℤ◌, ◌+ℤ◌, ◌-ℤ◌, ◌*ℤ◌, length, neg_ℤ, pos, slice_index_or, List, ℕ, ℤ};
 ghost use Rattle.{
-  std.specs.Prelude.{◌≡◌, ◌↔◌, ◌⊎◌, ◌<◌, ◌+◌, ◌<ℤ◌, ◌≤ℤ◌, ◌+ℤ◌, ◌-ℤ◌, ◌*ℤ◌, length, neg_ℤ, pos, slice_index_or, List},
-  std.specs.Prelude.{ℕ, ℤ},
   tz_base.specs.LocalTypes.{LocalType},
   tz_info.specs.Leaps.{AreCounted, AreLeapSeconds, IsLeapTime, IsLeapTimeRefused, IsUnixTime},
   tz_info.specs.{Moments.{end_in, start_in, IsBetween, IsRuleTime, IsRuleYear, IsYearOf}, RuleDayOf.{rule_day}},

@@ -6,8 +6,8 @@
 //! others. A search compares with these two first, and if one of them decides, that counts as a
 //! probe of its item. Hints are not counted.
 
+ghost use Rattle.std.specs.Prelude.{◌≡◌, ◌<◌, ◌≤◌, ◌+◌, ◌-◌, ◌*◌, ◌/◌, [], length, map, option_map, slice_index_or, ⊤, MatchResult};
 ghost use Rattle.{
-  std.specs.Prelude.{◌≡◌, ◌<◌, ◌≤◌, ◌+◌, ◌-◌, ◌*◌, ◌/◌, [], length, map, option_map, slice_index_or, ⊤, MatchResult},
   tz_info.specs.{Counts.{HasRoomFor}, Digits.{digits}},
   tz_info.specs.Steps.Search.{IsNarrowedTo, AreEnds, AreOrdered, ArePassed, AreProbesCounted, IsLastOf, IsLeft},
 };

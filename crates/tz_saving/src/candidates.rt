@@ -1,8 +1,8 @@
 //! Candidates: the amounts that standard time on each side of a second allows.
 
+ghost use Rattle.std.specs.Prelude.{◌≡◌, ◌≢◌, ◌↔◌, pos, true, IsTrue};
 ghost use Rattle.{
   offset_core.specs.Offset.{IsWithinDay},
-  std.specs.Prelude.{◌≡◌, ◌≢◌, ◌↔◌, pos, true, IsTrue},
   tz_info.specs.Zones.{TypeAt},
   tz_saving.specs.{Candidates.{AreCandidates, IsCandidate, IsOnly}, Sides.{IsFound}},
 };

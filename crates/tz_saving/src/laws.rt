@@ -1,7 +1,7 @@
 //! Theorems of amounts: each function is empty, its contract is proved; never called.
 
+ghost use Rattle.std.specs.Prelude.{◌≡◌, ◌↔◌, IsTrue, ℤ};
 ghost use Rattle.{
-  std.specs.Prelude.{◌≡◌, ◌↔◌, IsTrue, ℤ},
   tz_info.specs.Zones.{TypeAt, Zone},
   tz_saving.specs.{Amounts.{IsAmount}, Savings.{IsSavingAt}},
 };

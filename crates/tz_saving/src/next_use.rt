@@ -1,7 +1,7 @@
 //! The next use of a type.
 
+ghost use Rattle.std.specs.Prelude.{◌≡◌, true};
 ghost use Rattle.{
-  std.specs.Prelude.{◌≡◌, true},
   tz_info.specs.Zones.{TypeAt},
   tz_saving.specs.{Amounts.{IsNextCandidate}, Sides.{IsFound}},
 };

@@ -1,7 +1,7 @@
 //! The amount of daylight saving time at an instant.
 
+ghost use Rattle.std.specs.Prelude.{◌≡◌, ◌≢◌, ◌↔◌, true, IsTrue, MatchResult};
 ghost use Rattle.{
-  std.specs.Prelude.{◌≡◌, ◌≢◌, ◌↔◌, true, IsTrue, MatchResult},
   tz_info.specs.Zones.{IsTypeError, TypeAt},
   tz_saving.specs.{Amounts.{usual, IsAmount, IsFlaggedAmount, IsNextCandidate, IsOfTwo}, Savings.{IsSavingAt}},
 };

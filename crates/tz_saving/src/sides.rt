@@ -1,7 +1,7 @@
 //! Standard time on both sides of a second of daylight saving time, and changes to a type.
 
+ghost use Rattle.std.specs.{Int.{w64}, Prelude.{◌≡◌, ◌↔◌, ◌-ℤ◌, pos, true, FitsSigned, IsTrue, option_map}};
 ghost use Rattle.{
-  std.specs.{Int.{w64}, Prelude.{◌≡◌, ◌↔◌, ◌-ℤ◌, pos, true, FitsSigned, IsTrue, option_map}},
   tz_info.specs.{Changes.{IsNearest}, HeldChanges.{change_held}, Zones.{TypeAt}},
   tz_saving.specs.Sides.{IsAfter, IsFound, IsRuleStandard},
   tz_saving.specs.Steps.Walks.{far_second, far_type, is_forward, HasFlag, IsBeyond, IsStandardFound, IsTurnFound},

@@ -1,7 +1,7 @@
 //! Theorems of what is written: the contract of each function is proved; none is called.
 
+ghost use Rattle.std.specs.Prelude.{◌≡◌, ◌↔◌, false, true, Bool, List, ℕ};
 ghost use Rattle.{
-  std.specs.Prelude.{◌≡◌, ◌↔◌, false, true, Bool, List, ℕ},
   tz_info.specs.{PosixZones.{IsPosixZone}, TzGrammar.{IsTzText}, Zones.{IsRuleOrNone, Zone}, RuleTypes.{IsRule}},
   tz_write.specs.WrittenTexts.{AreTimesOf, CanBeSpelled, IsOfText, IsWrittenText, IsWrittenZone},
 };

@@ -1,9 +1,9 @@
 //! The TZ string of a rule.
 
+ghost use Rattle.std.specs.Prelude.{◌≡◌, ◌↔◌, ◌++◌, false, string_bytes, true, Bool, IfOk, IsTrue, List, MatchBool, MatchOption};
+ghost use Rattle.std.specs.Prelude.{MatchResult, OnErr, OnOk, ℕ};
 ghost use Rattle.{
   offset_core.specs.Offset.{IsWithinDay},
-  std.specs.Prelude.{◌≡◌, ◌↔◌, ◌++◌, false, string_bytes, true, Bool, IfOk, IsTrue, List, MatchBool, MatchOption},
-  std.specs.Prelude.{MatchResult, OnErr, OnOk, ℕ},
   tz_base.specs.{Errors.{IsOutOfMemory}, Names.{IsName}},
   tz_info.specs.{Rules.{IsAlternateRule}, RuleTypes.{IsRule}, TzGrammar.{IsTzText}},
   tz_info.specs.declared.rule.transition_rule.TransitionRule.{TransitionRule as Rule},

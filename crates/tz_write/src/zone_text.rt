@@ -1,7 +1,7 @@
 //! The TZ string of a zone.
 
+ghost use Rattle.std.specs.Prelude.{◌≡◌, ◌↔◌, ◌∷◌, [], string_bytes, IfOk, IsTrue, List, MatchOption, MatchResult, OnErr, ℕ};
 ghost use Rattle.{
-  std.specs.Prelude.{◌≡◌, ◌↔◌, ◌∷◌, [], string_bytes, IfOk, IsTrue, List, MatchOption, MatchResult, OnErr, ℕ},
   tz_base.specs.Errors.{IsOutOfMemory},
   tz_info.specs.{PosixZones.{types_of, IsPosixZone}, RuleTypes.{IsRule}, Zones.{zone_of_rule, Zone}},
   tz_write.specs.WrittenTexts.{HasZoneText, IsNoPosixZone, IsOfText, IsWrittenZone},

@@ -1,10 +1,10 @@
 //! Theorems for a client's own contracts: that a question has one answer, that an instant made from
 //! one of a zone is one of that zone, and some in the shape of a client's clauses. Calling one makes
 //! its statement available in the caller's proof, and does nothing when it runs.
+ghost use Rattle.std.specs.Prelude.{◌≡◌, ◌≢◌, ◌⊎◌, ◌<ℤ◌, ◌≤ℤ◌, ◌+ℤ◌, ◌-ℤ◌, ◌∷◌, [], pos, List, MatchOption, Option, ℕ, ℤ};
 ghost use Rattle.{
   naive_base.specs.{NaiveDateTime.{reading}, Range.{last_second, IsInRange}, Reading.{total, Reading}},
   offset_core.specs.{LocalResult.{map_of}, WallAnswer.{IsNeverShown, IsWallAnswer}, TimeDelta.{nanos_of}},
-  std.specs.Prelude.{◌≡◌, ◌≢◌, ◌⊎◌, ◌<ℤ◌, ◌≤ℤ◌, ◌+ℤ◌, ◌-ℤ◌, ◌∷◌, [], pos, List, MatchOption, Option, ℕ, ℤ},
   tz_info.specs.{Changes.{AreChanges, IsFirst}, Zones.{TypeAt, Zone}},
   zoned.specs.Within.{IsFromFirstToLast},
   zoned_ref.specs.ZoneChange.{IsAfter},

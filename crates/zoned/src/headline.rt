@@ -4,10 +4,10 @@
 //! If a function is empty, its contract is the theorem. [`statement`] makes the calls, so that nobody has to
 //! join their contracts by hand.
 
+ghost use Rattle.std.specs.Prelude.{◌≡◌, ◌↔◌, IfSome, IsSome, IsTrue, List, ℕ, ℤ};
 ghost use Rattle.{
   naive_base.specs.{NaiveDateTime.{reading}, Range.{IsWide}},
   offset_core.specs.{LocalResult.{map_of}, Offset.{IsWithinDay}, WallAnswer.{IsWallAnswer}},
-  std.specs.Prelude.{◌≡◌, ◌↔◌, IfSome, IsSome, IsTrue, List, ℕ, ℤ},
   tz_base.specs.LocalTypes.{LocalType},
   tz_info.specs.{Counts.{HasRoom}, Looks.{RoseByWallClock}, Zones.{IsValid, TypeAt, Zone}},
   tz_info.specs.{FilePieces.{FilePieces, HasPieces}, PosixZones.{IsPosixFault, IsPosixZone}},

@@ -3,8 +3,8 @@
 //! what clocks have reached.
 #![tactic(auto, using(crate::proofs::Casts::passed_on))]
 
+ghost use Rattle.std.specs.Prelude.{◌≡◌, ◌≢◌, ◌⊎◌, length, pos};
 ghost use Rattle.{
-  std.specs.Prelude.{◌≡◌, ◌≢◌, ◌⊎◌, length, pos},
   tz_info.specs.Zones.{IsTypeRefused, Zone},
   zoned_ffi.specs.{Columns.{AreAnswered, IsFirstWithout}, Handles.{IsLent, IsNoneLent, IsUnanswered}},
   zoned_ffi.specs.{Fields.{AreFieldsAt, AreNoFieldsAt}, Instants.{AreOffsetsAt, IsWrittenOffsetAt}},

@@ -1,8 +1,8 @@
 //! The changes of a zone's clocks, and the calls by which C asks for them.
 #![tactic(auto, using(crate::proofs::Casts::passed_on))]
 
+ghost use Rattle.std.specs.Prelude.{◌≡◌, ◌≢◌, ◌⊎◌, ◌<ℤ◌, ◌≤ℤ◌, slice_set};
 ghost use Rattle.{
-  std.specs.Prelude.{◌≡◌, ◌≢◌, ◌⊎◌, ◌<ℤ◌, ◌≤ℤ◌, slice_set},
   tz_info.specs.{Changes.{HasNoChange}, OffsetChanges.{KeepsOffset}, Zones.{TypeAt, Zone}},
   zoned_ffi.specs.Handles.{IsLent, IsNoneLent},
   zoned_ffi.specs.WrittenChanges.{written_change, AreFirstWritten, IsFirstOffsetWritten, IsFirstWritten},

@@ -1,7 +1,7 @@
 //! Columns of instants as local times, and of local times as instants, in one pass.
 
+ghost use Rattle.std.specs.Prelude.{◌≡◌, ◌≢◌, length, MatchOption};
 ghost use Rattle.{
-  std.specs.Prelude.{◌≡◌, ◌≢◌, length, MatchOption},
   zoned_ffi.specs.Columns.{AreAnswered, IsFirstWithout, IsRowNumber, IsSoughtNumber},
   zoned_ffi.specs.Steps.KeptTimes.{AreWritten, IsStop},
 };

@@ -1,9 +1,9 @@
 //! Dates and times of day, as C reads and writes them.
 
+ghost use Rattle.std.specs.Prelude.{◌≡◌, ◌≢◌, ◌↔◌, IsTrue, MatchResult};
 ghost use Rattle.{
   gregorian.specs.Year.{floor_div, floor_mod},
   naive_base.specs.Range.{IsInRange},
-  std.specs.Prelude.{◌≡◌, ◌≢◌, ◌↔◌, IsTrue, MatchResult},
   zoned_ffi.specs.Fields.{AreFieldsAt, AreFieldsOf, AreNoFieldsAt, IsDateTime, IsLocalOf, IsNoLocalOf},
 };
 

@@ -1,8 +1,8 @@
 //! A zone that C keeps: a pointer in C's memory, to a zone that several of them may share.
 
+ghost use Rattle.std.specs.{Option.{MatchOption}, Prelude.{◌≡◌}};
+ghost use Rattle.std.specs.declared.{alloc.Global.{Global as Heap}, option.Option.{Option}, sync.Arc.{Arc}};
 ghost use Rattle.{
-  std.specs.{Option.{MatchOption}, Prelude.{◌≡◌}},
-  std.specs.declared.{alloc.Global.{Global as Heap}, option.Option.{Option}, sync.Arc.{Arc}},
   tz_info.specs.Zones.{Zone},
   zoned_ffi.specs.Owned.{held, shared_row},
 };

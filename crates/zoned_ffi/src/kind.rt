@@ -1,8 +1,8 @@
 //! How bytes are read: as a TZif file, or as a TZ string, with extensions or without.
 #![tactic(auto, using(crate::proofs::Reading::rejections))]
 
+ghost use Rattle.std.specs.Prelude.{◌≡◌, IfErr, IfOk, MatchOption, MatchResult};
 ghost use Rattle.{
-  std.specs.Prelude.{◌≡◌, IfErr, IfOk, MatchOption, MatchResult},
   tz_info.specs.Zones.{Zone},
   zoned_ffi.specs.Kinds.{kind_number, IsKind, IsZoneOf, SpellsZone},
   zoned_ffi.specs.Refusals.{refusal_number, IsErrorOfKind, IsFault, IsReaderNumber},

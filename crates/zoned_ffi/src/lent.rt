@@ -1,8 +1,8 @@
 //! A zone that C keeps, as it is asked: the handle is only read, by any number of calls at once.
 
+ghost use Rattle.std.specs.{Option.{MatchOption}, Prelude.{◌≡◌, ℕ}};
+ghost use Rattle.std.specs.declared.{alloc.Global.{Global as Heap}, option.Option.{Option}, sync.Arc.{Arc}};
 ghost use Rattle.{
-  std.specs.{Option.{MatchOption}, Prelude.{◌≡◌, ℕ}},
-  std.specs.declared.{alloc.Global.{Global as Heap}, option.Option.{Option}, sync.Arc.{Arc}},
   tz_info.specs.Zones.{Zone},
   zoned_ffi.specs.Owned.{lent, shared_row},
 };

@@ -1,9 +1,9 @@
 //! Local times, each with the spans of the seconds that show it, or of those around its gap.
 #![tactic(auto, using(crate::proofs::Words::casts))]
 
+ghost use Rattle.std.specs.Prelude.{◌≡◌, ◌<ℤ◌, ◌+ℤ◌, ◌-ℤ◌, pos};
 ghost use Rattle.{
   naive_base.specs.{NaiveDateTime.{reading}, Range.{IsInRange}},
-  std.specs.Prelude.{◌≡◌, ◌<ℤ◌, ◌+ℤ◌, ◌-ℤ◌, pos},
   tz_info.specs.{WallClocks.{Shows}, Zones.{TypeAt}},
   zoned_ffi.specs.{LocalInfos.{IsLocalInfo}, WrittenSpans.{IsWrittenSpanAt}},
 };

@@ -1,7 +1,7 @@
 //! Lookups of local times one after another, which keep a stretch of the last ones.
 
+ghost use Rattle.std.specs.Prelude.{◌≡◌, ◌↔◌, ◌<ℤ◌, ◌≤ℤ◌, IfSome, IsTrue};
 ghost use Rattle.{
-  std.specs.Prelude.{◌≡◌, ◌↔◌, ◌<ℤ◌, ◌≤ℤ◌, IfSome, IsTrue},
   tz_base.specs.LocalTypes.{IsUtOffset},
   tz_info.specs.Zones.{Zone},
   zoned_ffi.specs.{Steps.ShownOnce.{IsHeldOf, IsOnceBy}, Units.{IsOffsetStretch}},

@@ -1,9 +1,9 @@
 //! When wall clocks show local times.
 
+ghost use Rattle.std.specs.Prelude.{◌≡◌, ◌-ℤ◌, length, pos};
 ghost use Rattle.{
   naive_base.specs.Range.{IsInRange},
   offset_core.specs.LocalResult.{map_of},
-  std.specs.Prelude.{◌≡◌, ◌-ℤ◌, length, pos},
   zoned_ffi.specs.{Steps.Told.{told_of}, WallClocks.{written, AreWallClocks, IsWallClockAt}},
 };
 

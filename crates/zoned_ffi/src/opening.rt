@@ -1,7 +1,7 @@
 //! Zones that C keeps: opened, shared and closed.
 
+ghost use Rattle.std.specs.{Arc.{arc_value}, Prelude.{◌≡◌, ◌≢◌, ◌⊎◌, ◌↔◌, IfErr, IfOk, IfSome, IsTrue}};
 ghost use Rattle.{
-  std.specs.{Arc.{arc_value}, Prelude.{◌≡◌, ◌≢◌, ◌⊎◌, ◌↔◌, IfErr, IfOk, IfSome, IsTrue}},
   tz_base.specs.LocalTypes.{IsUtOffset},
   tz_info.specs.Zones.{plain_zone, Zone},
   zoned_ffi.specs.{Handles.{IsClosed, IsLent, IsNoneLent, IsOpen}, Kinds.{IsZoneOf}, Limits.{IsAboveLimits}},

@@ -1,11 +1,11 @@
 //! Facts about only the definitions, each proved with no code between: the numbers that the header
 //! gives to C. The functions are empty, and never called.
 
+ghost use Rattle.std.specs.Prelude.{◌≡◌, ◌⊎◌, ◌-ℤ◌, ◌∷◌, [], codes, false, neg_ℤ, pos, true, List, ℕ, ℤ};
 ghost use Rattle.{
   naive_base.specs.Stamp.{of_secs},
   naive_plans.specs.ClockSteps.{BeginsStep},
   offset_core.specs.WallAnswer.{IsShownBetween, IsShownOnce},
-  std.specs.Prelude.{◌≡◌, ◌⊎◌, ◌-ℤ◌, ◌∷◌, [], codes, false, neg_ℤ, pos, true, List, ℕ, ℤ},
   tz_base.specs.LocalTypes.{LocalType},
   tz_info.specs.{Around.{Skips}, PosixZones.{IsExtendedZone}, WallClocks.{Shows}, FilePieces.{HasCounts}},
   tz_info.specs.{Folds.{HasFold, Repeats, SkipsOrRepeats}, TzFiles.{IsTzFile}},

@@ -1,8 +1,8 @@
 //! The instants that a choice takes for local times.
 
+ghost use Rattle.std.specs.Prelude.{◌≡◌, ◌-ℤ◌, length, MatchResult};
 ghost use Rattle.{
   naive_base.specs.{NaiveDateTime.{reading}, Range.{IsInRange}},
-  std.specs.Prelude.{◌≡◌, ◌-ℤ◌, length, MatchResult},
   zoned_ffi.specs.Resolved.{unresolved, AreReached, AreResolved, IsNoneTaken, IsReachedAt, IsResolvedAt},
   zoned_ffi.specs.Steps.ResolvedInstants.{IsResolvedStamp, IsTakenAs},
 };

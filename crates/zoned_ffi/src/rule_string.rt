@@ -1,7 +1,7 @@
 //! The TZ string of a zone's rule.
 
+ghost use Rattle.std.specs.Prelude.{◌≡◌, ◌≢◌, ◌⊎◌, length, string_bytes, List, MatchResult, ℕ};
 ghost use Rattle.{
-  std.specs.Prelude.{◌≡◌, ◌≢◌, ◌⊎◌, length, string_bytes, List, MatchResult, ℕ},
   tz_base.specs.Errors.{IsOutOfMemory},
   tz_info.specs.Zones.{Zone},
   zoned_ffi.specs.{Handles.{IsLent, IsNoneLent}, RuleStrings.{IsRuleString}, Texts.{written_over}},

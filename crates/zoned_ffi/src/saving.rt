@@ -1,8 +1,8 @@
 //! The standard offset and the amount of daylight saving time, as C reads them.
 #![tactic(auto, using(crate::proofs::Casts::passed_on))]
 
+ghost use Rattle.std.specs.Prelude.{◌≡◌, ◌≢◌, ◌⊎◌};
 ghost use Rattle.{
-  std.specs.Prelude.{◌≡◌, ◌≢◌, ◌⊎◌},
   tz_info.specs.Zones.{IsTypeRefused, Zone},
   zoned_ffi.specs.{Handles.{IsLent, IsNoneLent}, WrittenSavings.{written_saving, IsWrittenSavingAt}},
 };

@@ -1,7 +1,7 @@
 //! Spans of a zone's time, as C reads them.
 
+ghost use Rattle.std.specs.Prelude.{◌≡◌};
 ghost use Rattle.{
-  std.specs.Prelude.{◌≡◌},
   tz_info.specs.HeldChanges.{span_held},
   zoned_ffi.specs.WrittenSpans.{written_span},
 };

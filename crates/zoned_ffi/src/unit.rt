@@ -1,8 +1,8 @@
 //! Units in which instants are counted.
 
+ghost use Rattle.std.specs.Prelude.{◌≡◌, ◌≤ℤ◌, ◌*ℤ◌, neg_ℤ, pos, MatchOption};
 ghost use Rattle.{
   gregorian.specs.Year.{floor_div},
-  std.specs.Prelude.{◌≡◌, ◌≤ℤ◌, ◌*ℤ◌, neg_ℤ, pos, MatchOption},
   zoned_ffi.specs.Units.{per_second, IsUnit},
 };
 

@@ -1,8 +1,8 @@
 //! Whole seconds that are found for instants.
 
+ghost use Rattle.std.specs.Prelude.{◌≡◌, ◌<◌, MatchOption, MatchResult};
 ghost use Rattle.{
   naive_base.specs.Stamp.{of_secs},
-  std.specs.Prelude.{◌≡◌, ◌<◌, MatchOption, MatchResult},
   zoned_ffi.specs.WholeSeconds.{step_number, IsFound, IsFoundBy, IsNoneFoundBy, IsNotFound, IsStep},
   zoned_ref.specs.TimeZoneRef.{off_of},
   zoned_time.specs.{DateTime.{zoned}, Fires.{second_before}},

@@ -1,6 +1,6 @@
 //! When the clocks of a kept zone change, as instants.
+ghost use Rattle.std.specs.Prelude.{◌≡◌, ◌<ℤ◌, ◌≤ℤ◌, option_map, IfSome};
 ghost use Rattle.{
-  std.specs.Prelude.{◌≡◌, ◌<ℤ◌, ◌≤ℤ◌, option_map, IfSome},
   tz_info.specs.{Changes.{IsFirst, IsLast}, Zones.{TypeAt}},
   zoned_ref.specs.{KeptZone.{change_of, off_of, zone_of, IsOfZone}, ZoneChange.{IsAfter, IsUpTo, StandWithin}},
   zoned_time.specs.DateTime.{zoned},

@@ -1,6 +1,6 @@
 //! Zones that stay until the program ends.
+ghost use Rattle.std.specs.Prelude.{◌≡◌, IfErr, IfOk, MatchResult};
 ghost use Rattle.{
-  std.specs.Prelude.{◌≡◌, IfErr, IfOk, MatchResult},
   tz_info.specs.{TzFiles.{IsTzFile}, Zones.{IsValid, Zone}},
   zoned_ref.specs.{KeepError.{IsRefused}, KeptZone.{off_of, zone_of}, Offsets.{AreOffsetsOf, IsNarrow}},
   zoned_ref.specs.OpenError.{IsNotOpened},

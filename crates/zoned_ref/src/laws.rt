@@ -1,6 +1,6 @@
 //! Theorems: a function here does only what its contract says; never called.
+ghost use Rattle.std.specs.Prelude.{◌≡◌, ◌↔◌, IsTrue, Option, ℤ};
 ghost use Rattle.{
-  std.specs.Prelude.{◌≡◌, ◌↔◌, IsTrue, Option, ℤ},
   tz_info.specs.{Changes.{IsFirst, IsLast}, Zones.{TypeAt, Zone}},
   zoned_ref.specs.{TimeZoneRef.{writes_of, zone_of}, ZoneOffset.{ahead_of, type_of}, ZoneChange.{IsAfter, IsUpTo}},
 };

@@ -1,8 +1,8 @@
 //! A borrowed zone's lookups: those of the parsed zone, as offsets.
+ghost use Rattle.std.specs.Prelude.{◌≡◌, refl, MatchOption};
 ghost use Rattle.{
   naive_base.specs.NaiveDateTime.{reading},
   offset_core.specs.{LocalResult.{map_of}, WallAnswer.{IsWallAnswer}},
-  std.specs.Prelude.{◌≡◌, refl, MatchOption},
   tz_info.specs.{Around.{map_both, IsAroundOrBefore}, Gaps.{IsShown, IsTypeBeforeGap}, Zones.{TypeAt}},
   tz_info.specs.WallClocks.{Shows},
   zoned_ref.specs.{Offsets.{AreOffsetsOf}, TimeZoneRef.{off_of, zone_of}, ZoneOffset.{law_of, meaning_of, type_of}},

@@ -1,7 +1,7 @@
 //! Parsed zones, borrowed.
+ghost use Rattle.std.specs.{Ordering.{on}, Prelude.{◌≡◌, ◌↔◌, option_map, slice_get, IfSome, IsSome, IsTrue, ℤ}};
 ghost use Rattle.{
   offset_core.specs.Offset.{IsWithinDay},
-  std.specs.{Ordering.{on}, Prelude.{◌≡◌, ◌↔◌, option_map, slice_get, IfSome, IsSome, IsTrue, ℤ}},
   zoned_ref.specs.{OffsetAt.{offset_at}, Offsets.{AreOffsetsOf, HasOffsets, HasOneOffset, IsNarrow}},
   zoned_time.specs.Zone.{IsFixed, IsZoneSecond},
 };

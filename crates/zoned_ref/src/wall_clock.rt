@@ -1,9 +1,9 @@
 //! When the clocks of a zone show a local time: from the bytes of a file, or a TZ string, to the
 //! instants.
+ghost use Rattle.std.specs.Prelude.{◌≡◌, ◌⊎◌, option_map, IfErr, IfOk, MatchResult, SomeIff};
 ghost use Rattle.{
   naive_base.specs.NaiveDateTime.{reading},
   offset_core.specs.{FixedOffset.{seconds_of}, LocalResult.{map_of}, Offset.{IsWithinDay}},
-  std.specs.Prelude.{◌≡◌, ◌⊎◌, option_map, IfErr, IfOk, MatchResult, SomeIff},
   tz_base.specs.Errors.{error_number},
   tz_info.specs.{Counts.{HasRoom}, FilePieces.{FilePieces, HasPieces}, PosixZones.{IsPosixFault, IsPosixZone}},
   tz_info.specs.{Looks.{RoseByWallClock}, TzFiles.{IsTzFile, IsZoneFault}, Zones.{IsValid, Zone}},

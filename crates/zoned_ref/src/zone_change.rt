@@ -1,7 +1,7 @@
 //! When the clocks of a borrowed zone change, as instants.
+ghost use Rattle.std.specs.Prelude.{◌≡◌, ◌<ℤ◌, ◌≤ℤ◌, ◌-ℤ◌, option_map, pos, IfSome, MatchOption};
 ghost use Rattle.{
   naive_base.specs.{Range.{IsInRange}, Stamp.{of_secs}},
-  std.specs.Prelude.{◌≡◌, ◌<ℤ◌, ◌≤ℤ◌, ◌-ℤ◌, option_map, pos, IfSome, MatchOption},
   tz_info.specs.{Changes.{IsChange, IsFirst, IsLast}, HeldChanges.{change_held}, Zones.{TypeAt}},
   zoned_ref.specs.{Offsets.{AreOffsetsOf}, TimeZoneRef.{off_of, zone_of}, ZoneOffset.{law_of, type_of}},
   zoned_ref.specs.ZoneChange.{change_of, IsAfter, IsOfZone, IsUpTo, StandWithin},

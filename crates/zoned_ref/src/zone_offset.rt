@@ -1,8 +1,6 @@
 //! The offsets of a borrowed zone.
-ghost use Rattle.{
-  offset_core.specs.Offset.{offset_text, IsWithinDay},
-  std.{proofs.Common.{rules}, specs.{Cmp.Rules.{hashing}, Prelude.{◌≡◌, option_map, Some}, Ordering.{on}}},
-};
+ghost use Rattle.std.{proofs.Common.{rules}, specs.{Cmp.Rules.{hashing}, Prelude.{◌≡◌, option_map, Some}, Ordering.{on}}};
+ghost use Rattle.offset_core.specs.Offset.{offset_text, IsWithinDay};
 ghost use Rattle.std.specs.Hash as fed;
 
 use crate::TimeZoneRef;

@@ -1,8 +1,8 @@
 //! Rounding to multiples of a length of time.
+ghost use Rattle.std.specs.{Int.{w64}, Prelude.{◌≡◌, FitsSigned, ℤ}};
 ghost use Rattle.{
   naive_base.specs.{NaiveDateTime.{reading}, Reading.{moved, total, Reading}},
   offset_core.specs.TimeDelta.{nanos_of},
-  std.specs.{Int.{w64}, Prelude.{◌≡◌, FitsSigned, ℤ}},
   zoned_round.specs.Durations.{IsGone, IsReadingMoved, IsRoundedTo},
   zoned_round.specs.{Multiples.{multiple_above, multiple_below, nearest_multiple}, Steps.Stamps.{IsNearRange}},
   zoned_round.specs.declared.error.RoundingError.{RoundingError as Fault},

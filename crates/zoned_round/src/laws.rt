@@ -1,7 +1,7 @@
 //! Theorems: each function is empty, its contract is proved; never called.
+ghost use Rattle.std.specs.{Int.{w64}, Prelude.{◌≡◌, ◌↔◌, ◌⊎◌, ◌<◌, ◌≤◌, ◌≤ℤ◌, FitsSigned, IsTrue, ℕ, ℤ}};
 ghost use Rattle.{
   naive_base.specs.{NaiveDateTime.{reading}, Range.{IsInRange}, Reading.{total, Reading}},
-  std.specs.{Int.{w64}, Prelude.{◌≡◌, ◌↔◌, ◌⊎◌, ◌<◌, ◌≤◌, ◌≤ℤ◌, FitsSigned, IsTrue, ℕ, ℤ}},
   zoned_round.specs.{Durations.{IsRoundedTo}, Subseconds.{MayRound}},
   zoned_round.specs.Laws.{apart, IsGreatestWith, IsLeastWith, IsMultiple, IsShortOf, IsWithinHalf},
   zoned_round.specs.Multiples.{multiple_above, multiple_below, nearest_multiple},

@@ -1,8 +1,8 @@
 //! How far a stamp is from the multiples of a span.
+ghost use Rattle.std.specs.{Int.{w64}, Prelude.{◌≡◌, ◌<ℤ◌, ◌-ℤ◌, pos, unsigned_abs, FitsSigned, SomeIff}};
 ghost use Rattle.{
   naive_base.specs.{NaiveDateTime.{reading}, Reading.{total}},
   offset_core.specs.TimeDelta.{nanos_of},
-  std.specs.{Int.{w64}, Prelude.{◌≡◌, ◌<ℤ◌, ◌-ℤ◌, pos, unsigned_abs, FitsSigned, SomeIff}},
   zoned_round.specs.Multiples.{multiple_above, multiple_below, nearest_multiple},
 };
 

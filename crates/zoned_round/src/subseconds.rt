@@ -1,9 +1,9 @@
 //! Rounding to digits of a second.
+ghost use Rattle.std.specs.Prelude.{◌≡◌, ◌<◌, ◌≤◌, ◌-◌, ◌%◌, ◌≤ℤ◌, ◌-ℤ◌, neg_ℤ, pos, ⊤};
 ghost use Rattle.{
   naive_base.specs.{Fields.{reading_on, time_at}, NaiveDateTime.{reading}, NaiveTime.{time_of}, Range.{IsInRange}},
   naive_base.specs.Reading.{Reading},
   offset_core.specs.TimeDelta.{nanos_of},
-  std.specs.Prelude.{◌≡◌, ◌<◌, ◌≤◌, ◌-◌, ◌%◌, ◌≤ℤ◌, ◌-ℤ◌, neg_ℤ, pos, ⊤},
   zoned_round.specs.{Multiples.{nearest_multiple}, Subseconds.{nanos_per_digit, IsRounded, IsTruncated, MayRound}},
   zoned_time.specs.{DateTime.{home_law_of, zoned}, Zoned.{IsAt}},
 };

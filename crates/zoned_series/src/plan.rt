@@ -1,8 +1,8 @@
 //! A series as a plan: its time on its first day and on each day after it, whatever the zone.
+ghost use Rattle.std.specs.Prelude.{◌≡◌};
 ghost use Rattle.{
   naive_base.specs.{NaiveDate.{day_of}, NaiveDateTime.{reading}, NaiveTime.{second_of}, Reading.{reading_at}},
   naive_plans.specs.DayPlans.{IsPlannedOnItsDay},
-  std.specs.Prelude.{◌≡◌},
   zoned_series.specs.{DailySeries.{series_of}, Series.{IsPlannedOn}},
 };
 

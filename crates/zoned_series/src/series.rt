@@ -1,7 +1,7 @@
 //! Series of instants, one a day.
+ghost use Rattle.std.specs.Prelude.{◌≡◌, ◌+ℤ◌, pos, MatchResult};
 ghost use Rattle.{
   naive_base.specs.{NaiveDate.{day_of, IsDateOfDay}, NaiveTime.{fraction_of, second_of}},
-  std.specs.Prelude.{◌≡◌, ◌+ℤ◌, pos, MatchResult},
   zoned_series.specs.{DailySeries.{items_of, series_of}, Series.{IsItem, IsMissing}},
   zoned_time.specs.DateTime.{zoned},
 };

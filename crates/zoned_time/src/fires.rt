@@ -1,6 +1,6 @@
 //! The instants at which a plan fires, one after another.
+ghost use Rattle.std.specs.{Iterator.{at_most}, Prelude.{◌≡◌}};
 ghost use Rattle.{
-  std.specs.{Iterator.{at_most}, Prelude.{◌≡◌}},
   zoned_time.specs.{Fires.{fires_between, fires_by_between, left_of, seconds_left, GivesFire}, DateTime.{zoned}},
   zoned_time.specs.Policies.{IsFireBy},
 };

@@ -1,7 +1,7 @@
 //! The days of zones of one offset.
+ghost use Rattle.std.specs.Prelude.{◌≡◌, ◌+ℤ◌};
 ghost use Rattle.{
   naive_base.specs.{NaiveDate.{day_of}, NaiveDateTime.{reading}},
-  std.specs.Prelude.{◌≡◌, ◌+ℤ◌},
   zoned_time.specs.{Days.{AreEndsOfDay, IsFirstToReach}, Stretches.{IsOffsetStretch}, Zone.{IsFixed}},
 };
 

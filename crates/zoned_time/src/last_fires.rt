@@ -1,8 +1,8 @@
 //! When plans fired last under a policy for local times in gaps and in folds.
+ghost use Rattle.std.specs.Prelude.{◌≡◌, ◌↔◌, ◌+ℤ◌, ◌-ℤ◌, pos, IsTrue, MatchOption};
 ghost use Rattle.{
   naive_base.specs.Range.{IsInRange},
   offset_core.specs.Offset.{IsWithinDay},
-  std.specs.Prelude.{◌≡◌, ◌↔◌, ◌+ℤ◌, ◌-ℤ◌, pos, IsTrue, MatchOption},
   zoned_time.specs.{DateTime.{zoned}, Fires.{second_before}, Policies.{IsFireBy, IsShownFire}},
   zoned_time.specs.Nearest.{IsZonedLastOf, NoneUntil},
   zoned_time.specs.Steps.Shown.{AreAllQuietUntil, AreQuietUntil, IsEither, IsFirstShown, IsLastPlannedIn},

@@ -4,11 +4,11 @@ pub mod days;
 pub mod fires;
 pub mod steps;
 
+ghost use Rattle.std.specs.{Int.{w64}, Prelude.{◌≡◌, ◌↔◌, ◌⊎◌, ◌++◌, [], FitsSigned, IsTrue, Option, SomeIff, ℕ, ℤ}};
 ghost use Rattle.{
   naive_base.specs.{Fields.{TimeOfDay}, NaiveDateTime.{reading}, Range.{IsInRange}},
   naive_base.specs.{Reading.{of_total, total, IsEarlier, Reading}, Stamp.{of_secs, IsStamp}},
   offset_core.specs.{FixedOffset.{seconds_of}, LocalResult.{map_of}},
-  std.specs.{Int.{w64}, Prelude.{◌≡◌, ◌↔◌, ◌⊎◌, ◌++◌, [], FitsSigned, IsTrue, Option, SomeIff, ℕ, ℤ}},
   zoned_time.specs.Choice.{IsBeforeGap, IsResolved, IsUnresolved},
   zoned_time.specs.{DateTime.{home_law_of, zoned, IsIn, IsOnlyAtTime, IsOnlyOnDay}, Order.{compared}},
   zoned_time.specs.Relocal.{instant_of, HasInstant, IsRelocal, SingleIff},

@@ -1,6 +1,6 @@
 //! The runs of a plan that move if a zone's rules change.
+ghost use Rattle.std.specs.{Iterator.{at_most}, Prelude.{◌≡◌, ◌↔◌, ◌<ℤ◌, ◌≤ℤ◌, IsTrue, MatchOption}};
 ghost use Rattle.{
-  std.specs.{Iterator.{at_most}, Prelude.{◌≡◌, ◌↔◌, ◌<ℤ◌, ◌≤ℤ◌, IsTrue, MatchOption}},
   zoned_time.specs.{DateTime.{zoned}, Stamps.{in_utc}, Fires.{IsZonedNextFire, NoneFiresBetween}},
   zoned_time.specs.Moves.{NoneMovesBetween, moves_between, moves_of, seconds_left, utc_of_move, GivesMove, IsNextMove},
 };

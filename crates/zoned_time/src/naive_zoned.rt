@@ -1,8 +1,8 @@
 //! Local date-times brought into a zone.
+ghost use Rattle.std.specs.Prelude.{◌≡◌};
 ghost use Rattle.{
   naive_base.specs.{NaiveDateTime.{reading}, Range.{IsInRange}, Reading.{Reading}},
   offset_core.specs.LocalResult.{map_of},
-  std.specs.Prelude.{◌≡◌},
   zoned_time.specs.{DateTime.{zoned}, Relocal.{IsRelocal}, Stamps.{in_utc}},
 };
 

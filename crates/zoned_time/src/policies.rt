@@ -1,8 +1,8 @@
 //! When plans fire under a policy for local times in gaps and in folds.
+ghost use Rattle.std.specs.Prelude.{◌≡◌, ◌↔◌, ◌≤ℤ◌, ◌+ℤ◌, ◌-ℤ◌, pos, IsTrue, MatchOption};
 ghost use Rattle.{
   naive_base.specs.Range.{IsInRange},
   offset_core.specs.Offset.{IsWithinDay},
-  std.specs.Prelude.{◌≡◌, ◌↔◌, ◌≤ℤ◌, ◌+ℤ◌, ◌-ℤ◌, pos, IsTrue, MatchOption},
   zoned_time.specs.{DateTime.{zoned}, Nearest.{IsZonedNextOf, NoneAfter, NoneBetween}},
   zoned_time.specs.Policies.{IsFireBy, IsShownFire},
   zoned_time.specs.Steps.Shown.{AreAllQuiet, AreQuiet, IsEither, IsFirstPlannedIn, IsFirstShown, NonePlannedIn},

@@ -1,10 +1,10 @@
 //! Zones.
+ghost use Rattle.std.specs.Prelude.{◌≡◌, pos, IsSome, MatchResult, ℤ};
 ghost use Rattle.{
   naive_base.specs.{Clock.{clock_second, IsClock}, Range.{IsInRange, IsInnerYear, IsYearInRange}},
   naive_base.specs.{Date.{day_number, IsDate}, Reading.{behind, of_total, reading_at}, NaiveDateTime.{reading}},
   naive_base.specs.Stamp.{of_secs, IsStamp},
   offset_core.specs.{LocalResult.{map_of, single_of}, Offset.{IsWithinDay}},
-  std.specs.Prelude.{◌≡◌, pos, IsSome, MatchResult, ℤ},
   zoned_time.specs.{Choice.{AreOffsetsAround, IsOffsetBeforeGap, IsResolved, IsUnresolved}, Relocal.{IsRelocal}},
   zoned_time.specs.{Stamps.{of_micros, of_millis, IsAtWhere}, Zoned.{shown, IsAt}},
 };

@@ -1,10 +1,10 @@
 //! The days of a zone, and when plans fire in it.
+ghost use Rattle.std.specs.Prelude.{◌≡◌, ◌↔◌, ◌≤ℤ◌, ◌+ℤ◌, ◌-ℤ◌, pos, IfSome, IsTrue, MatchOption, ℤ};
 ghost use Rattle.{
   naive_base.specs.{NaiveDate.{day_of}, Stamp.{of_secs}, Year.{floor_div}, NaiveDateTime.{reading}},
   naive_base.specs.{Range.{IsInRange, IsWideDay}, Weekday.{weekday_number}},
   naive_plans.specs.ClockSteps.{BeginsStep},
   offset_core.specs.{Offset.{IsWithinDay}, TimeDelta.{nanos_of}},
-  std.specs.Prelude.{◌≡◌, ◌↔◌, ◌≤ℤ◌, ◌+ℤ◌, ◌-ℤ◌, pos, IfSome, IsTrue, MatchOption, ℤ},
   zoned_time.specs.{DateTime.{zoned}, Fires.{IsFire}, Policies.{IsFireBy}},
   zoned_time.specs.{Nearest.{IsZonedLastOf, IsZonedNextOf, NoneAfter, NoneUntil}, Reached.{IsReachedAt}},
   zoned_time.specs.{Stretches.{IsOffsetStretch}, Zoned.{IsAt}},

@@ -1,9 +1,9 @@
 //! Changes of the clocks as JSON.
 #![tactic(auto, using(crate::proofs::JsonPutting::wrote, crate::proofs::JsonPutting::puts_then))]
 
+ghost use Rattle.std.specs.{Fmt.{signed_decimal}, Prelude.{◌≡◌, ◌-ℤ◌, ◌∷◌, [], codes, decimal, flat_map, unsigned_abs}};
 ghost use Rattle.{
   json.specs.{Token.{key, number, string}, Tree.{json_tokens}},
-  std.specs.{Fmt.{signed_decimal}, Prelude.{◌≡◌, ◌-ℤ◌, ◌∷◌, [], codes, decimal, flat_map, unsigned_abs}},
   zonedump_lib.specs.{ChangeValues.{change_value, list_value, name_value, step_name, type_value}, Clocks.{clock_words}},
   zonedump_lib.specs.JsonSteps.{Puts},
 };

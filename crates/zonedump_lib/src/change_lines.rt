@@ -1,8 +1,8 @@
 //! The line of a change.
 
+ghost use Rattle.std.specs.{Fmt.{signed_decimal}, Prelude.{◌≡◌, ◌-ℤ◌, ◌++◌, ◌∷◌, [], codes, string_bytes, OnOk, Some}};
 ghost use Rattle.{
   naive_base.specs.{NaiveDateTime.{reading}, Reading.{ahead}, Stamp.{of_secs}},
-  std.specs.{Fmt.{signed_decimal}, Prelude.{◌≡◌, ◌-ℤ◌, ◌++◌, ◌∷◌, [], codes, string_bytes, OnOk, Some}},
   zonedump_lib.specs.{ChangeLines.{change_text}, Spans.{IsNearYears}, Steps.Sides.{side_of, sides_of}},
   zonedump_lib.specs.Words.{step_words},
 };

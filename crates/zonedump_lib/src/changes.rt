@@ -1,7 +1,7 @@
 //! The changes of a zone's clocks in a period.
 
+ghost use Rattle.std.specs.Prelude.{◌≡◌, ◌+ℤ◌, pos, IfOk};
 ghost use Rattle.{
-  std.specs.Prelude.{◌≡◌, ◌+ℤ◌, pos, IfOk},
   tz_info.specs.{Changes.{AreChanges}, Zones.{TypeAt}},
   zonedump_lib.specs.{Periods.{first_second, second_after}, Spans.{IsInYears}},
 };

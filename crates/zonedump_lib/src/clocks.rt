@@ -1,8 +1,8 @@
 //! What clocks show at the second of a change.
 
+ghost use Rattle.std.specs.Prelude.{◌≡◌, false, true, MatchOption, Some};
 ghost use Rattle.{
   naive_base.specs.{NaiveDateTime.{printed_reading}, Stamp.{of_secs}, Text.{reading_text}},
-  std.specs.Prelude.{◌≡◌, false, true, MatchOption, Some},
   zonedump_lib.specs.Clocks.{clock_words, is_shown},
 };
 

@@ -1,9 +1,9 @@
 //! The differences of two zones as JSON.
 #![tactic(auto, using(crate::proofs::JsonPutting::wrote, crate::proofs::JsonPutting::puts_then))]
 
+ghost use Rattle.std.specs.{Fmt.{signed_decimal}, Prelude.{◌∷◌, [], codes, flat_map, IfOk}};
 ghost use Rattle.{
   json.specs.{Token.{key, number, string}, Tree.{json_tokens}},
-  std.specs.{Fmt.{signed_decimal}, Prelude.{◌∷◌, [], codes, flat_map, IfOk}},
   zonedump_lib.specs.ChangeValues.{list_value},
   zonedump_lib.specs.DifferenceForms.{IsDifferencesJson, IsLoneJson, difference_value, differences_value, lone_value},
   zonedump_lib.specs.{Clocks.{clock_words}, JsonSteps.{Puts}},

@@ -1,11 +1,11 @@
 //! A zone and the changes of its clocks as JSON.
 #![tactic(auto, using(crate::proofs::JsonPutting::wrote, crate::proofs::JsonPutting::puts_then))]
 
+ghost use Rattle.std.specs.{Fmt.{signed_decimal}, Prelude.{◌≡◌, ◌∷◌, [], codes, decimal, flat_map, length, IfOk}};
 ghost use Rattle.{
   json.specs.{Json.{document}, Print.{print}, Token.{begin_object, end_object, key, number, string}},
   json.specs.Tree.{json_tokens},
   naive_base.specs.NaiveDate.{printed_date},
-  std.specs.{Fmt.{signed_decimal}, Prelude.{◌≡◌, ◌∷◌, [], codes, decimal, flat_map, length, IfOk}},
   zonedump_lib.specs.{ChangeValues.{list_value}, JsonSteps.{Puts}, Periods.{bound_value}},
   zonedump_lib.specs.JsonValues.{day_value, leap_value, moment_value, rule_value, zone_value, IsJson},
 };

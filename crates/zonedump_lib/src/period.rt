@@ -1,8 +1,8 @@
 //! The periods in which changes are listed.
 
+ghost use Rattle.std.specs.Prelude.{◌≡◌, MatchOption, Some};
 ghost use Rattle.{
   naive_base.specs.NaiveDate.{day_of},
-  std.specs.Prelude.{◌≡◌, MatchOption, Some},
   zonedump_lib.specs.{Periods.{IsPeriod, bound_words, first_second, second_after}, Spans.{IsInYears, year_second}},
 };
 

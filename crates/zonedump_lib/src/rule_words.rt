@@ -1,8 +1,8 @@
 //! Rules in words.
 
+ghost use Rattle.std.specs.Prelude.{◌≡◌, ◌&&◌, false, int_le, int_lt, option_map, pos, true, unsigned_abs, MatchOption, Some};
 ghost use Rattle.{
   naive_base.specs.{NaiveTime.{printed_time}, Text.{time_text}},
-  std.specs.Prelude.{◌≡◌, ◌&&◌, false, int_le, int_lt, option_map, pos, true, unsigned_abs, MatchOption, Some},
   zonedump_lib.specs.RuleWords.{day_words, moment_words, month_words, rule_words, turn_words, turns_words, week_words},
   zonedump_lib.specs.RuleWords.{weekday_words},
 };

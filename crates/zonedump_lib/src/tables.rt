@@ -1,8 +1,8 @@
 //! A zone as a table, whose lines are written as they are made.
 
+ghost use Rattle.std.specs.Fmt.{signed_decimal};
+ghost use Rattle.std.specs.Prelude.{◌≡◌, ◌-◌, ◌++◌, ◌∷◌, [], codes, length, string_bytes, All, IfOk, OnOk, Some};
 ghost use Rattle.{
-  std.specs.Fmt.{signed_decimal},
-  std.specs.Prelude.{◌≡◌, ◌-◌, ◌++◌, ◌∷◌, [], codes, length, string_bytes, All, IfOk, OnOk, Some},
   tz_info.specs.{Changes.{AreChanges}, ChangesLeft.{changes_left}, Zones.{TypeAt}},
   zonedump_lib.specs.{ChangeLines.{change_lines}, Periods.{first_second, second_after}, Spans.{IsNearYears}},
   zonedump_lib.specs.Tables.{counts_text, head_text, leap_lines, leap_text, period_text, BeginsTable},

@@ -1,8 +1,8 @@
 //! The lines that `zdump -v` prints of a zone.
 
+ghost use Rattle.std.specs.{List.{flat_map}, Prelude.{◌≡◌, ◌-ℤ◌, ◌++◌, [], codes, pos, string_bytes, All, IfOk, OnOk, Some}};
 ghost use Rattle.{
   naive_base.specs.{NaiveDateTime.{reading}, Reading.{day_at}},
-  std.specs.{List.{flat_map}, Prelude.{◌≡◌, ◌-ℤ◌, ◌++◌, [], codes, pos, string_bytes, All, IfOk, OnOk, Some}},
   zonedump_lib.specs.{ChangeLines.{ended_line}, Steps.Seconds.{clocks_of}, Zdump.{IsZdump}},
   zonedump_lib.specs.Spans.{IsInYears, IsNearYears},
   zonedump_lib.specs.ZdumpLines.{zdump_day_text, zdump_text, asctime_text, first_lines, last_lines, null_line},

@@ -1,8 +1,8 @@
 //! The answer to a line.
 
+ghost use Rattle.std.specs.Prelude.{◌≡◌, ◌++◌, ◌∷◌, [], codes, string_bytes, IfSome, List, MatchResult, OnOk, Some, ℕ};
 ghost use Rattle.{
   naive_base.specs.{NaiveDateTime.{reading}, Text.{reading_text}},
-  std.specs.Prelude.{◌≡◌, ◌++◌, ◌∷◌, [], codes, string_bytes, IfSome, List, MatchResult, OnOk, Some, ℕ},
   tz_base.specs.Errors.{error_number},
   zoned_time.specs.{DateTime.{zoned}, Zoned.{local_of}},
   zoneq_lib.specs.Answers.{shown_refusal, shown_type, shown_wall, shown_zone, AnswersAt, AnswersData, AnswersFile},

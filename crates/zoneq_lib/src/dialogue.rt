@@ -1,7 +1,7 @@
 //! What a run keeps, and what it does with a block of its input.
 
+ghost use Rattle.std.specs.Prelude.{◌≡◌, ◌<◌, ◌++◌, [], false, length, IfErr, OnErr, OnOk};
 ghost use Rattle.{
-  std.specs.Prelude.{◌≡◌, ◌<◌, ◌++◌, [], false, length, IfErr, OnErr, OnOk},
   zoneq_lib.specs.Lines.{without_return, HasNoNewline},
   zoneq_lib.specs.Steps.{LastLine.{AnswersAtEnd, StopsAtEnd}, Blocks.{AnswersIn, StopsIn}, Hopeless.{IsKeptFor}},
   zoneq_lib.specs.Steps.Replies.{Replies, StopsAt},

@@ -1,7 +1,7 @@
 //! Numbers in decimal digits, with any leading zeros.
 
+ghost use Rattle.std.specs.{Option.{SomeIff}, Prelude.{◌≡◌, ◌<◌, ◌≤◌, ◌+◌, ◌-◌, ◌*◌, ◌^◌, ◌≤ℤ◌, neg_ℤ, pos, true, IfOk}};
 ghost use Rattle.{
-  std.specs.{Option.{SomeIff}, Prelude.{◌≡◌, ◌<◌, ◌≤◌, ◌+◌, ◌-◌, ◌*◌, ◌^◌, ◌≤ℤ◌, neg_ℤ, pos, true, IfOk}},
   tz_base.specs.{Fronts.{is_digit}, Grammar.{Number}},
   zoneq_lib.specs.{Questions.{integer, next, unix_seconds}, Steps.LineReading.{scan, ReadsAs}},
 };

@@ -1,10 +1,8 @@
 //! Lines in, answers out.
 
-ghost use Rattle.{
-  std.specs.Prelude.{◌≡◌, ◌<◌, ℕ, List, [], true, false, length, OnOk, MatchResult},
-  std.specs.Io.KnownBytes.{Appends, Consumes, IsAtEnd},
-  zoneq_lib.specs.Runs.{Answers, StopsWith},
-};
+ghost use Rattle.std.specs.Prelude.{◌≡◌, ◌<◌, ℕ, List, [], true, false, length, OnOk, MatchResult};
+ghost use Rattle.std.specs.Io.KnownBytes.{Appends, Consumes, IsAtEnd};
+ghost use Rattle.zoneq_lib.specs.Runs.{Answers, StopsWith};
 
 use crate::dialogue::Dialogue;
 use crate::run_error::RunError;

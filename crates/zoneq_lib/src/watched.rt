@@ -1,10 +1,8 @@
 //! An end of a run that knows what became of it.
 
-ghost use Rattle.{
-  std.specs.Io.{ReadsAtMost, WritesAtMost, KnownBytes.{Keeps, ReadConsumes, WriteAppends}},
-  std.specs.Prelude.{◌≡◌, ◌+◌, ◌-◌, ◌^◌, ◌&&◌, ◌||◌, false, length, min},
-  zoneq_lib.specs.Ends.{gave_nothing, gave_something, has_failed},
-};
+ghost use Rattle.std.specs.Io.{ReadsAtMost, WritesAtMost, KnownBytes.{Keeps, ReadConsumes, WriteAppends}};
+ghost use Rattle.std.specs.Prelude.{◌≡◌, ◌+◌, ◌-◌, ◌^◌, ◌&&◌, ◌||◌, false, length, min};
+ghost use Rattle.zoneq_lib.specs.Ends.{gave_nothing, gave_something, has_failed};
 
 use std::io;
 use std::io::{Read, Write};

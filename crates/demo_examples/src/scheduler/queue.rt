@@ -1,7 +1,7 @@
 //! Jobs in the order in which they run.
+ghost use Rattle.std.specs.Prelude.{◌≡◌, ◌⊎◌, ◌≤◌, ◌<ℤ◌, ◌≤ℤ◌, [], length, slice_get, IfNone, IfSome, MatchOption, MatchResult};
 ghost use Rattle.{
   demo_examples.specs.Queues.{jobs_of, IsAdded, IsFirstAt, IsFirstRun, IsNoneDue, IsTaken, NoneRuns},
-  std.specs.Prelude.{◌≡◌, ◌⊎◌, ◌≤◌, ◌<ℤ◌, ◌≤ℤ◌, [], length, slice_get, IfNone, IfSome, MatchOption, MatchResult},
   zoned.specs.DateTime.{zoned},
 };
 

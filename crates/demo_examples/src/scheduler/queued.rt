@@ -1,7 +1,7 @@
 //! Jobs that wait for their next runs.
+ghost use Rattle.std.specs.Prelude.{◌≡◌, IfSome};
 ghost use Rattle.{
   demo_examples.specs.Fires.{IsNextRun},
-  std.specs.Prelude.{◌≡◌, IfSome},
   zoned.specs.DateTime.{zoned},
 };
 

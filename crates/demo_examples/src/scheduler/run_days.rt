@@ -1,7 +1,7 @@
 //! The days on which a job runs.
+ghost use Rattle.std.specs.Prelude.{◌↔◌, IsTrue, ℤ};
 ghost use Rattle.{
   demo_examples.specs.Fires.{RunsOn},
-  std.specs.Prelude.{◌↔◌, IsTrue, ℤ},
   zoned.specs.NaiveDate.{day_of},
 };
 

@@ -1,7 +1,7 @@
 //! When a job runs.
+ghost use Rattle.std.specs.Prelude.{◌≡◌, ◌⊎◌, ◌≤◌, ⊤, MatchOption};
 ghost use Rattle.{
   demo_examples.specs.Fires.{planned_by, IsPlannedOn},
-  std.specs.Prelude.{◌≡◌, ◌⊎◌, ◌≤◌, ⊤, MatchOption},
   zoned.specs.{DateTime.{zoned}, Fires.{IsZonedNextFire, NoneFiresAfter}},
 };
 

@@ -1,10 +1,10 @@
 //! The days around a date, and runs of days and weeks.
+ghost use Rattle.std.specs.{Iterator.{at_most}, Prelude.{◌≡◌, ◌<ℤ◌, ◌≤ℤ◌, ◌+ℤ◌, ◌-ℤ◌, ◌*ℤ◌, pos, unsigned_abs, MatchOption, SomeIff}};
 ghost use Rattle.{
   gregorian.specs.{DateOf.{year_of}, Year.{is_leap}},
   naive_base.specs.{Months.{days_of}, Runs.{days_from, days_left, weeks_from, weeks_left}},
   naive_base.specs.{NaiveDate.{day_of, IsDateOfDay}, Named.{is_earlier_in_year, whole_years}, Range.{last_day}},
   offset_core.specs.{Nanoseconds.{nanos_per_day}, TimeDelta.{nanos_of}},
-  std.specs.{Iterator.{at_most}, Prelude.{◌≡◌, ◌<ℤ◌, ◌≤ℤ◌, ◌+ℤ◌, ◌-ℤ◌, ◌*ℤ◌, pos, unsigned_abs, MatchOption, SomeIff}},
 };
 
 use crate::{Datelike, Days, NaiveDate};

@@ -1,9 +1,9 @@
 //! A date's fields, and dates with a field changed.
+ghost use Rattle.std.specs.Prelude.{◌≡◌, ◌↔◌, ◌≤◌, ◌-◌, ◌+ℤ◌, option_map, pos, IsTrue, SomeIff};
 ghost use Rattle.{
   gregorian.specs.{Date.{day_number}, Year.{days_in_year, year_start}},
   naive_base.specs.{Fields.{MayShow, MayShowOrdinal}, NaiveDate.{day_of, IsDateOn}},
   naive_base.specs.Range.{IsDayInRange, IsInnerDay, IsInnerYear, IsYearInRange},
-  std.specs.Prelude.{◌≡◌, ◌↔◌, ◌≤◌, ◌-◌, ◌+ℤ◌, option_map, pos, IsTrue, SomeIff},
 };
 
 use crate::range::{FIRST_YEAR, LAST_YEAR};

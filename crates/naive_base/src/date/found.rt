@@ -1,11 +1,10 @@
 //! Dates found by other names: a day of a year, of an ISO week or of a month's weekdays.
+ghost use Rattle.std.specs.Prelude.{◌≡◌, ◌<◌, ◌≤◌, ◌+◌, ◌-◌, ◌*◌, ◌%◌, ◌+ℤ◌, ◌-ℤ◌, option_map, pos, IfSome, IsSome, MatchOption, SomeIff, ℤ};
 ghost use Rattle.{
   gregorian.specs.Year.{days_in_year, year_start},
   naive_base.specs.{NaiveDate.{day_of}, Range.{IsDayInRange, IsInnerDay, IsInnerYear, IsYearInRange}},
   naive_base.specs.{Named.{IsDayOfIsoWeek, IsThursdayOfWeek, IsWeekdayOfMonth}, Steps.Moves.{IsWithin}},
   naive_base.specs.Weekday.{days_from_monday, weekday_number, weekday_of},
-  std.specs.Prelude.{◌≡◌, ◌<◌, ◌≤◌, ◌+◌, ◌-◌, ◌*◌, ◌%◌, ◌+ℤ◌, ◌-ℤ◌, option_map, pos, IfSome, IsSome, MatchOption},
-  std.specs.Prelude.{SomeIff, ℤ},
 };
 
 use crate::range::{FIRST_YEAR, LAST_YEAR};

@@ -1,10 +1,10 @@
 //! Dates moved by months and by days.
+ghost use Rattle.std.specs.Prelude.{◌≡◌, ◌≤◌, int_div, neg_ℤ, option_map, pos, SomeIff};
 ghost use Rattle.{
   naive_base.specs.Fields.{month_after, IsDaysLater, IsMonthsLater, MayShowDay},
   naive_base.specs.Months.{days_of, month_number, month_of_number, months_of, year_of_number},
   naive_base.specs.{NaiveDate.{day_of, IsDateOn}, Range.{IsWideYear}, Steps.Moves.{IsInMonth, IsWithin}},
   offset_core.specs.{Nanoseconds.{nanos_per_day}, TimeDelta.{nanos_of}},
-  std.specs.Prelude.{◌≡◌, ◌≤◌, int_div, neg_ℤ, option_map, pos, SomeIff},
 };
 
 use crate::range::{FIRST_DAY_IN_RANGE, LAST_DAY_IN_RANGE};

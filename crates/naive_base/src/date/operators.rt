@@ -1,10 +1,10 @@
 //! The operators of dates. Each requires a result in range; the checked forms return `None` for any
 //! other.
+ghost use Rattle.std.specs.Prelude.{◌≡◌, ◌+ℤ◌, ◌-ℤ◌, ◌*ℤ◌, int_div, neg_ℤ, pos, Some};
 ghost use Rattle.{
   naive_base.specs.{Fields.{month_after, IsMonthsLater, MayShowDay}, NaiveDate.{day_of, IsDateOn}},
   naive_base.specs.{Months.{days_of, months_of, year_of_number}, Range.{IsYearInRange}},
   offset_core.specs.{Nanoseconds.{nanos_per_day}, TimeDelta.{nanos_of}},
-  std.specs.Prelude.{◌≡◌, ◌+ℤ◌, ◌-ℤ◌, ◌*ℤ◌, int_div, neg_ℤ, pos, Some},
 };
 
 use crate::{Days, Months, NaiveDate};

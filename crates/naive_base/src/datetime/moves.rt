@@ -1,9 +1,9 @@
 //! Local date-times moved by a length of time, and the time between two.
+ghost use Rattle.std.specs.Prelude.{◌≡◌, ◌<◌, ◌<ℤ◌, ◌≤ℤ◌, ◌+ℤ◌, ◌-ℤ◌, ◌*ℤ◌, int_div, int_rem, neg_ℤ, pos};
 ghost use Rattle.{
   naive_base.specs.{NaiveDateTime.{reading, IsReadingOf}, Steps.Moves.{IsShort, IsSmall, IsWithin}},
   naive_base.specs.Reading.{difference, leap_between, moved, moved_leap, of_total, total},
   offset_core.specs.{Nanoseconds.{nanos_per_second}, TimeDelta.{nanos_of}},
-  std.specs.Prelude.{◌≡◌, ◌<◌, ◌<ℤ◌, ◌≤ℤ◌, ◌+ℤ◌, ◌-ℤ◌, ◌*ℤ◌, int_div, int_rem, neg_ℤ, pos},
 };
 
 use crate::NaiveDateTime;

@@ -1,11 +1,11 @@
 //! The operators of local date-times. Each requires a result in range; the checked forms return `None` for
 //! any other.
+ghost use Rattle.std.specs.Prelude.{◌≡◌, ◌+ℤ◌, neg_ℤ, pos, Some};
 ghost use Rattle.{
   naive_base.specs.{Fields.{month_after, IsMonthsLater, MayShowDay}, Range.{IsInRange, IsYearInRange}},
   naive_base.specs.{Months.{days_of, months_of, year_of_number}, NaiveDateTime.{day_shown_by, reading, IsReadingOnDay}},
   naive_base.specs.Reading.{ahead, behind, day_at, difference, moved, reading_at, second_at},
   offset_core.specs.{FixedOffset.{seconds_of}, TimeDelta.{nanos_of}},
-  std.specs.Prelude.{◌≡◌, ◌+ℤ◌, neg_ℤ, pos, Some},
 };
 
 use crate::{Days, Months, NaiveDateTime};

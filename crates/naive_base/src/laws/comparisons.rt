@@ -1,10 +1,10 @@
 //! Theorems: each function is empty, its contract is proved; never called.
+ghost use Rattle.std.specs.{Ordering.{int_cmp, nat_cmp, ordering_then, MatchOrdering}, Prelude.{◌≡◌, ◌↔◌, ◌-◌, ◌++◌, pos, IsTrue}};
 ghost use Rattle.{
   naive_base.specs.{IsoWeek.{iso_number, iso_year}, Reading.{IsEarlier, IsEarlierTime}, Week.{first_of}},
   naive_base.specs.{MonthNames.{number_of_month}, NaiveDateTime.{reading}},
   naive_base.specs.{Runs.{days_back_from, days_from, weeks_back_from, weeks_from}, Months.{days_of, months_of}},
   naive_base.specs.{NaiveDate.{day_of}, NaiveTime.{fraction_of, second_of}, Weekday.{days_from_monday, weekday_number}},
-  std.specs.{Ordering.{int_cmp, nat_cmp, ordering_then, MatchOrdering}, Prelude.{◌≡◌, ◌↔◌, ◌-◌, ◌++◌, pos, IsTrue}},
 };
 ghost use Rattle.std.specs.Hash as fed;
 

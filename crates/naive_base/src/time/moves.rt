@@ -1,10 +1,10 @@
 //! Times moved by a length of time, past midnight too, and the time between two.
+ghost use Rattle.std.specs.Prelude.{◌≡◌, ◌<◌, ◌*ℤ◌, neg_ℤ, pos};
 ghost use Rattle.{
   naive_base.specs.{Fields.{time_at}, Reading.{ahead, behind, day_at, difference, moved, reading_at}},
   naive_base.specs.{NaiveDateTime.{reading}, NaiveTime.{fraction_of, second_of, time_of}, Stamp.{of_secs}},
   naive_base.specs.Steps.Moves.{IsWithin},
   offset_core.specs.{FixedOffset.{seconds_of}, TimeDelta.{nanos_of}},
-  std.specs.Prelude.{◌≡◌, ◌<◌, ◌*ℤ◌, neg_ℤ, pos},
 };
 
 use crate::{NaiveDate, NaiveDateTime, NaiveTime};

@@ -1,10 +1,10 @@
 //! Theorems: the contract of each function is proved, and none is called. Each is empty, except one
 //! that names a constant.
+ghost use Rattle.std.specs.{Int.{int_div_euclid, int_rem_euclid}, Ordering.{int_cmp}};
+ghost use Rattle.std.specs.Prelude.{◌≡◌, ◌↔◌, ◌++◌, neg_ℤ, pos, unsigned_abs, IsTrue};
 ghost use Rattle.{
   offset_core.specs.{FixedOffset.{seconds_of}, TimeDelta.{nanos_of}, LocalResult.{fed_of, AreAlike, HoldsOfEach}},
   offset_core.specs.Nanoseconds.{nanos_per_second},
-  std.specs.{Int.{int_div_euclid, int_rem_euclid}, Ordering.{int_cmp}},
-  std.specs.Prelude.{◌≡◌, ◌↔◌, ◌++◌, neg_ℤ, pos, unsigned_abs, IsTrue},
 };
 ghost use Rattle.std.specs.Hash as fed;
 ghost use Rattle.offset_core.specs.Around as around;

@@ -1,9 +1,6 @@
 //! Lengths of time added, multiplied and divided.
-ghost use Rattle.{
-  offset_core.specs.{Nanoseconds.{nearest_length}, TimeDelta.{nanos_of, IsDeltaOf}},
-  std.specs.Prelude.{◌≡◌, ◌≢◌, ◌↔◌, ◌<ℤ◌, ◌≤ℤ◌, ◌+ℤ◌, ◌-ℤ◌, ◌*ℤ◌, int_div, neg_ℤ, option_map, pos, unsigned_abs},
-  std.specs.Prelude.{IsTrue, SomeIff},
-};
+ghost use Rattle.std.specs.Prelude.{◌≡◌, ◌≢◌, ◌↔◌, ◌<ℤ◌, ◌≤ℤ◌, ◌+ℤ◌, ◌-ℤ◌, ◌*ℤ◌, int_div, neg_ℤ, option_map, pos, unsigned_abs, IsTrue, SomeIff};
+ghost use Rattle.offset_core.specs.{Nanoseconds.{nearest_length}, TimeDelta.{nanos_of, IsDeltaOf}};
 
 use crate::TimeDelta;
 

@@ -1,8 +1,8 @@
 //! How lengths of time print.
+ghost use Rattle.std.specs.{Fmt.{decimal}, Prelude.{◌≡◌, ◌<◌, ◌≤◌, ◌+◌, ◌++◌, length, Some}};
 ghost use Rattle.{
   offset_core.specs.{Digits.{in_digits}, Nanoseconds.{FitsTimeDelta}},
   offset_core.specs.LengthText.{length_text, part_text, printed_length, seconds_text, without_zeros},
-  std.specs.{Fmt.{decimal}, Prelude.{◌≡◌, ◌<◌, ◌≤◌, ◌+◌, ◌++◌, length, Some}},
 };
 
 use crate::{ShortText, TimeDelta};

@@ -1,8 +1,6 @@
 //! Sums of lengths of time.
-ghost use Rattle.{
-  offset_core.specs.{Nanoseconds.{FitsTimeDelta}, TimeDelta.{nanos_of, sum_behind, sum_of, IsCheckedSum}},
-  std.specs.{Iterator.{Drains, HoldsAlong, IsFinite}, Prelude.{◌≡◌, ◌++◌, ◌∷◌, [], List}},
-};
+ghost use Rattle.std.specs.{Iterator.{Drains, HoldsAlong, IsFinite}, Prelude.{◌≡◌, ◌++◌, ◌∷◌, [], List}};
+ghost use Rattle.offset_core.specs.{Nanoseconds.{FitsTimeDelta}, TimeDelta.{nanos_of, sum_behind, sum_of, IsCheckedSum}};
 
 use crate::TimeDelta;
 use std::iter::Sum;

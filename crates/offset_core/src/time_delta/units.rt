@@ -1,9 +1,7 @@
 //! A length of time in each of its units.
-ghost use Rattle.{
-  offset_core.specs.TimeDelta.{nanos_of},
-  std.specs.{Duration.{as_nanos}, Int.{w64}},
-  std.specs.Prelude.{◌≡◌, ◌<ℤ◌, int_div, int_rem, pos, FitsSigned, MatchResult, SomeIff},
-};
+ghost use Rattle.std.specs.{Duration.{as_nanos}, Int.{w64}};
+ghost use Rattle.std.specs.Prelude.{◌≡◌, ◌<ℤ◌, int_div, int_rem, pos, FitsSigned, MatchResult, SomeIff};
+ghost use Rattle.offset_core.specs.TimeDelta.{nanos_of};
 ghost use Rattle.offset_core.specs.Nanoseconds as lengths;
 
 use super::{

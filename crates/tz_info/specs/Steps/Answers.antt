@@ -1,8 +1,6 @@
 -- Answers of wall clocks, joined.
-use Rattle.{
-  offset_core.specs.declared.local_result.LocalResult.{LocalResult, TheVariants.{None, Single, Ambiguous}},
-  std.specs.Prelude.{Bool, if◌then◌else◌},
-}
+use Rattle.std.specs.Prelude.{Bool, if◌then◌else◌}
+use Rattle.offset_core.specs.declared.local_result.LocalResult.{LocalResult, TheVariants.{None, Single, Ambiguous}}
 
 -- of two answers, the first of which is that of earlier seconds, the answer of all the seconds
 abbrev pub joined : {T : Type 0} → LocalResult T → LocalResult T → LocalResult T

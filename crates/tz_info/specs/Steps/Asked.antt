@@ -1,8 +1,6 @@
 -- Questions to the rule, counted.
-use Rattle.{
-  std.specs.Prelude.{ℕ, ℤ, ◌≡◌, ◌+◌, ◌⊎◌, Some, None},
-  tz_info.specs.{Zones.{Zone, IsBeforeLast, IsFromLast}, declared.rule.transition_rule.TransitionRule.{TransitionRule}},
-}
+use Rattle.std.specs.Prelude.{ℕ, ℤ, ◌≡◌, ◌+◌, ◌⊎◌, Some, None}
+use Rattle.tz_info.specs.{Zones.{Zone, IsBeforeLast, IsFromLast}, declared.rule.transition_rule.TransitionRule.{TransitionRule}}
 
 -- one more question if the rule gives the type at the leap time x, else none
 abbrev pub IsAskedAtLeapTime : Zone → ℤ → ℕ → ℕ → Type 0

@@ -1,6 +1,6 @@
 -- What a rule says of a second: the type in force, and the seconds on both sides at which clocks change.
+use Rattle.std.specs.Prelude.{◌≡◌, Bool, true, false, ℤ, Option, option_map}
 use Rattle.{
-  std.specs.Prelude.{◌≡◌, Bool, true, false, ℤ, Option, option_map},
   tz_base.specs.{LocalTypes.{LocalType}, declared.change.Change.{Change}},
   tz_info.specs.{Changes.{IsNearest}, Moments.{AlternateAt, type_when}, Rules.{Alternate}},
   tz_info.specs.{Steps.{Changes.{IsAhead, IsChangeAt}, Gaps.{moment_change}}, declared.rule.{beside.Beside.{Beside}, moments.Moment.{Moment}}},

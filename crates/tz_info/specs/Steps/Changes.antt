@@ -1,9 +1,9 @@
 -- The way to the next and to the previous change.
+use Rattle.std.specs.Prelude.{ℕ, ◌<◌, length, neg_ℤ, List, [], ◌∷◌, slice_index_or, ℤ, pos, ◌+ℤ◌, ◌-ℤ◌, ◌*ℤ◌, ◌≤ℤ◌, ◌<ℤ◌, ◌↔◌, ◌≡◌, ◌-◌, MatchOption, Option}
+use Rattle.std.specs.Prelude.{Some, None, Bool, true, false, FitsSigned, if◌then◌else◌, int_lt}
+use Rattle.std.specs.Int.{w64}
 use Rattle.{
   naive_base.specs.Year.{year_start},
-  std.specs.Prelude.{ℕ, ◌<◌, length, neg_ℤ, List, [], ◌∷◌, slice_index_or, ℤ, pos, ◌+ℤ◌, ◌-ℤ◌, ◌*ℤ◌, ◌≤ℤ◌, ◌<ℤ◌, ◌↔◌, ◌≡◌, ◌-◌, MatchOption, Option},
-  std.specs.Prelude.{Some, None, Bool, true, false, FitsSigned, if◌then◌else◌, int_lt},
-  std.specs.Int.{w64},
   tz_base.specs.{LocalTypes.{LocalType}, declared.change.Change.{Change}},
   tz_info.specs.{Changes.{HasNoChange, IsChange}, Leaps.{IsLeapTime}, Moments.{IsRuleTime, IsYearOf, start_in, end_in}, Rules.{Alternate}},
   tz_info.specs.{Steps.Segments.{segment_of}, Zones.{Zone, IsFromLast}},

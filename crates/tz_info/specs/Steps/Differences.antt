@@ -1,6 +1,6 @@
 -- The way to the differences of two zones.
+use Rattle.std.specs.Prelude.{ℤ, pos, ◌≡◌, ◌≢◌, ◌⊎◌, ◌-ℤ◌, ◌≤ℤ◌, ◌<ℤ◌, List, [], ◌∷◌, ◌++◌, AllPairs, Contains}
 use Rattle.{
-  std.specs.Prelude.{ℤ, pos, ◌≡◌, ◌≢◌, ◌⊎◌, ◌-ℤ◌, ◌≤ℤ◌, ◌<ℤ◌, List, [], ◌∷◌, ◌++◌, AllPairs, Contains},
   tz_base.specs.LocalTypes.{LocalType},
   tz_info.specs.{Differences.{IsDifference, IsInDifference}, declared.zone.ask.differences.Difference.{Difference}},
 }

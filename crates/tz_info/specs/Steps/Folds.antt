@@ -1,7 +1,7 @@
 -- The way back from the last second that shows a local time to the change that set clocks back.
+use Rattle.std.specs.Prelude.{ℤ, ◌≡◌, ◌+ℤ◌, ◌≤ℤ◌, ◌<ℤ◌}
 use Rattle.{
   offset_core.specs.WallAnswer.{IsShownBetween},
-  std.specs.Prelude.{ℤ, ◌≡◌, ◌+ℤ◌, ◌≤ℤ◌, ◌<ℤ◌},
   tz_base.specs.LocalTypes.{LocalType},
   tz_info.specs.{WallClocks.{Shows}, Zones.{Zone, TypeAt}},
 }

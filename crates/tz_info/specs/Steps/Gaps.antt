@@ -1,6 +1,6 @@
 -- The way to the first second at which clocks show more than a local time that they never show.
+use Rattle.std.specs.Prelude.{◌≡◌, not, ℤ, pos, ◌+ℤ◌, ◌-ℤ◌, ◌≤ℤ◌, ◌<ℤ◌}
 use Rattle.{
-  std.specs.Prelude.{◌≡◌, not, ℤ, pos, ◌+ℤ◌, ◌-ℤ◌, ◌≤ℤ◌, ◌<ℤ◌},
   tz_base.specs.{LocalTypes.{LocalType}, declared.change.Change.{Change}},
   tz_info.specs.{Leaps.{IsNear}, Moments.{AlternateAt, type_when}, Rules.{Alternate}, Steps.Runs.{IsWindowOf}, Zones.{Zone, TypeAt}},
   tz_info.specs.declared.rule.moments.Moment.{Moment},

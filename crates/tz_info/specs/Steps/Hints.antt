@@ -1,9 +1,7 @@
 -- Hints at the places of items that come in order of time. The time from the first item on is cut into stretches of equal
 -- length, and a hint says which item is the last one before a stretch.
-use Rattle.{
-  std.specs.Prelude.{ℕ, suc, ◌≡◌, ◌⊎◌, ◌+◌, ◌*◌, ◌/◌, ◌^◌, ◌<◌, ◌≤◌, List, length, slice_index, ℤ, pos, nat_abs, ◌+ℤ◌, ◌-ℤ◌, ◌≤ℤ◌, ◌<ℤ◌},
-  tz_info.specs.{Steps.Search.{item_time}, declared.timeline.hints.{Hints.{Hints}, Near.{Near}}},
-}
+use Rattle.std.specs.Prelude.{ℕ, suc, ◌≡◌, ◌⊎◌, ◌+◌, ◌*◌, ◌/◌, ◌^◌, ◌<◌, ◌≤◌, List, length, slice_index, ℤ, pos, nat_abs, ◌+ℤ◌, ◌-ℤ◌, ◌≤ℤ◌, ◌<ℤ◌}
+use Rattle.tz_info.specs.{Steps.Search.{item_time}, declared.timeline.hints.{Hints.{Hints}, Near.{Near}}}
 
 -- the place is that of the last item before that time, or of the first item if no item comes before it
 pub record IsLastBefore (times : List ℤ) (time : ℤ) (place : ℕ) : Type 0 where

@@ -1,7 +1,7 @@
 -- How many days of a year come before a rule's day: it follows from the year's length and its first weekday.
+use Rattle.std.specs.{List.{range_with_len}, Prelude.{ℕ, ◌+◌, ◌-◌, ◌%◌, Bool, List, map, nat_le}}
 use Rattle.{
   naive_base.specs.Month.{days_in_month, days_of_months},
-  std.specs.{List.{range_with_len}, Prelude.{ℕ, ◌+◌, ◌-◌, ◌%◌, Bool, List, map, nat_le}},
   tz_info.specs.{Steps.RuleDays.{julian_place, weekday_place}, declared.rule.day.DayForm.{DayForm, TheVariants.{Julian1, Julian0, MonthWeekday}}},
 }
 

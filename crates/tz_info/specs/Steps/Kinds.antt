@@ -1,7 +1,7 @@
 -- Kinds of years: a year is a leap year or not, and begins with one of the seven weekdays.
+use Rattle.std.specs.Prelude.{ℕ, ◌+◌, Bool, ◌&&◌, if◌then◌else◌, List, map, slice_index_or, ℤ, pos, neg_ℤ, ◌-ℤ◌, ◌*ℤ◌, int_le, int_lt, ◌+ℤ◌}
 use Rattle.{
   naive_base.specs.{Year.{is_leap, year_start}, Weekday.{weekday_of}},
-  std.specs.Prelude.{ℕ, ◌+◌, Bool, ◌&&◌, if◌then◌else◌, List, map, slice_index_or, ℤ, pos, neg_ℤ, ◌-ℤ◌, ◌*ℤ◌, int_le, int_lt, ◌+ℤ◌},
   tz_info.specs.{Moments.{moment}, Rules.{Alternate}, Steps.{Below.{all_below}, KindPlaces.{places_by_kind}}, declared.rule.day.DayTime.{DayTime}},
 }
 

@@ -1,8 +1,8 @@
 -- The span after a zone's last clock change.
+use Rattle.std.specs.{Prelude.{ℤ, ◌<ℤ◌, ◌≤ℤ◌, FitsSigned}, Int.{w64}}
 use Rattle.{
   naive_base.specs.Range.{IsWide},
   offset_core.specs.WallAnswer.{IsShownOnce},
-  std.specs.{Prelude.{ℤ, ◌<ℤ◌, ◌≤ℤ◌, FitsSigned}, Int.{w64}},
   tz_info.specs.{Changes.{HasNoChange, IsLast}, Spans.{IsSpanAt}, WallClocks.{Shows}, Zones.{Zone, TypeAt}},
   tz_info.specs.declared.zone.made.last_span.LastSpan.{LastSpan},
 }

@@ -1,8 +1,6 @@
 -- Two lists of pieces, merged into one.
-use Rattle.{
-  std.specs.Prelude.{ℕ, ◌≡◌, ◌+◌, ◌<◌, ◌⊎◌, List, length, slice_index_or, ℤ, ◌≤ℤ◌},
-  tz_info.specs.{Steps.{Shown.{together}, WallPieces.{AreInOrder, answer_at}}, declared.zone.made.{pieces.Piece.{Piece}, shown.Shown.{Shown}}},
-}
+use Rattle.std.specs.Prelude.{ℕ, ◌≡◌, ◌+◌, ◌<◌, ◌⊎◌, List, length, slice_index_or, ℤ, ◌≤ℤ◌}
+use Rattle.tz_info.specs.{Steps.{Shown.{together}, WallPieces.{AreInOrder, answer_at}}, declared.zone.made.{pieces.Piece.{Piece}, shown.Shown.{Shown}}}
 
 -- what the pieces of earlier seconds and those of later ones give together
 pub record IsMerged (before_first : Shown) (first : List Piece) (before_last : Shown) (last : List Piece) (pieces : List Piece) : Type 0 where

@@ -1,6 +1,6 @@
 -- Runs of seconds at which one type is in force.
+use Rattle.std.specs.Prelude.{◌≡◌, Bool, true, false, ℤ, pos, neg_ℤ, ◌-ℤ◌, ◌≤ℤ◌, ◌<ℤ◌, Option, MatchOption}
 use Rattle.{
-  std.specs.Prelude.{◌≡◌, Bool, true, false, ℤ, pos, neg_ℤ, ◌-ℤ◌, ◌≤ℤ◌, ◌<ℤ◌, Option, MatchOption},
   tz_base.specs.LocalTypes.{LocalType},
   tz_info.specs.{Changes.{Precedes}, Leaps.{IsNear}, Windows.{IsGreatest, IsLeast, offsets}, Zones.{Zone, TypeAt}},
   tz_info.specs.ShownSeconds.{IsFirstWithin, IsLastWithin, ShowsWithin},

@@ -1,8 +1,6 @@
 -- A search among items that come in order of time, by the list of their times, and what its steps keep.
-use Rattle.{
-  std.specs.Prelude.{ℕ, ◌≡◌, ◌+◌, ◌-◌, ◌^◌, ◌<◌, ◌≤◌, List, length, slice_index_or, AllPairs, ℤ, pos, ◌≤ℤ◌, ◌<ℤ◌, Option, None, Some},
-  tz_info.specs.{Counts.{Counts}, declared.timeline.{hints.Near.{Near}, Ends.{Ends}}},
-}
+use Rattle.std.specs.Prelude.{ℕ, ◌≡◌, ◌+◌, ◌-◌, ◌^◌, ◌<◌, ◌≤◌, List, length, slice_index_or, AllPairs, ℤ, pos, ◌≤ℤ◌, ◌<ℤ◌, Option, None, Some}
+use Rattle.tz_info.specs.{Counts.{Counts}, declared.timeline.{hints.Near.{Near}, Ends.{Ends}}}
 
 -- the times don't fall
 abbrev pub AreOrdered : List ℤ → Type 0

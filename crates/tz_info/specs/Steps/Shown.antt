@@ -1,8 +1,6 @@
 -- What earlier segments and later ones show of a local time together, and the four answers by number.
-use Rattle.{
-  std.specs.Prelude.{ℕ, zero, suc, ◌≤◌, ◌⊎◌},
-  tz_info.specs.declared.zone.made.shown.Shown.{Shown, TheVariants.{Less, Skipped, Once, Several}},
-}
+use Rattle.std.specs.Prelude.{ℕ, zero, suc, ◌≤◌, ◌⊎◌}
+use Rattle.tz_info.specs.declared.zone.made.shown.Shown.{Shown, TheVariants.{Less, Skipped, Once, Several}}
 
 abbrev pub together : Shown → Shown → Shown
 together Less a = a

@@ -1,6 +1,6 @@
 -- From a second on: the last local time that clocks show up to another second, and the first second at or after a local time.
+use Rattle.std.specs.Prelude.{ℤ, pos, ◌-ℤ◌, ◌≤ℤ◌}
 use Rattle.{
-  std.specs.Prelude.{ℤ, pos, ◌-ℤ◌, ◌≤ℤ◌},
   tz_base.specs.LocalTypes.{LocalType},
   tz_info.specs.{Leaps.{IsNear}, ShownSeconds.{ShowsAtOrAfter}, WallClocks.{Shows}},
 }

@@ -1,8 +1,6 @@
 -- What the code asks of the moments of a year and of its neighbours.
-use Rattle.{
-  std.specs.Prelude.{Bool, ◌&&◌, ◌||◌, not, if◌then◌else◌, ℤ, pos, ◌+ℤ◌, ◌-ℤ◌, int_le, int_lt},
-  tz_info.specs.declared.rule.moments.Turns.{Turns},
-}
+use Rattle.std.specs.Prelude.{Bool, ◌&&◌, ◌||◌, not, if◌then◌else◌, ℤ, pos, ◌+ℤ◌, ◌-ℤ◌, int_le, int_lt}
+use Rattle.tz_info.specs.declared.rule.moments.Turns.{Turns}
 
 -- from the first moment on, and before the last
 abbrev pub is_between : ℤ → ℤ → ℤ → Bool

@@ -1,6 +1,6 @@
 -- From which second on, and up to which one, a zone has a type.
+use Rattle.std.specs.{Prelude.{ℤ, pos, ◌≡◌, ◌-ℤ◌, ◌≤ℤ◌, ◌<ℤ◌, FitsSigned, Option, Some, MatchOption}, Int.{w64}}
 use Rattle.{
-  std.specs.{Prelude.{ℤ, pos, ◌≡◌, ◌-ℤ◌, ◌≤ℤ◌, ◌<ℤ◌, FitsSigned, Option, Some, MatchOption}, Int.{w64}},
   tz_base.specs.{LocalTypes.{LocalType}, declared.change.Change.{Change}},
   tz_info.specs.{Leaps.{least_time}, Zones.{Zone, TypeAt}},
 }

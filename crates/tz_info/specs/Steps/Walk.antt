@@ -1,7 +1,7 @@
 -- The walk's steps: what one segment adds to an answer.
+use Rattle.std.specs.{Prelude.{ℕ, ◌≡◌, ℤ, ◌-ℤ◌, ◌≤ℤ◌, ◌<ℤ◌, ◌⊎◌, FitsSigned, Option, Some}, Int.{w64}}
 use Rattle.{
   offset_core.specs.declared.local_result.LocalResult.{LocalResult, TheVariants.{Single}},
-  std.specs.{Prelude.{ℕ, ◌≡◌, ℤ, ◌-ℤ◌, ◌≤ℤ◌, ◌<ℤ◌, ◌⊎◌, FitsSigned, Option, Some}, Int.{w64}},
   tz_base.specs.LocalTypes.{LocalType},
   tz_info.specs.{Leaps.{IsLeapTime, least_time}, Steps.{Segments.{segment_of}, Answers.{joined}, WallPieces.{ShownAmong}}, WallClocks.{Shows}},
   tz_info.specs.Zones.{Zone, HasType, TypeAt},

@@ -1,7 +1,7 @@
 //! The data blocks of a file (RFC 8536 section 3.2).
 
+ghost use Rattle.std.specs.Prelude.{◌≤◌};
 ghost use Rattle.{
-  std.specs.Prelude.{◌≤◌},
   tz_base.specs.Grammar.{IsRead},
   tz_info.specs.FileBlocks.{block, parts_of},
 };

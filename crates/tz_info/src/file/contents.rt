@@ -1,7 +1,7 @@
 //! What the records of a data block say (RFC 8536 section 3.2).
 
+ghost use Rattle.std.specs.Prelude.{◌≡◌, ◌⊎◌, ◌+◌, ◌*◌, length, slice_index};
 ghost use Rattle.{
-  std.specs.Prelude.{◌≡◌, ◌⊎◌, ◌+◌, ◌*◌, length, slice_index},
   tz_base.specs.Fronts.{Gives},
   tz_info.specs.Steps.ContentReading.{transition_in, values_below, GivesInMemory, indicators_of, leap_second_in},
   tz_info.specs.Steps.ContentReading.{leap_second_of, pair_agrees},

@@ -1,7 +1,7 @@
 //! The footer of a file (RFC 8536 section 3.3).
 
+ghost use Rattle.std.specs.{List.{list_any}, Prelude.{◌≡◌}, Str.{is_utf8}};
 ghost use Rattle.{
-  std.specs.{List.{list_any}, Prelude.{◌≡◌}, Str.{is_utf8}},
   tz_base.specs.Fronts.{Gives},
   tz_info.specs.Steps.{ContentReading.{is_zero}, FooterReading.{footer_at, is_between_newlines, is_no_text}},
 };

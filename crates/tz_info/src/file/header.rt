@@ -1,7 +1,7 @@
 //! The headers of a file (RFC 8536 section 3.1).
 
+ghost use Rattle.std.specs.{Prelude.{◌≡◌, drop}, Result.{IsErrAnd}};
 ghost use Rattle.{
-  std.specs.{Prelude.{◌≡◌, drop}, Result.{IsErrAnd}},
   tz_base.specs.Grammar.{be_u32, Exact, IsRead},
   tz_info.specs.FileHeaders.{before_count, counts_agree, header, six_counts, tzif, version, HasOtherMagic},
 };

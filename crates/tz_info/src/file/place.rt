@@ -1,7 +1,7 @@
 //! Where a file is at fault, as the number of bytes in front of the fault.
 
+ghost use Rattle.std.specs.Prelude.{◌≡◌, length, option_map};
 ghost use Rattle.{
-  std.specs.Prelude.{◌≡◌, length, option_map},
   tz_info.specs.{FilePieces.{HasPieces}, FilePlaces.{footer_bytes, ArePartPlaces, IsFilePlace}},
   tz_info.specs.Steps.FileLists.{pieces_of},
 };

@@ -1,7 +1,7 @@
 //! A file from its first byte to its last: its pieces, and the lists that they spell.
 
+ghost use Rattle.std.specs.{Prelude.{◌≡◌, ◌⊎◌, MatchResult, OnErr}, Result.{IsErrAnd}};
 ghost use Rattle.{
-  std.specs.{Prelude.{◌≡◌, ◌⊎◌, MatchResult, OnErr}, Result.{IsErrAnd}},
   tz_base.specs.{Fronts.{Gives}, Grammar.{from_fault, IsRead}},
   tz_info.specs.{FileBlocks.{parts_of}, FileHeaders.{HasOtherMagic}},
   tz_info.specs.FilePieces.{file, after_first_block, is_extended, later_version},

@@ -1,7 +1,7 @@
 //! The local time types of a data block and their names (RFC 8536 section 3.2).
 
+ghost use Rattle.std.specs.{List.{position_from}, Prelude.{◌≡◌, ◌<◌, ◌*◌, length, option_map, IfSome}};
 ghost use Rattle.{
-  std.specs.{List.{position_from}, Prelude.{◌≡◌, ◌<◌, ◌*◌, length, option_map, IfSome}},
   tz_base.specs.Fronts.{Gives},
   tz_info.specs.FileContents.{designation_of},
   tz_info.specs.Steps.ContentReading.{GivesInMemory, designation_at, is_zero, mark_of, type_in, type_of},

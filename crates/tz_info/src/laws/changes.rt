@@ -1,8 +1,8 @@
 //! Theorems of the changes of a zone's clocks: each function is empty, its contract is proved; never
 //! called.
 
+ghost use Rattle.std.specs.Prelude.{◌≡◌, ◌<ℤ◌, ◌≤ℤ◌, ◌-ℤ◌, ◌∷◌, pos, List, Option, ℤ};
 ghost use Rattle.{
-  std.specs.Prelude.{◌≡◌, ◌<ℤ◌, ◌≤ℤ◌, ◌-ℤ◌, ◌∷◌, pos, List, Option, ℤ},
   tz_base.specs.LocalTypes.{LocalType},
   tz_info.specs.{Changes.{AreChanges, IsChange, IsFirst, IsLast}, Gaps.{IsTypeBeforeGap}, Zones.{TypeAt, Zone}},
 };

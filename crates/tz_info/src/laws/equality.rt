@@ -1,7 +1,7 @@
 //! Theorems of equality and clones: each function is empty, its contract is proved; never called.
 
+ghost use Rattle.std.specs.Prelude.{◌≡◌, ◌↔◌, IsTrue};
 ghost use Rattle.{
-  std.specs.Prelude.{◌≡◌, ◌↔◌, IsTrue},
   tz_info.specs.{HeldChanges.{change_held, second_held, span_held}, ChangesLeft.{changes_left}},
   tz_info.specs.{Rules.{Alternate as AlternateRule}, Zones.{Zone}},
 };

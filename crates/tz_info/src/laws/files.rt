@@ -1,7 +1,7 @@
 //! Theorems of time zone files: each function is empty, its contract is proved; never called.
 
+ghost use Rattle.std.specs.Prelude.{◌≡◌, ◌≤◌, drop, length, List, ℕ};
 ghost use Rattle.{
-  std.specs.Prelude.{◌≡◌, ◌≤◌, drop, length, List, ℕ},
   tz_base.specs.Errors.{error_number},
   tz_info.specs.{FilePieces.{FilePieces, HasPieces}, TzFiles.{IsFileFault, IsTzFile}},
   tz_info.specs.{FilePlaces.{footer_bytes, in_order, ArePartPlaces, IsFilePlace}, Zones.{IsRuleOrNone, IsValid, Zone}},

@@ -1,8 +1,8 @@
 //! Theorems of when clocks show certain local times, over all seconds: each function is empty, its
 //! contract is proved; never called.
 
+ghost use Rattle.std.specs.{Int.{w64}, Prelude.{◌≡◌, ◌↔◌, ◌<ℤ◌, ◌≤ℤ◌, ◌+ℤ◌, ◌-ℤ◌, pos, FitsSigned, Option, ℤ}};
 ghost use Rattle.{
-  std.specs.{Int.{w64}, Prelude.{◌≡◌, ◌↔◌, ◌<ℤ◌, ◌≤ℤ◌, ◌+ℤ◌, ◌-ℤ◌, pos, FitsSigned, Option, ℤ}},
   tz_base.specs.LocalTypes.{LocalType},
   tz_info.specs.ShownSeconds.{AreEndsWithin, AreShownWithin, IsFirstAtOrAfter, IsFirstWithin, IsNeverWithin},
   tz_info.specs.ShownSeconds.{ShowsWithin},

@@ -1,7 +1,7 @@
 //! Theorems of spans: each function is empty, its contract is proved; never called.
 
+ghost use Rattle.std.specs.Prelude.{◌≡◌, ◌-ℤ◌, pos, ℤ};
 ghost use Rattle.{
-  std.specs.Prelude.{◌≡◌, ◌-ℤ◌, pos, ℤ},
   tz_base.specs.LocalTypes.{LocalType},
   tz_info.specs.{Changes.{IsChange}, Spans.{IsInSpan, IsSpan, IsSpanAt}, Zones.{TypeAt, Zone}},
 };

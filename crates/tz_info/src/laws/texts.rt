@@ -1,8 +1,8 @@
 //! Theorems of TZ strings and of the zones that they give: each function is empty, its contract is
 //! proved; never called.
 
+ghost use Rattle.std.specs.Prelude.{◌≡◌, ◌≤◌, length, Bool, List, ℕ};
 ghost use Rattle.{
-  std.specs.Prelude.{◌≡◌, ◌≤◌, length, Bool, List, ℕ},
   tz_base.specs.Errors.{error_number},
   tz_info.specs.PosixZones.{IsPosixFault, IsPosixFaultPlace, IsPosixZone},
   tz_info.specs.{TzGrammar.{text_fault_position, IsTextFault, IsTzText}, Zones.{IsRuleOrNone, IsValid, Zone}},

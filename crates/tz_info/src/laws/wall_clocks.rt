@@ -1,9 +1,9 @@
 //! Theorems of wall clocks over all seconds: each function is empty, its contract is proved; never
 //! called.
 
+ghost use Rattle.std.specs.{Int.{w64}, Prelude.{◌≡◌, ◌+ℤ◌, FitsSigned, ℕ, ℤ}};
 ghost use Rattle.{
   offset_core.specs.WallAnswer.{IsWallAnswer},
-  std.specs.{Int.{w64}, Prelude.{◌≡◌, ◌+ℤ◌, FitsSigned, ℕ, ℤ}},
   tz_base.specs.LocalTypes.{LocalType},
   tz_info.specs.{Around.{AreTypesAround}, Zones.{IsRuleOrNone, IsValid, TypeAt, Zone}},
   tz_info.specs.{WallClocks.{AreShown, IsAmongShown, Shows}, Windows.{IsWindowCount}},

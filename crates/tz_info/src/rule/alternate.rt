@@ -1,8 +1,8 @@
 //! Two types that take turns each year.
 
+ghost use Rattle.std.specs.Prelude.{◌≡◌, ◌↔◌, IsTrue, MatchResult};
 ghost use Rattle.{
   offset_core.specs.Offset.{IsWithinDay},
-  std.specs.Prelude.{◌≡◌, ◌↔◌, IsTrue, MatchResult},
   tz_info.specs.Rules.{expected_of_alternate, Alternate, IsAlternate, IsAlternateRule},
 };
 

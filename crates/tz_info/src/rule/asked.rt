@@ -2,8 +2,8 @@
 //!
 //! Only `ask_year` makes an `AskedYear`, without which a year's changes aren't found.
 
+ghost use Rattle.std.specs.Prelude.{◌≡◌, ◌≢◌, ◌+◌, true, MatchOption};
 ghost use Rattle.{
-  std.specs.Prelude.{◌≡◌, ◌≢◌, ◌+◌, true, MatchOption},
   tz_info.specs.{Changes.{IsChange}, Moments.{type_when, AlternateAt, IsRuleTime, IsRuleYear, IsYearOf}},
   tz_info.specs.Counts.{HasRoomFor},
   tz_info.specs.Steps.{AskedYears.{turn_of, IsAskedYear, IsCalmRule}, Beside.{change_found, IsNearestMomentOf}},

@@ -1,8 +1,8 @@
 //! What a rule says of a second: the type in force, and the seconds on both sides at which clocks
 //! change.
 
+ghost use Rattle.std.specs.Prelude.{◌≡◌, option_map, MatchOption};
 ghost use Rattle.{
-  std.specs.Prelude.{◌≡◌, option_map, MatchOption},
   tz_info.specs.{Counts.{HasRoomFor, RoseWithin}, Steps.Beside.{change_found, IsBeside}, Moments.{IsRuleTime}},
   tz_info.specs.Rules.{Alternate},
 };

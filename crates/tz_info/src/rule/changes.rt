@@ -1,7 +1,7 @@
 //! When a rule's types give way to each other.
 
+ghost use Rattle.std.specs.Prelude.{◌≡◌, ◌↔◌, ◌≤◌, ◌<ℤ◌, ◌-ℤ◌, not, option_map, pos, IsTrue, MatchOption};
 ghost use Rattle.{
-  std.specs.Prelude.{◌≡◌, ◌↔◌, ◌≤◌, ◌<ℤ◌, ◌-ℤ◌, not, option_map, pos, IsTrue, MatchOption},
   tz_info.specs.Changes.{HasNoChange, IsNearest},
   tz_info.specs.Steps.{Changes.{year_at, IsAhead, IsNearRuleTime}, Beside.{change_found, IsNearestMomentOf}},
   tz_info.specs.Steps.AskedYears.{HasNoneBeyond, IsAskedYear, IsNextChanging, IsYearNear},

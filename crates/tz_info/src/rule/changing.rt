@@ -4,8 +4,8 @@
 //! four years is a leap year, of the year before it to the second one after it. It is found once for
 //! each of the 35 keys, when the rule is made.
 
+ghost use Rattle.std.specs.{List.{list_any}, Prelude.{◌≡◌, ◌<◌, ◌≤◌, ◌≤ℤ◌, neg_ℤ, pos}};
 ghost use Rattle.{
-  std.specs.{List.{list_any}, Prelude.{◌≡◌, ◌<◌, ◌≤◌, ◌≤ℤ◌, neg_ℤ, pos}},
   tz_info.specs.Steps.ChangingYears.{changing_keys, dst_near, flips_at, has_flip, is_changing, key_years, leap_place},
   tz_info.specs.Steps.ChangingYears.{moment_by, place_of, turns_in, year_key, years_near, AreWithinYears},
 };

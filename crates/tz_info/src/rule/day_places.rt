@@ -1,8 +1,8 @@
 //! How many days of a year come before a rule's day.
 
+ghost use Rattle.std.specs.{Int.{IsInRange}, Prelude.{◌≡◌, ◌<◌, ◌≤◌, ◌+ℤ◌, pos}};
 ghost use Rattle.{
   naive_base.specs.{Date.{day_number}, Month.{days_in_month}, Weekday.{weekday_of}, Year.{is_leap, year_start}},
-  std.specs.{Int.{IsInRange}, Prelude.{◌≡◌, ◌<◌, ◌≤◌, ◌+ℤ◌, pos}},
   tz_info.specs.{RuleDays.{IsWrittenDate}, Steps.RuleDays.{julian_place, weekday_place}},
 };
 

@@ -3,10 +3,10 @@
 //! A rule's moments, counted from the first second of their year, are the same in all years of a
 //! kind. They are found once for each of the fourteen kinds, when the rule is made.
 
+ghost use Rattle.std.specs.Prelude.{◌≡◌, ◌<◌, ◌+◌, if◌then◌else◌, int_le, int_lt};
 ghost use Rattle.{
   naive_base.specs.Year.{year_start, IsDay},
   offset_core.specs.Offset.{IsWithinDay},
-  std.specs.Prelude.{◌≡◌, ◌<◌, ◌+◌, if◌then◌else◌, int_le, int_lt},
   tz_info.specs.Rules.{IsWithinWeek},
   tz_info.specs.Steps.Kinds.{seconds_by_kind, are_calm, day_time_second, is_calm_kind, is_inside, kind_place},
   tz_info.specs.Steps.Kinds.{margin_of},

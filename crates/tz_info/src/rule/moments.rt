@@ -1,7 +1,7 @@
 //! The moments at which a rule's types give way to each other.
 
+ghost use Rattle.std.specs.Prelude.{◌≡◌, if◌then◌else◌, ◌||◌, int_le};
 ghost use Rattle.{
-  std.specs.Prelude.{◌≡◌, if◌then◌else◌, ◌||◌, int_le},
   tz_info.specs.Rules.{Alternate},
   tz_info.specs.Steps.{Changes.{nearer_one}, Beside.{change_found}, Turns.{dst_by, is_between, is_dst_by_one}},
 };

@@ -1,9 +1,9 @@
 //! What the clocks of a rule show from a second on: the last local time up to another second, and the
 //! first second at or after a local time.
 
+ghost use Rattle.std.specs.Prelude.{◌≤ℤ◌, option_map, pos};
 ghost use Rattle.{
   naive_base.specs.Range.{IsWide},
-  std.specs.Prelude.{◌≤ℤ◌, option_map, pos},
   tz_info.specs.{Changes.{IsNearest}, Counts.{HasRoomFor, RoseWithin}, HeldChanges.{change_held}},
   tz_info.specs.{Moments.{AlternateAt, IsRuleTime}, RuleTypes.{RuleAt}, Rules.{IsAlternateRule}},
   tz_info.specs.Steps.{Changes.{IsAhead}, Since.{IsFirstSince, IsReachedSince}},

@@ -1,9 +1,9 @@
 //! The moments of one year at which a rule's types give way to each other, and the seconds at which
 //! only these decide.
 
+ghost use Rattle.std.specs.Prelude.{◌≡◌, ◌↔◌, ◌<◌, ◌+ℤ◌, pos, IsTrue, MatchResult};
 ghost use Rattle.{
   naive_base.specs.{DateOf.{day_of_year, year_of}, Year.{floor_div, year_start, IsDay, LiesIn}},
-  std.specs.Prelude.{◌≡◌, ◌↔◌, ◌<◌, ◌+ℤ◌, pos, IsTrue, MatchResult},
   tz_info.specs.{Moments.{IsRuleTime}, Rules.{IsAlternateRule}, Steps.{Kinds.{kind_place}, Seasons.{IsDecidedIn}}},
 };
 

@@ -1,9 +1,9 @@
 //! The wall clock of a rule.
 
+ghost use Rattle.std.specs.{Prelude.{◌-ℤ◌, ◌<ℤ◌, ⊤, IsTrue, MatchOption, ℤ}, Result.{IsOkAnd}};
 ghost use Rattle.{
   naive_base.specs.{NaiveDateTime.{reading}, Range.{IsWide}},
   offset_core.specs.{LocalResult.{map_of}, WallAnswer.{IsWallAnswer}},
-  std.specs.{Prelude.{◌-ℤ◌, ◌<ℤ◌, ⊤, IsTrue, MatchOption, ℤ}, Result.{IsOkAnd}},
   tz_base.specs.LocalTypes.{IsUtOffset},
   tz_info.specs.{Counts.{HasRoomFor, RoseWithin}, HeldChanges.{change_held}},
   tz_info.specs.Steps.{Walk.{IsAskedLast}, Gaps.{IsNeverFrom, IsRuleGap}, Seasons.{IsSeason, IsSeasonFor, IsSeasonOf}},

@@ -3,8 +3,8 @@
 //! They do so at moments of the rule, and at a turn of the year if the one moment comes first in
 //! the old year, and the other one in the new. Every 400 years they do so alike.
 
+ghost use Rattle.std.specs.Prelude.{◌≡◌, ◌≢◌, ◌↔◌, ◌≤ℤ◌, length, IfSome, IsTrue, MatchOption};
 ghost use Rattle.{
-  std.specs.Prelude.{◌≡◌, ◌≢◌, ◌↔◌, ◌≤ℤ◌, length, IfSome, IsTrue, MatchOption},
   tz_info.specs.{Changes.{IsChange}, Moments.{type_when, AlternateAt, IsRuleTime, IsRuleYear, IsYearOf}},
   tz_info.specs.Rules.{Alternate, IsAlternateRule},
   tz_info.specs.Steps.Beside.{change_found, IsMomentAt, IsNearestMomentOf},

@@ -5,9 +5,9 @@
 //! last one before it. The latest item at a second of a stretch is then the one of its hint, or one
 //! of the few up to that of the next hint.
 
+ghost use Rattle.std.specs.Prelude.{◌≡◌, ◌<◌, ◌≤◌, ◌+◌, ◌/◌, ◌^◌, ◌≤ℤ◌, ◌-ℤ◌, length, map, pos, slice_index, suc, ⊤, List};
+ghost use Rattle.std.specs.Prelude.{MatchOption, MatchResult, ℕ, ℤ};
 ghost use Rattle.{
-  std.specs.Prelude.{◌≡◌, ◌<◌, ◌≤◌, ◌+◌, ◌/◌, ◌^◌, ◌≤ℤ◌, ◌-ℤ◌, length, map, pos, slice_index, suc, ⊤, List},
-  std.specs.Prelude.{MatchOption, MatchResult, ℕ, ℤ},
   tz_info.specs.Steps.Hints.{stretch_of, AreHints, AreMarked, AreNonDecreasing, AreRaised, AreStepsUntil, IsHinted},
   tz_info.specs.Steps.Hints.{RiseFromZero},
   tz_info.specs.Steps.Search.{item_time, AreEnds, AreOrdered},

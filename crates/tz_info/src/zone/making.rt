@@ -1,7 +1,7 @@
 //! How a zone is made: its lists are checked, and what lookups need is prepared from them.
 
+ghost use Rattle.std.specs.Prelude.{◌≡◌, ◌⊎◌, ◌<◌, [], length, pos, IfSome, MatchResult};
 ghost use Rattle.{
-  std.specs.Prelude.{◌≡◌, ◌⊎◌, ◌<◌, [], length, pos, IfSome, MatchResult},
   tz_base.specs.{Errors.{IsOutOfMemory}, LocalTypes.{IsUtOffset}},
   tz_info.specs.Steps.LastSpans.{IsLastSpan},
   tz_info.specs.Zones.{plain_zone, zone_of_rule, zone_of_type, IsValid, ListFault, Zone},

@@ -1,7 +1,7 @@
 //! Zones of TZ strings.
 
+ghost use Rattle.std.specs.Prelude.{◌≡◌, ◌⊎◌, pos, true, IfErr, IfOk, MatchResult};
 ghost use Rattle.{
-  std.specs.Prelude.{◌≡◌, ◌⊎◌, pos, true, IfErr, IfOk, MatchResult},
   tz_base.specs.Errors.{IsOutOfMemory},
   tz_info.specs.PosixZones.{posix_zone, types_of, IsExtendedFaultPlace, IsExtendedZone, IsPlaced, IsPosixFault},
   tz_info.specs.PosixZones.{IsPosixFaultPlace, IsPosixZone},

@@ -1,9 +1,7 @@
 //! Transitions and leap seconds of a data block (RFC 8536 section 3.2).
 
-ghost use Rattle.{
-  std.specs.{List.{flat_map}, Prelude.{◌≡◌, ◌↔◌, ◌<◌, ◌++◌, length, slice_index_or, All, IsTrue, OnOk}},
-  tz_write.specs.{FileBytes.{index_bytes, leap_bytes, time_bytes}, WrittenFiles.{HasIndex, HasTimeOf64Bits, IsEntry}},
-};
+ghost use Rattle.std.specs.{List.{flat_map}, Prelude.{◌≡◌, ◌↔◌, ◌<◌, ◌++◌, length, slice_index_or, All, IsTrue, OnOk}};
+ghost use Rattle.tz_write.specs.{FileBytes.{index_bytes, leap_bytes, time_bytes}, WrittenFiles.{HasIndex, HasTimeOf64Bits, IsEntry}};
 
 use crate::file::numbers::{push_signed_32, push_signed_64};
 use std::alloc::AllocError;

@@ -1,8 +1,8 @@
 //! The designations of a data block (RFC 8536 section 3.2), in which types with the same name, or
 //! with names of which one ends the other, share bytes.
 
+ghost use Rattle.std.specs.Prelude.{◌≡◌, ◌↔◌, ◌<◌, ◌≤◌, ◌+◌, ◌++◌, [], length, All, IsTrue, List, MatchOption, ℕ};
 ghost use Rattle.{
-  std.specs.Prelude.{◌≡◌, ◌↔◌, ◌<◌, ◌≤◌, ◌+◌, ◌++◌, [], length, All, IsTrue, List, MatchOption, ℕ},
   tz_base.specs.Names.{IsNameOrNone},
   tz_write.specs.FileDesignations.{begins, name_of, place_of, AreNamesIn, AreShortest},
   tz_write.specs.FileLayouts.{before_last, laid, laid_from, text_at, with_text, with_text_of, with_texts},

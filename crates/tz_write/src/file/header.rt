@@ -1,9 +1,7 @@
 //! The headers of a file (RFC 8536 section 3.1).
 
-ghost use Rattle.{
-  std.specs.Prelude.{◌≡◌, ◌++◌, OnOk},
-  tz_write.specs.{FileBytes.{counts_bytes, version_byte, header_bytes, first_half}, Steps.FileParts.{counts_in}},
-};
+ghost use Rattle.std.specs.Prelude.{◌≡◌, ◌++◌, OnOk};
+ghost use Rattle.tz_write.specs.{FileBytes.{counts_bytes, version_byte, header_bytes, first_half}, Steps.FileParts.{counts_in}};
 
 use crate::file::numbers::push_count;
 use std::alloc::AllocError;

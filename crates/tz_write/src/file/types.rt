@@ -1,9 +1,7 @@
 //! The local time types of a data block (RFC 8536 section 3.2).
 
-ghost use Rattle.{
-  std.specs.{List.{flat_map}, Prelude.{◌≡◌, ◌++◌, All, OnOk}},
-  tz_write.specs.{FileBytes.{mark_byte, type_bytes}, FileLayouts.{HasPlace, HavePlaces}, WrittenFiles.{IsType}},
-};
+ghost use Rattle.std.specs.{List.{flat_map}, Prelude.{◌≡◌, ◌++◌, All, OnOk}};
+ghost use Rattle.tz_write.specs.{FileBytes.{mark_byte, type_bytes}, FileLayouts.{HasPlace, HavePlaces}, WrittenFiles.{IsType}};
 
 use crate::file::designations::{name_of, place_of};
 use crate::file::numbers::push_signed_32;

@@ -1,7 +1,7 @@
 //! A file from its first byte to its last.
 
+ghost use Rattle.std.specs.Prelude.{◌≡◌, ◌≤◌, ◌++◌, [], length, All, IfOk, MatchOption, OnOk};
 ghost use Rattle.{
-  std.specs.Prelude.{◌≡◌, ◌≤◌, ◌++◌, [], length, All, IfOk, MatchOption, OnOk},
   tz_info.specs.Zones.{IsRuleOrNone, IsValid},
   tz_write.specs.FileBytes.{block_bytes, file_bytes, footer_bytes, second_half, zone_counts, zone_parts},
   tz_write.specs.{FileLayouts.{HavePlaces}, Steps.FileParts.{counts_in, IsRoomOf}},

@@ -1,8 +1,7 @@
 //! Theorems of the files that are written.
 
+ghost use Rattle.std.specs.Prelude.{◌≡◌, ◌∷◌, [], codes, false, neg_ℤ, pos, slice_index, true, IfOk, IfSome, List, MatchOption, MatchResult, ℕ};
 ghost use Rattle.{
-  std.specs.Prelude.{◌≡◌, ◌∷◌, [], codes, false, neg_ℤ, pos, slice_index, true, IfOk, IfSome, List, MatchOption},
-  std.specs.Prelude.{MatchResult, ℕ},
   tz_base.specs.Errors.{IsOutOfMemory},
   tz_info.specs.{TzFiles.{IsTzFile}, Zones.{IsRuleOrNone, IsValid, Zone}},
   tz_write.specs.FileBytes.{counts_of, header_bytes},

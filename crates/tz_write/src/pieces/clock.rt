@@ -1,9 +1,7 @@
 //! Numbers, and seconds as hours, minutes and seconds.
 
-ghost use Rattle.{
-  std.specs.{Fmt.{decimal}, Prelude.{◌≡◌, ◌<◌, ◌+◌, ◌++◌, ◌∷◌, [], string_bytes, OnOk}},
-  tz_write.specs.Steps.TextPieces.{spelled_clock, spelled_minutes, spelled_pair, spelled_seconds, spelled_signed},
-};
+ghost use Rattle.std.specs.{Fmt.{decimal}, Prelude.{◌≡◌, ◌<◌, ◌+◌, ◌++◌, ◌∷◌, [], string_bytes, OnOk}};
+ghost use Rattle.tz_write.specs.Steps.TextPieces.{spelled_clock, spelled_minutes, spelled_pair, spelled_seconds, spelled_signed};
 
 use std::alloc::AllocError;
 use std::fmt::Write;

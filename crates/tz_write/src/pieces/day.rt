@@ -1,7 +1,7 @@
 //! Days, and the times of day after them.
 
+ghost use Rattle.std.specs.Prelude.{◌≡◌, ◌++◌, ◌∷◌, string_bytes, OnOk};
 ghost use Rattle.{
-  std.specs.Prelude.{◌≡◌, ◌++◌, ◌∷◌, string_bytes, OnOk},
   tz_info.specs.TzGrammar.{comma},
   tz_write.specs.Steps.TextPieces.{spelled_date, time_after},
 };

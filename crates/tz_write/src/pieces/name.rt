@@ -1,7 +1,7 @@
 //! Names.
 
+ghost use Rattle.std.specs.{List.{list_all}, Prelude.{◌≡◌, ◌++◌, string_bytes, OnOk}};
 ghost use Rattle.{
-  std.specs.{List.{list_all}, Prelude.{◌≡◌, ◌++◌, string_bytes, OnOk}},
   tz_info.specs.TzGrammar.{is_letter},
   tz_write.specs.Steps.TextPieces.{spelled_name},
 };

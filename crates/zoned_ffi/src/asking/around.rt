@@ -1,9 +1,9 @@
 //! What is around a local time: the clock change of its gap or fold, and the spans on both sides.
 #![tactic(auto, using(crate::proofs::Casts::passed_on))]
 
+ghost use Rattle.std.specs.Prelude.{◌≡◌, ◌≢◌, ◌⊎◌};
 ghost use Rattle.{
   naive_base.specs.Range.{IsInRange},
-  std.specs.Prelude.{◌≡◌, ◌≢◌, ◌⊎◌},
   tz_info.specs.Zones.{Zone},
   zoned_ffi.specs.{Handles.{IsLent, IsNoneLent}, WrittenChanges.{IsLocalChangeWritten, IsNoLocalChange}},
   zoned_ffi.specs.LocalInfos.{IsLocalInfo},

@@ -1,8 +1,8 @@
 //! The instants of local times.
 #![tactic(auto, using(crate::proofs::Casts::passed_on))]
 
+ghost use Rattle.std.specs.Prelude.{◌≡◌, ◌≢◌, ◌⊎◌, length, pos};
 ghost use Rattle.{
-  std.specs.Prelude.{◌≡◌, ◌≢◌, ◌⊎◌, length, pos},
   tz_info.specs.Zones.{Zone},
   zoned_ffi.specs.{Columns.{AreAnswered, IsFirstWithout, IsRowNumber}, Units.{per_second, IsUnit}},
   zoned_ffi.specs.Handles.{IsLent, IsNoneLent, IsUnanswered},

@@ -1,8 +1,8 @@
 //! What local clocks have reached at an instant: a local time, a day, and steps that begin.
 #![tactic(auto, using(crate::proofs::Casts::passed_on))]
 
+ghost use Rattle.std.specs.Prelude.{◌≡◌, ◌≢◌, ◌⊎◌, ◌-ℤ◌, length, pos};
 ghost use Rattle.{
-  std.specs.Prelude.{◌≡◌, ◌≢◌, ◌⊎◌, ◌-ℤ◌, length, pos},
   tz_info.specs.Zones.{Zone},
   zoned_ffi.specs.{Columns.{AreAnswered, IsFirstWithout, IsSoughtNumber}, Units.{per_second, IsUnit}},
   zoned_ffi.specs.Handles.{IsLent, IsNoneLent, IsUnanswered},

@@ -1,9 +1,9 @@
 //! The answer to one time of a column, by a lookup.
 
+ghost use Rattle.std.specs.Prelude.{◌≡◌, ◌<◌, ◌+ℤ◌, ◌-ℤ◌, pos, MatchOption, MatchResult};
 ghost use Rattle.{
   gregorian.specs.Year.{floor_div},
   naive_base.specs.Stamp.{of_secs},
-  std.specs.Prelude.{◌≡◌, ◌<◌, ◌+ℤ◌, ◌-ℤ◌, pos, MatchOption, MatchResult},
   zoned_ffi.specs.Columns.{IsInstantOf, IsNoInstant, IsNoWholeSecondOf, IsWholeSecondOf},
   zoned_ffi.specs.Steps.KeptTimes.{IsAnsweredBy, IsKept, IsNotAnsweredBy, IsNotWritten, IsWritten},
   zoned_ffi.specs.Steps.ResolvedInstants.{taken_instant},

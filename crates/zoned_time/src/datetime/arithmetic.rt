@@ -1,8 +1,8 @@
 //! Instants moved by a length of time, and the time between two.
+ghost use Rattle.std.specs.Prelude.{◌≡◌, neg_ℤ, option_map};
 ghost use Rattle.{
   naive_base.specs.{NaiveDateTime.{reading}, Range.{IsInRange}, Reading.{difference, moved, Reading}},
   offset_core.specs.{LocalResult.{map_of}, TimeDelta.{nanos_of}},
-  std.specs.Prelude.{◌≡◌, neg_ℤ, option_map},
   zoned_time.specs.{DateTime.{home_law_of, zoned}, Relocal.{IsRelocal}, Zoned.{IsAt, IsAtInRange}},
 };
 

@@ -1,9 +1,9 @@
 //! Instants moved by months and days, or to another time of day, and the whole years between two.
+ghost use Rattle.std.specs.Prelude.{◌≡◌, ◌↔◌, ◌≤ℤ◌, ◌-ℤ◌, neg_ℤ, pos, unsigned_abs, IsTrue, SomeIff};
 ghost use Rattle.{
   naive_base.specs.{DateOf.{year_of}, NaiveTime.{fraction_of, second_of}, Reading.{day_at, reading_at}},
   naive_base.specs.{Months.{days_of, months_of}, NaiveDateTime.{reading}},
   offset_core.specs.LocalResult.{map_of},
-  std.specs.Prelude.{◌≡◌, ◌↔◌, ◌≤ℤ◌, ◌-ℤ◌, neg_ℤ, pos, unsigned_abs, IsTrue, SomeIff},
   zoned_time.specs.DateTime.{home_law_of, wall_of, zoned, IsDaysAdded, IsOnlyDaysLater, IsOnlyMonthsLater},
   zoned_time.specs.{Years.{IsEarlierInYear, IsWholeYears, IsYearsSince}, Relocal.{IsRelocal}},
 };

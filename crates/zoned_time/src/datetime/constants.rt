@@ -1,7 +1,7 @@
 //! The instants that have names.
+ghost use Rattle.std.specs.Prelude.{◌≡◌, pos};
 ghost use Rattle.{
   naive_base.specs.Range.{epoch, first_reading, last_reading},
-  std.specs.Prelude.{◌≡◌, pos},
   zoned_time.specs.{DateTime.{zoned}, Stamps.{in_utc}, Zoned.{IsFixedFrom}},
 };
 

@@ -1,7 +1,7 @@
 //! The fields of what an instant's clock shows, and instants with a field changed.
+ghost use Rattle.std.specs.Prelude.{◌≡◌, option_map, IfSome};
 ghost use Rattle.{
   naive_base.specs.{Fields.{time_at}, NaiveDateTime.{reading}},
-  std.specs.Prelude.{◌≡◌, option_map, IfSome},
   zoned_time.specs.{DateTime.{day_shown_by, home_law_of, wall_of, zoned, IsOnlyAtTime, IsOnlyOnDay}, Fields.{IsOnly}},
 };
 

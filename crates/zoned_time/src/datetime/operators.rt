@@ -1,9 +1,9 @@
 //! The operators of instants, which ask that the result exists. If it may not, call the checked
 //! form.
+ghost use Rattle.std.specs.{Duration.{as_nanos}, Prelude.{◌≡◌, neg_ℤ, pos, Some}};
 ghost use Rattle.{
   naive_base.specs.{Months.{days_of, months_of}, Range.{IsInRange}, Reading.{ahead, behind, difference}},
   offset_core.specs.{FixedOffset.{seconds_of}, Nanoseconds.{FitsTimeDelta}, TimeDelta.{nanos_of}},
-  std.specs.{Duration.{as_nanos}, Prelude.{◌≡◌, neg_ℤ, pos, Some}},
 };
 ghost use Rattle.zoned_time.specs.DateTime as shown;
 

@@ -1,8 +1,8 @@
 //! Instants made of a date-time and an offset, and their parts.
+ghost use Rattle.std.specs.Prelude.{◌≡◌, option_map, SomeIff};
 ghost use Rattle.{
   naive_base.specs.{NaiveDate.{day_of}, NaiveTime.{fraction_of, second_of}, Reading.{day_at, second_at}},
   naive_base.specs.{NaiveDateTime.{reading}, Range.{IsInRange}},
-  std.specs.Prelude.{◌≡◌, option_map, SomeIff},
   zoned_time.specs.{DateTime.{home_law_of, wall_of, zoned}, Relocal.{instant_of, HasInstant}, Zone.{SameLaw}},
   zoned_time.specs.Zoned.{shown},
 };

@@ -1,8 +1,8 @@
 //! How instants print: as what a clock with their offset shows, and the offset. Both are written at
 //! once, unless the text is longer than a `ShortText`.
+ghost use Rattle.std.specs.Prelude.{◌∷◌, ◌++◌, option_map};
 ghost use Rattle.{
   naive_base.specs.Text.{reading_text},
-  std.specs.Prelude.{◌∷◌, ◌++◌, option_map},
   zoned_time.specs.DateTime.{zoned, wall_of},
 };
 

@@ -1,7 +1,7 @@
 //! Timestamps of instants, and instants of timestamps.
+ghost use Rattle.std.specs.{Int.{w64}, Prelude.{◌≡◌, ◌/◌, option_map, FitsSigned, SomeIff}};
 ghost use Rattle.{
   naive_base.specs.{Range.{IsInRange}, Reading.{of_total, total}, Stamp.{of_secs, IsStamp}},
-  std.specs.{Int.{w64}, Prelude.{◌≡◌, ◌/◌, option_map, FitsSigned, SomeIff}},
   zoned_time.specs.{DateTime.{zoned}, Stamps.{in_utc, micros_of, millis_of, of_micros, of_millis}},
 };
 

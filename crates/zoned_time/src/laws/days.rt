@@ -1,9 +1,9 @@
 //! Theorems of days and of the first instants at or after local times: each function is empty, its
 //! contract is proved; never called.
+ghost use Rattle.std.specs.Prelude.{◌≡◌, ◌↔◌, ◌≤ℤ◌, ◌+ℤ◌, ◌-ℤ◌, pos, ℤ};
 ghost use Rattle.{
   naive_base.specs.{Range.{IsInRange}, Reading.{behind, IsEarlier, Reading}, Year.{floor_div}},
   offset_core.specs.WallAnswer.{IsNeverShown, IsShownBetween, IsShownOnce},
-  std.specs.Prelude.{◌≡◌, ◌↔◌, ◌≤ℤ◌, ◌+ℤ◌, ◌-ℤ◌, pos, ℤ},
   zoned_time.specs.{DayEnds.{IsGapEnd, NonePassed}, Zone.{IsZoneSecond, ShowsByOffset}},
   zoned_time.specs.Days.{midnight, AreEndsOfDay, IsFirstInstantFrom, IsFirstToReach, IsInDay, IsNeverOnDay, IsOnDay},
   zoned_time.specs.Reached.{IsReachedAt},

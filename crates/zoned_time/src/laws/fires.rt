@@ -1,6 +1,6 @@
 //! Theorems of plans and their fires: each function is empty, its contract is proved; never called.
+ghost use Rattle.std.specs.Prelude.{◌↔◌, ◌<ℤ◌, ◌≤ℤ◌, ◌∷◌, [], All, Contains, List, ℤ};
 ghost use Rattle.{
-  std.specs.Prelude.{◌↔◌, ◌<ℤ◌, ◌≤ℤ◌, ◌∷◌, [], All, Contains, List, ℤ},
   zoned_time.specs.{DateTime.{zoned}, Policies.{AreFiresBy, AreLeft, IsFireBy}},
   zoned_time.specs.Fires.{left_of, usual_policy, AreFires, IsFire, RiseFrom},
 };

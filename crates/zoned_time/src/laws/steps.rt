@@ -1,9 +1,9 @@
 //! Theorems of the steps of the local clock: each function is empty, its contract is proved; never
 //! called.
+ghost use Rattle.std.specs.Prelude.{◌≡◌, ◌↔◌, ◌<ℤ◌, ◌≤ℤ◌, ◌+ℤ◌, ◌-ℤ◌, pos, ℤ};
 ghost use Rattle.{
   naive_base.specs.{Range.{IsInRange, IsWide}, Reading.{Reading}},
   naive_plans.specs.{ClockSteps.{BeginsStep}, Plans.{IsLastUntil, IsNextAfter}},
-  std.specs.Prelude.{◌≡◌, ◌↔◌, ◌<ℤ◌, ◌≤ℤ◌, ◌+ℤ◌, ◌-ℤ◌, pos, ℤ},
   zoned_time.specs.{Days.{midnight, IsFirstInstantFrom, IsFirstToReach, IsInDay}, Fires.{IsLastFire, IsNextFire}},
   zoned_time.specs.{Reached.{IsReachedAt}, StepBounds.{AreStepBounds}},
 };

@@ -1,7 +1,7 @@
 //! Where what the pieces of a file say is at fault.
 
+ghost use Rattle.std.specs.Prelude.{◌≡◌, length, MatchOption};
 ghost use Rattle.{
-  std.specs.Prelude.{◌≡◌, length, MatchOption},
   tz_info.specs.FileContents.{IndicatorsAgree},
   tz_info.specs.FilePlaces.{before_field, ArePartPlaces, AreTypes, IsContentPlace, IsFirstBelow, IsOtherPair},
   tz_info.specs.FilePlaces.{IsTypePlace},

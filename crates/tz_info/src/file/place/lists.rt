@@ -1,7 +1,7 @@
 //! Where lists that make no zone are at fault.
 
+ghost use Rattle.std.specs.Prelude.{◌≡◌, ◌↔◌, ◌<◌, IsTrue};
 ghost use Rattle.{
-  std.specs.Prelude.{◌≡◌, ◌↔◌, ◌<◌, IsTrue},
   tz_info.specs.FilePlaces.{leap_at, time_at, ArePartPlaces, IsListPlace, IsNotLater, IsOtherIndex, IsOtherLeap},
   tz_info.specs.Steps.{FileLists.{pieces_of, HasLengths}, Places.{Finds}},
 };

@@ -1,8 +1,8 @@
 //! The offsets and the times of day of a TZ string: `hh[:mm[:ss]]` with a sign or without.
 
+ghost use Rattle.std.specs.Prelude.{◌≡◌, ◌≤◌, IfOk};
 ghost use Rattle.{
   offset_core.specs.Offset.{IsWithinDay},
-  std.specs.Prelude.{◌≡◌, ◌≤◌, IfOk},
   tz_base.specs.{Fronts.{Gives}, Grammar.{checked, read, IsRead}, Refusals.{InvalidTzString}},
   tz_info.specs.Rules.{IsWithinWeek},
   tz_info.specs.TzGrammar.{signed_seconds, time_sign, are_within, duration, offset, optional_minutes, optional_time},

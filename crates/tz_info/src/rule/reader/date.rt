@@ -1,7 +1,7 @@
 //! The days of a TZ string: a date, and a time of that day.
 
+ghost use Rattle.std.specs.Prelude.{◌≡◌, IfOk};
 ghost use Rattle.{
-  std.specs.Prelude.{◌≡◌, IfOk},
   tz_base.specs.Grammar.{IsRead, Number},
   tz_info.specs.{Rules.{IsWithinWeek}, Steps.Spelled.{day_time_of}},
   tz_info.specs.TzGrammar.{date, day, julian_date, month_date, numbered_day, place_of_day},

@@ -1,7 +1,7 @@
 //! The names of a TZ string: letters, or any bytes between `<` and `>`.
 
+ghost use Rattle.std.specs.Prelude.{◌≡◌, ◌==◌};
 ghost use Rattle.{
-  std.specs.Prelude.{◌≡◌, ◌==◌},
   tz_base.specs.{Fronts.{after_run, run_of}, Grammar.{IsRead}},
   tz_info.specs.TzGrammar.{greater, is_letter, is_not_greater, name},
 };

@@ -1,8 +1,8 @@
 //! The whole of a TZ string.
 
+ghost use Rattle.std.specs.Prelude.{◌≡◌, ◌+ℤ◌, int_le, pos, IfOk};
 ghost use Rattle.{
   offset_core.specs.Offset.{IsWithinDay},
-  std.specs.Prelude.{◌≡◌, ◌+ℤ◌, int_le, pos, IfOk},
   tz_base.specs.{Fronts.{Gives}, Grammar.{checked, is_end, IsRead}, Names.{expected_of_name, is_name}},
   tz_base.specs.Refusals.{InvalidTzString, LocalTimeType as BadType},
   tz_info.specs.{Rules.{IsWithinWeek}, Steps.Spelled.{day_time_of, rule_of, IsSpelled}},

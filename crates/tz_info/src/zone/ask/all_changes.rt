@@ -1,7 +1,7 @@
 //! All changes of a stretch of time, from both ends.
 
+ghost use Rattle.std.specs.{Iterator.{item_count, YieldsFirst, YieldsLast}, Prelude.{◌↔◌, ◌<ℤ◌, ◌≤ℤ◌, ℤ}};
 ghost use Rattle.{
-  std.specs.{Iterator.{item_count, YieldsFirst, YieldsLast}, Prelude.{◌↔◌, ◌<ℤ◌, ◌≤ℤ◌, ℤ}},
   tz_info.specs.{Changes.{AreChanges, IsNearest}, Zones.{IsRuleOrNone, IsValid, TypeAt}, ChangesLeft.{changes_left}},
   tz_info.specs.{Leaps.{least_time}, Steps.Changes.{IsInStretch}},
 };

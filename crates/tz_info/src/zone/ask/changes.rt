@@ -3,8 +3,8 @@
 //! Before the last transition only an entry of the change table can change the type, and each does.
 //! After it only the rule can. What the last transition itself changes is asked.
 
+ghost use Rattle.std.specs.Prelude.{◌≡◌, ◌≢◌, ◌<◌, ◌≤◌, ◌<ℤ◌, ◌≤ℤ◌, length, neg_ℤ, option_map, pos, MatchOption};
 ghost use Rattle.{
-  std.specs.Prelude.{◌≡◌, ◌≢◌, ◌<◌, ◌≤◌, ◌<ℤ◌, ◌≤ℤ◌, length, neg_ℤ, option_map, pos, MatchOption},
   tz_info.specs.{Changes.{IsFirst, IsLast, IsNearest}, HeldChanges.{change_held}, Rules.{Alternate as AlternateRule}},
   tz_info.specs.Steps.Changes.{count_ahead, place_ahead, IsAhead, IsBegin, IsChangeAt, IsChangeByRule, IsInTable},
   tz_info.specs.Steps.Entries.{entry_time, AreEntries},
@@ -147,8 +147,7 @@ impl TimeZone {
         self.previous_change_near(before_or_at, &mut usize::MAX)
     }
 
-    // The same, without a search of the table if `near` of its entries have come by that second. Then as
-    // many as have come are near.
+    // The same, with `near` as `next_change_near` takes it.
     #[inline(always)]
     pub(super) fn previous_change_near(
         &self,

@@ -1,8 +1,8 @@
 //! The differences of two zones: the stretches of time in which they have different local time
 //! types.
 
+ghost use Rattle.std.specs.Prelude.{◌≡◌, ◌<ℤ◌, MatchResult};
 ghost use Rattle.{
-  std.specs.Prelude.{◌≡◌, ◌<ℤ◌, MatchResult},
   tz_info.specs.{Differences.{AreDifferences}, Steps.Differences.{IsListedIf, IsPairUntil}, Leaps.{IsNear}},
   tz_info.specs.Zones.{TypeAt},
 };

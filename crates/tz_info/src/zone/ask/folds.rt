@@ -1,9 +1,9 @@
 //! The clock change of a local time: the one that skips it, or the one that sets clocks back over it.
 
+ghost use Rattle.std.specs.Prelude.{◌↔◌, ◌≤ℤ◌, ◌+ℤ◌, IsTrue, MatchOption};
 ghost use Rattle.{
   naive_base.specs.NaiveDateTime.{reading},
   offset_core.specs.WallAnswer.{IsShownOnce},
-  std.specs.Prelude.{◌↔◌, ◌≤ℤ◌, ◌+ℤ◌, IsTrue, MatchOption},
   tz_base.specs.LocalTypes.{LocalType},
   tz_info.specs.{Folds.{HasFold, SkipsOrRepeats}, Steps.{Folds.{AreEndsOfFold}, Runs.{IsEnd}}, Leaps.{IsNear}},
   tz_info.specs.{WallClocks.{Shows}, Zones.{TypeAt}},

@@ -1,9 +1,7 @@
 //! Leap times of Unix times, and Unix times of leap times.
 
-ghost use Rattle.{
-  std.specs.Prelude.{◌≡◌, MatchResult},
-  tz_info.specs.Leaps.{expected_of_leap_time, IsLeapTime, IsLeapTimeRefused, IsUnixTime, IsUnixTimeRefused},
-};
+ghost use Rattle.std.specs.Prelude.{◌≡◌, MatchResult};
+ghost use Rattle.tz_info.specs.Leaps.{expected_of_leap_time, IsLeapTime, IsLeapTimeRefused, IsUnixTime, IsUnixTimeRefused};
 
 use crate::zone::lists::leap_time::unix_time;
 use crate::zone::time_zone::TimeZone;

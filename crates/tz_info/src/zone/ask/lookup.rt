@@ -1,10 +1,9 @@
 //! The type in force at an instant, and the reads that several lookups share.
 
+ghost use Rattle.std.specs.Prelude.{◌≡◌, ◌↔◌, ◌<◌, ◌≤◌, ◌+◌, ◌^◌, length, slice_index_or, take, IfOk, IfSome, IsTrue, MatchOption, MatchResult};
 ghost use Rattle.{
   naive_base.specs.Range.{IsWide},
   offset_core.specs.WallAnswer.{IsShownOnce},
-  std.specs.Prelude.{◌≡◌, ◌↔◌, ◌<◌, ◌≤◌, ◌+◌, ◌^◌, length, slice_index_or, take, IfOk, IfSome, IsTrue, MatchOption},
-  std.specs.Prelude.{MatchResult},
   tz_info.specs.{Counts.{HasRoom, HasRoomFor, RoseWithin}, Digits.{digits}},
   tz_info.specs.Steps.{Starts.{leap_time_at}, Entries.{HaveComeAt}, Asked.{IsAskedAtLeapTime}},
   tz_info.specs.{HeldChanges.{span_held}, Looks.{RoseByInstant}, Leaps.{IsLeapTime, IsLeapTimeRefused, IsNear}},

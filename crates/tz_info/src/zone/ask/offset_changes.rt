@@ -1,7 +1,7 @@
 //! Changes of the offset: the clock changes at which not only the DST flag or the abbreviation changes.
 
+ghost use Rattle.std.specs.Prelude.{◌≡◌, ◌↔◌, ◌<ℤ◌, ◌≤ℤ◌, IsTrue};
 ghost use Rattle.{
-  std.specs.Prelude.{◌≡◌, ◌↔◌, ◌<ℤ◌, ◌≤ℤ◌, IsTrue},
   tz_info.specs.{OffsetChanges.{IsFirstOfOffset, IsLastOfOffset, KeepsOffset}, HeldChanges.{change_held}},
   tz_info.specs.Zones.{TypeAt},
 };

@@ -1,7 +1,7 @@
 //! Stretches of seconds at which one offset is in force.
 
+ghost use Rattle.std.specs.Prelude.{◌≡◌, ◌⊎◌, ◌≤ℤ◌, ◌<ℤ◌, ℤ, pos, IfSome, MatchOption};
 ghost use Rattle.{
-  std.specs.Prelude.{◌≡◌, ◌⊎◌, ◌≤ℤ◌, ◌<ℤ◌, ℤ, pos, IfSome, MatchOption},
   tz_base.specs.LocalTypes.{LocalType},
   tz_info.specs.Zones.{TypeAt, IsTypeRefused},
 };

@@ -1,8 +1,8 @@
 //! The last local time that clocks have shown up to a second.
 
+ghost use Rattle.std.specs.Prelude.{◌+◌, length};
 ghost use Rattle.{
   naive_base.specs.{NaiveDateTime.{reading}, Range.{IsWide}},
-  std.specs.Prelude.{◌+◌, length},
   tz_info.specs.{Counts.{HasRoom, RoseWithin}, Digits.{digits}, Reached.{IsLastReached}, Zones.{TypeAt}},
 };
 

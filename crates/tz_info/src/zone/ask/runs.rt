@@ -1,7 +1,7 @@
 //! Runs: of a stretch of time, the seconds of one span of the zone.
 
+ghost use Rattle.std.specs.Prelude.{◌↔◌, ◌<ℤ◌, ◌≤ℤ◌, ℤ, true, false};
 ghost use Rattle.{
-  std.specs.Prelude.{◌↔◌, ◌<ℤ◌, ◌≤ℤ◌, ℤ, true, false},
   tz_info.specs.{HeldChanges.{span_held}, Leaps.{IsNear}, Zones.{TypeAt}, Spans.{IsSince, IsSpanAt, IsUntil}},
   tz_info.specs.Steps.Runs.{IsEndOfRun},
 };

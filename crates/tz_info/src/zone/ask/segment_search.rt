@@ -1,8 +1,8 @@
 //! The search for the first segment in which clocks show a local time or a later one.
 
+ghost use Rattle.std.specs.Prelude.{◌≡◌, ◌↔◌, ◌<◌, ◌≤◌, length, IsTrue};
 ghost use Rattle.{
   naive_base.specs.Range.{IsWide},
-  std.specs.Prelude.{◌≡◌, ◌↔◌, ◌<◌, ◌≤◌, length, IsTrue},
   tz_info.specs.Counts.{HasRoom, HasRoomFor, RoseWithin},
   tz_info.specs.Steps.Segments.{begin_of, index_of},
   tz_info.specs.Steps.SegmentEnds.{end_of, AreEnds, IsFirstOf, IsFirstSegment, IsLatestEnd, IsReached},

@@ -1,9 +1,9 @@
 //! When clocks show certain local times: the first and the last second of a day or of any other
 //! stretch of local time, and the first second at or after a local time.
 
+ghost use Rattle.std.specs.Prelude.{◌≡◌, ◌*◌, ◌<ℤ◌, ◌+ℤ◌, ◌-ℤ◌, ◌*ℤ◌, if◌then◌else◌, length, pos, MatchOption};
 ghost use Rattle.{
   naive_base.specs.{NaiveDate.{day_of}, NaiveDateTime.{reading}, Range.{IsWide}},
-  std.specs.Prelude.{◌≡◌, ◌*◌, ◌<ℤ◌, ◌+ℤ◌, ◌-ℤ◌, ◌*ℤ◌, if◌then◌else◌, length, pos, MatchOption},
   tz_info.specs.{Counts.{HasRoom, RoseWithin}, Leaps.{IsNear}, Zones.{TypeAt}, Digits.{digits}},
   tz_info.specs.ShownSeconds.{AreShownWithin, IsFirstAtOrAfter, IsNeverWithin},
   tz_info.specs.Steps.Runs.{AreWithin, HaveOneTypeFrom, IsEnd, IsEndOfRun, IsEndWithin, IsNextRun},

@@ -45,8 +45,7 @@ impl TimeZone {
         self.span_near(unix_time, &mut usize::MAX)
     }
 
-    // The same, without a search of the table if `near` of its entries have come by that second. Then as
-    // many as have come are near.
+    // The same, with `near` as `next_change_near` takes it.
     #[inline(always)]
     pub(super) fn span_near(&self, unix_time: i64, near: &mut usize) -> Result<HeldSpan<'_>, Error>
         ensures { MatchResult result (λ s. IsSpanAt (TypeAt self.now) unix_time (span_held s))
@@ -61,8 +60,7 @@ impl TimeZone {
         self.span_by_place(unix_time, near)
     }
 
-    // The same by the place between entries: a function of its own, since a zone without any needs no
-    // search.
+    // The same by the place between entries: not inlined, since a zone without any needs no search.
     #[inline(never)]
     fn span_by_place(&self, unix_time: i64, near: &mut usize) -> Result<HeldSpan<'_>, Error>
         ensures { MatchResult result (λ s. IsSpanAt (TypeAt self.now) unix_time (span_held s))
@@ -82,8 +80,7 @@ impl TimeZone {
         })
     }
 
-    // The same by a rule of two types, if the second lies between two of its changes: a function of
-    // its own, so that the other has few values to keep.
+    // The same by a rule of two types, if the second lies between two of its changes.
     #[inline(never)]
     fn span_from_last(&self, unix_time: i64) -> Result<HeldSpan<'_>, Error>
         ensures { MatchResult result (λ s. IsSpanAt (TypeAt self.now) unix_time (span_held s))

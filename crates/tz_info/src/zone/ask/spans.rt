@@ -1,7 +1,7 @@
 //! The spans of a zone, one after another.
 
+ghost use Rattle.std.specs.Prelude.{◌≡◌, option_map};
 ghost use Rattle.{
-  std.specs.Prelude.{◌≡◌, option_map},
   tz_info.specs.HeldChanges.{span_held},
   tz_info.specs.SpanSteps.{IsSpanIfAny, begin_of, end_of, spans_most, IsNextSpan, IsPlace, IsPreviousSpan},
   tz_info.specs.Zones.{TypeAt},

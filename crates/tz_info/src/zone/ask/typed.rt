@@ -1,7 +1,7 @@
 //! The seconds at which a zone has a type: all of them from the first one to the last one.
 
+ghost use Rattle.std.specs.Prelude.{◌↔◌, ◌<ℤ◌, ◌≤ℤ◌, ◌+ℤ◌, ◌-ℤ◌, option_map, pos, IsTrue, MatchOption};
 ghost use Rattle.{
-  std.specs.Prelude.{◌↔◌, ◌<ℤ◌, ◌≤ℤ◌, ◌+ℤ◌, ◌-ℤ◌, option_map, pos, IsTrue, MatchOption},
   tz_info.specs.HeldChanges.{change_held},
   tz_info.specs.Steps.Typed.{IsTypedUntil, IsBeginBy, IsEndBy, IsLastTyped, IsSearched, IsTyped, IsTypedFrom},
 };

@@ -1,10 +1,10 @@
 //! The walk: a wall clock by one search in the transitions, and from there on from segment to
 //! segment.
 
+ghost use Rattle.std.specs.{Prelude.{◌≡◌, ◌↔◌, ◌<◌, ◌≤◌, ◌+◌, length, IsTrue}, Result.{IsOkAnd}};
 ghost use Rattle.{
   naive_base.specs.{NaiveDateTime.{reading}, Range.{IsWide}},
   offset_core.specs.{LocalResult.{map_of}, WallAnswer.{IsWallAnswer}},
-  std.specs.{Prelude.{◌≡◌, ◌↔◌, ◌<◌, ◌≤◌, ◌+◌, length, IsTrue}, Result.{IsOkAnd}},
   tz_info.specs.Counts.{HasRoom, HasRoomFor, RoseWithin},
   tz_info.specs.Steps.{Segments.{begin_of, index_of}, Walk.{IsCandidate, IsShownIn, IsTimeWithin, IsTried}},
   tz_info.specs.{Looks.{RoseByWalk}, WallClocks.{Shows}, Zones.{TypeAt}, Questions.{IsAskedFor}},

@@ -1,9 +1,9 @@
 //! The wall clock of a zone.
 
+ghost use Rattle.std.specs.{Prelude.{◌≡◌, ◌<◌, ◌+◌, ◌*◌, length, ⊤, MatchOption}, Result.{IsOkAnd}};
 ghost use Rattle.{
   naive_base.specs.{NaiveDateTime.{reading}, Range.{IsWide}},
   offset_core.specs.{LocalResult.{map_of}, WallAnswer.{IsWallAnswer}},
-  std.specs.{Prelude.{◌≡◌, ◌<◌, ◌+◌, ◌*◌, length, ⊤, MatchOption}, Result.{IsOkAnd}},
   tz_info.specs.Counts.{HasRoom, HasRoomFor, RoseByPieces, RoseWithin},
   tz_info.specs.Steps.{Seasons.{IsSeasonIn}, Walk.{IsShownIn}, Pieces.{AreBelow, AreListed}},
   tz_info.specs.Steps.WallPieces.{shown_indexes, IsTableAnswer},

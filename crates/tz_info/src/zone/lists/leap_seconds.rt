@@ -1,7 +1,7 @@
 //! The leap seconds of a zone, and which seconds have a leap time.
 
+ghost use Rattle.std.specs.Prelude.{◌≡◌, ◌↔◌, ◌≤ℤ◌, ◌+ℤ◌, ◌-ℤ◌, [], pos, IsFalse, IsTrue, MatchResult, ℤ};
 ghost use Rattle.{
-  std.specs.Prelude.{◌≡◌, ◌↔◌, ◌≤ℤ◌, ◌+ℤ◌, ◌-ℤ◌, [], pos, IsFalse, IsTrue, MatchResult, ℤ},
   tz_info.specs.Leaps.{correction_at, AreLeapSeconds, IsLeapTime, IsLeapTimeRefused},
   tz_info.specs.Steps.Starts.{IsLastWithLeapTime},
 };

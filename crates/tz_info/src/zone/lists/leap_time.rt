@@ -1,7 +1,7 @@
 //! How many leap seconds are passed, and Unix times of leap times.
 
+ghost use Rattle.std.specs.Prelude.{◌≡◌, ◌↔◌, ◌<◌, ◌≤◌, length, pos, take, IsTrue, MatchResult};
 ghost use Rattle.{
-  std.specs.Prelude.{◌≡◌, ◌↔◌, ◌<◌, ◌≤◌, length, pos, take, IsTrue, MatchResult},
   tz_info.specs.Leaps.{correction_before, corrections, expected_of_leap_time, passed_count, AreLeapSeconds, IsUnixTime},
   tz_info.specs.Leaps.{IsUnixTimeRefused},
   tz_info.specs.{Steps.Starts.{AreBefore}, Lists.{last_else}},

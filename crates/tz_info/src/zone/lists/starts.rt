@@ -1,10 +1,8 @@
 //! The first second at which a transition has come, and what a clock shows then.
 
-ghost use Rattle.{
-  std.specs.Int.{saturate_signed, w64},
-  std.specs.Prelude.{◌≡◌, ◌↔◌, ◌≤ℤ◌, ◌+ℤ◌, neg_ℤ, pos, ℤ, ◌<◌, ◌≤◌, ◌-◌, ◌<ℤ◌, length, slice_index_or, IsTrue},
-  tz_info.specs.{Leaps.{AreLeapSeconds, IsLeapTime}, Steps.Starts.{HaveCome}},
-};
+ghost use Rattle.std.specs.Int.{saturate_signed, w64};
+ghost use Rattle.std.specs.Prelude.{◌≡◌, ◌↔◌, ◌≤ℤ◌, ◌+ℤ◌, neg_ℤ, pos, ℤ, ◌<◌, ◌≤◌, ◌-◌, ◌<ℤ◌, length, slice_index_or, IsTrue};
+ghost use Rattle.tz_info.specs.{Leaps.{AreLeapSeconds, IsLeapTime}, Steps.Starts.{HaveCome}};
 
 use crate::zone::lists::leap_second::LeapSecond;
 use crate::zone::lists::leap_time::correction_after;

@@ -1,7 +1,7 @@
 //! The transitions of a zone. Each call that reads one of them counts a probe.
 
+ghost use Rattle.std.specs.Prelude.{◌≡◌, ◌<◌, ◌≤◌, ◌+◌, [], length, option_map, slice_index_or, take, MatchResult};
 ghost use Rattle.{
-  std.specs.Prelude.{◌≡◌, ◌<◌, ◌≤◌, ◌+◌, [], length, option_map, slice_index_or, take, MatchResult},
   tz_info.specs.{Counts.{HasRoomFor, RoseWithin}, Digits.{digits}, Transitions.{passed, AreRising}},
   tz_info.specs.Steps.{Entries.{IsEntryAt}, Search.{IsLastOf}},
 };

@@ -1,7 +1,7 @@
 //! Whether lists make a zone.
 
+ghost use Rattle.std.specs.Prelude.{◌↔◌, ◌<◌, ◌≤ℤ◌, ◌+ℤ◌, length, map, pos, All, IfSome, IsTrue, MatchResult};
 ghost use Rattle.{
-  std.specs.Prelude.{◌↔◌, ◌<◌, ◌≤ℤ◌, ◌+ℤ◌, length, map, pos, All, IfSome, IsTrue, MatchResult},
   tz_info.specs.{Leaps.{AreLeapSeconds, IsFirstLeap, IsNextLeap, IsOneStep}, Steps.Validity.{Stands}},
   tz_info.specs.{Transitions.{AreTransitions}, Zones.{last_transition, Agrees, IsValid, ListFault, Zone}},
 };

@@ -1,9 +1,9 @@
 //! A zone's transitions as one list of clock changes by Unix time, and how it is made.
 
+ghost use Rattle.std.specs.List.{slice_get};
+ghost use Rattle.std.specs.Prelude.{⊤, IsTrue, MatchOption, MatchResult, ◌≡◌, ◌↔◌, ◌<◌, ◌≤◌, ◌+◌, ◌-◌, [], length, option_map, pos};
+ghost use Rattle.std.specs.Prelude.{vec_capacity, vec_len};
 ghost use Rattle.{
-  std.specs.List.{slice_get},
-  std.specs.Prelude.{⊤, IsTrue, MatchOption, MatchResult, ◌≡◌, ◌↔◌, ◌<◌, ◌≤◌, ◌+◌, ◌-◌, [], length, option_map, pos},
-  std.specs.Prelude.{vec_capacity, vec_len},
   tz_info.specs.Steps.Entries.{last_index, AreBefore, AreEntries, EndsAt, IsAdded, IsStartIn, NeverComes},
   tz_info.specs.Steps.{Pieces.{zone_in}, WallPieces.{top_of, IsBegunNear}},
   tz_info.specs.{Transitions.{AreRising, NameTypes}, Zones.{IsValid}},

@@ -1,8 +1,8 @@
 //! The list of clock changes for lookups, which counts each probe.
 
+ghost use Rattle.std.specs.Prelude.{◌≡◌, ◌↔◌, ◌<◌, ◌≤◌, ◌+◌, ◌-◌, ◌^◌, ◌<ℤ◌, ◌≤ℤ◌, [], length, neg_ℤ, option_map, pos, IfSome, IsTrue};
+ghost use Rattle.std.specs.Prelude.{MatchOption, MatchResult};
 ghost use Rattle.{
-  std.specs.Prelude.{◌≡◌, ◌↔◌, ◌<◌, ◌≤◌, ◌+◌, ◌-◌, ◌^◌, ◌<ℤ◌, ◌≤ℤ◌, [], length, neg_ℤ, option_map, pos, IfSome, IsTrue},
-  std.specs.Prelude.{MatchOption, MatchResult},
   tz_info.specs.{Counts.{HasRoom, HasRoomFor, RoseWithin}, Digits.{digits}, HeldChanges.{change_held}},
   tz_info.specs.Steps.Entries.{entry_time, most_looks, IsBetween, IsCome, IsEntryAt, IsEntryChange},
   tz_info.specs.Steps.{Segments.{index_of}, Pieces.{IsJump, IsPlaced}, WallPieces.{top_of, IsBegun}},

@@ -1,7 +1,7 @@
 //! The least and the greatest offset of a zone.
 
+ghost use Rattle.std.specs.Prelude.{◌<◌, length};
 ghost use Rattle.{
-  std.specs.Prelude.{◌<◌, length},
   tz_info.specs.{RuleTypes.{IsRule}, Windows.{offsets}, Zones.{IsRuleOrNone}},
   tz_info.specs.Steps.Extremes.{offsets_of, AreExtremes, AreJoined, AreJoinedByRule},
 };

@@ -1,7 +1,7 @@
 //! A zone's index of the wall-clock axis.
 
+ghost use Rattle.std.specs.Prelude.{◌≡◌, ◌<◌, ◌≤◌, ◌-◌, ◌^◌, length, slice_index_or, MatchOption, MatchResult};
 ghost use Rattle.{
-  std.specs.Prelude.{◌≡◌, ◌<◌, ◌≤◌, ◌-◌, ◌^◌, length, slice_index_or, MatchOption, MatchResult},
   tz_info.specs.Counts.{HasRoomFor, RoseByPieces, RoseWithin},
   tz_info.specs.Steps.{Entries.{most_looks, AreEntries}, Pieces.{zone_in, ArePieces}},
   tz_info.specs.Steps.{WallPieces.{answer_at, top_of, IsCounted, IsIndex}, SegmentEnds.{AreEnds}},

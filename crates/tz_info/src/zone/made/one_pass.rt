@@ -1,7 +1,7 @@
 //! The pieces of a zone's table in one pass over its entries, where their cuts come in order.
 
+ghost use Rattle.std.specs.Prelude.{◌≡◌, ◌<◌, ◌≤◌, ◌<ℤ◌, ◌≤ℤ◌, length, ⊤, IsFalse, IsTrue, MatchOption, MatchResult};
 ghost use Rattle.{
-  std.specs.Prelude.{◌≡◌, ◌<◌, ◌≤◌, ◌<ℤ◌, ◌≤ℤ◌, length, ⊤, IsFalse, IsTrue, MatchOption, MatchResult},
   tz_info.specs.Steps.{Pieces.{zone_in, AreCutsCrossed, ArePieces, ArePiecesAt}, SegmentEnds.{AreEndsRising}},
   tz_info.specs.Steps.WallPieces.{IsTable},
 };

@@ -1,7 +1,7 @@
 //! Pieces of the wall-clock axis: on each of them local times have one answer.
 
+ghost use Rattle.std.specs.Prelude.{◌≡◌, ◌<◌, ◌≤◌, ◌+◌, length, take, IsFalse, IsTrue, MatchResult};
 ghost use Rattle.{
-  std.specs.Prelude.{◌≡◌, ◌<◌, ◌≤◌, ◌+◌, length, take, IsFalse, IsTrue, MatchResult},
   tz_info.specs.Steps.{Merging.{IsMerged, IsNext, IsStep}, WallPieces.{answer_before, AreInOrder}},
   tz_info.specs.Steps.Shown.{HasGreatNumber},
 };

@@ -1,7 +1,7 @@
 //! The segments between entries, and the pieces of the wall-clock axis that they make.
 
+ghost use Rattle.std.specs.Prelude.{◌≡◌, ◌<◌, ◌≤◌, ◌+◌, length, MatchResult};
 ghost use Rattle.{
-  std.specs.Prelude.{◌≡◌, ◌<◌, ◌≤◌, ◌+◌, length, MatchResult},
   tz_info.specs.Steps.{Pieces.{cut_of, zone_in, ArePieces, IsSegment}, WallPieces.{IsTable}, Segments.{index_of}},
   tz_info.specs.Transitions.{NameTypes},
 };
