@@ -1,10 +1,11 @@
 -- New York's clocks from November 2020 to the end of 2021: the type at each second, and which seconds show a local time.
-use Rattle.std.proofs.{lemmas.Int.{fits_signed_from_abs}, Math.Bool.{beq}}
-use Rattle.tz_info.proofs.{AnswerLaws.{same_answer}, KindLaws.{margin_kept}, RuleDays.{rule_day_closed}, SeasonAnswers.{both_asked}, SeasonLaws.{season_made}}
+use Rattle.std.{proofs.lemmas.Int.{fits_signed_from_abs}, specs.Prelude.{if◌then◌else◌}}
+use Rattle.tz_info.proofs.{AnswerLaws.{same_answer}, KindLaws.{margin_kept}, RuleDays.{rule_day_closed}, SeasonLaws.{season_made}}
+use Rattle.tz_info.proofs.Candidates.{asked_both, asked_found, asked_other, dst_or_std}
 use Rattle.tz_info.proofs.ZoneLaws.{type_once}
-use Rattle.tz_info.proofs.Words.{Bool, IsWallAnswer, LocalType, RuleAt, Shows, TypeAt, TypeFrom, are_calm, arith, by_lt_z, closed_day, day_number}
-use Rattle.tz_info.proofs.Words.{days_of_months, end_in, false, ints, is_dst_by_one, joined, least_time, margin_of, moment, neg_ℤ, place_by, places_by_kind}
-use Rattle.tz_info.proofs.Words.{pos, refl, seconds_by_kind, shown_if, start_in, sym, true, type_when, w64, year_start, ℤ, ◌*ℤ◌, ◌+ℤ◌, ◌-ℤ◌, ◌<ℤ◌, ◌≡◌, ◌≤ℤ◌}
+use Rattle.tz_info.proofs.Words.{Bool, FitsSigned, IsAskedLast, IsWallAnswer, LocalType, RuleAt, Shows, TypeAt, TypeFrom, are_calm, arith, by_lt_z, closed_day, day_number}
+use Rattle.tz_info.proofs.Words.{days_of_months, end_in, false, ints, is_dst_by_one, joined, least_time, margin_of, moment, neg_ℤ, not, place_by, places_by_kind}
+use Rattle.tz_info.proofs.Words.{pos, refl, seconds_by_kind, start_in, sym, true, type_when, w64, year_start, ℤ, ◌*ℤ◌, ◌+ℤ◌, ◌-ℤ◌, ◌<ℤ◌, ◌≡◌, ◌≤ℤ◌}
 use Rattle.tz_info.proofs.Words.{◌⊎◌}
 use Rattle.tz_info.specs.{declared.rule.day.DayForm.TheVariants.{MonthWeekday}, Rules.{IsAlternateRule}}
 use Rattle.offset_core.specs.{WallAnswer.{IsNeverShown, IsShownBetween, IsShownOnce}, declared.local_result.LocalResult.{LocalResult}}
@@ -92,9 +93,29 @@ pub second_of : (l u : ℤ) (t : LocalType) → pos 1_604_210_400 ≤ℤ u → u
     → Shows (TypeAt new_york_zone) l u t → u ≡ l -ℤ (type_when new_york (is_summer u)).offset
 second_of l u t low high s = let e = rw (one_type u t low high s.type) at s.shown in omega (arith, ints, e)
 
+-- the answer of one second, which shows the local time or doesn't
+shown_if : Bool → LocalType → LocalResult LocalType
+shown_if b t = if b then Single t else None
+
 -- what shows a local time: the earlier second by daylight saving time, the later one by standard time
 abbrev pub shown : ℤ → LocalResult LocalType
-shown l = joined (shown_if (beq (is_summer (l -ℤ edt.offset)) true) edt) (shown_if (beq (is_summer (l -ℤ est.offset)) false) est)
+shown l = joined (shown_if (is_summer (l -ℤ edt.offset)) edt) (shown_if (not (is_summer (l -ℤ est.offset))) est)
+
+-- each of the two seconds was asked
+asked_first : (l : ℤ) (b : Bool) → FitsSigned w64 (l -ℤ edt.offset) → least_time ≤ℤ (l -ℤ edt.offset)
+    → RuleAt new_york_rule (l -ℤ edt.offset) (type_when new_york b)
+    → IsAskedLast (TypeFrom new_york_rule least_time) l edt.offset None (shown_if b edt)
+asked_first l true fits since at = asked_found new_york_rule least_time l edt.offset edt None fits since at refl
+asked_first l false fits since at = asked_other new_york_rule least_time l edt.offset est None at (λ e. omega (arith, e))
+
+joined_none : (one : LocalResult LocalType) → joined one None ≡ one
+joined_none one = grind arith
+
+asked_last : (l : ℤ) (one : LocalResult LocalType) (b : Bool) → FitsSigned w64 (l -ℤ est.offset) → least_time ≤ℤ (l -ℤ est.offset)
+    → RuleAt new_york_rule (l -ℤ est.offset) (type_when new_york b)
+    → IsAskedLast (TypeFrom new_york_rule least_time) l est.offset one (joined one (shown_if (not b) est))
+asked_last l one true fits since at = rw (joined_none one) (asked_other new_york_rule least_time l est.offset edt one at (λ e. omega (arith, e)))
+asked_last l one false fits since at = asked_found new_york_rule least_time l est.offset est one fits since at refl
 
 pub wall : (l : ℤ) → pos 1_604_196_000 ≤ℤ l → l <ℤ pos 1_641_150_000
     → IsWallAnswer (Shows (TypeAt new_york_zone) l) (shown l)
@@ -102,10 +123,11 @@ wall l low high =
     same_answer (Shows (TypeFrom new_york_rule least_time) l) (Shows (TypeAt new_york_zone) l) _
     (λ u t s. record { fits = s.fits; type = type_of_rule u t s.type.type; shown = s.shown })
     (λ u t s. record { fits = s.fits; shown = s.shown; type = record { type = s.type.in_force.from_last refl; since = let f = s.fits in omega (arith, ints) } })
-    (both_asked new_york l (λ e. omega (arith, ints, e)) least_time true (is_summer (l -ℤ edt.offset)) (is_summer (l -ℤ est.offset)) (omega (arith, ints))
-    (record { fits = fits_signed_from_abs w64 (l -ℤ edt.offset) (omega (arith, ints)); since = omega (arith, ints) })
-    (record { fits = fits_signed_from_abs w64 (l -ℤ est.offset) (omega (arith, ints)); since = omega (arith, ints) })
-    (rule_at (l -ℤ edt.offset) (omega (arith, ints)) (omega (arith, ints))) (rule_at (l -ℤ est.offset) (omega (arith, ints)) (omega (arith, ints))))
+    (asked_both (TypeFrom new_york_rule least_time) l edt.offset est.offset _ _ (omega arith) (λ u t s. dst_or_std new_york t least_time l u s)
+    (asked_first l (is_summer (l -ℤ edt.offset)) (fits_signed_from_abs w64 (l -ℤ edt.offset) (omega (arith, ints))) (omega (arith, ints))
+    (rule_at (l -ℤ edt.offset) (omega (arith, ints)) (omega (arith, ints))))
+    (asked_last l _ (is_summer (l -ℤ est.offset)) (fits_signed_from_abs w64 (l -ℤ est.offset) (omega (arith, ints))) (omega (arith, ints))
+    (rule_at (l -ℤ est.offset) (omega (arith, ints)) (omega (arith, ints)))))
 
 pub once : (l : ℤ) (t : LocalType) → shown l ≡ Single t → pos 1_604_196_000 ≤ℤ l → l <ℤ pos 1_641_150_000 → IsShownOnce (Shows (TypeAt new_york_zone) l) t
 once l t is low high = rw is at (wall l low high)

@@ -19,7 +19,7 @@ use Rattle.tz_info.proofs.{
 use Rattle.tz_info.specs.{
   Steps.AskedYears.{changes_in_year},
   Steps.ChangingYears.{are_apart, dst_near, flips_at, has_flip, is_changing, keys_of, moment_by, seconds_near, turns_in, year_key, years_near},
-  Steps.{Kinds.{ends_of, starts_of}, Turns.{dst_by}},
+  Steps.{Kinds.{ends_of, kind_place, starts_of}, Turns.{dst_by}},
 }
 
 -- ---- clocks change when daylight saving time begins or ends
@@ -168,9 +168,14 @@ module _ (a : Alternate) (rule : IsAlternateRule a) where
     pub none_of_one : (year : ℤ) → start_in a year ≡ end_in a year → HasNoneIn a year
     none_of_one year one d is of_year = no_turn a year _ (calm_tells year) d is of_year (never_dst _ _ _ _ one)
 
-  apart_by_kind : (year : ℤ) → let two = are_apart (moment_by (starts_of a) year) (moment_by (ends_of a) year) in
+  apart_by_kind : (year : ℤ) → let kind = kind_place year in
+      let two = are_apart (get_or (starts_of a) kind (pos 0)) (get_or (ends_of a) kind (pos 0)) in
       (two ≡ false → start_in a year ≡ end_in a year) × (two ≡ true → start_in a year ≢ end_in a year)
-  apart_by_kind year = rw (by_kind a.start _ _ rule.start_day, by_kind a.end _ _ rule.end_day) (apart (start_in a year) (end_in a year))
+  apart_by_kind year =
+      let start = by_kind a.start a.std.offset year rule.start_day in
+      let end = by_kind a.end a.dst.offset year rule.end_day in
+      let (one, two) = apart (get_or (starts_of a) (kind_place year) (pos 0)) (get_or (ends_of a) (kind_place year) (pos 0)) in
+      (λ h. let same = one h in omega linear, λ h same. two h (omega linear))
 
   none_by : (year : ℤ) (calm : Bool) → are_calm (starts_of a) (ends_of a) ≡ calm → is_changing (starts_of a) (ends_of a) calm year ≡ false → HasNoneIn a year
   unfolding moments_near

@@ -6,7 +6,7 @@ use Rattle.tz_info.proofs.{
   SegmentLaws.{segment_most, split_at, split_count},
   TableSearch.{search_found},
   Words.{AreLeapSeconds, AreRising, Bool, Change, Counts, HasNoChange, HasType, IsAhead, IsBeforeLast, IsChange, IsInTable, IsLastOf, IsLeapTime},
-  Words.{IsNear, IsNearestChange, IsSpanAt, IsTrue, IsValid, LeapSecond, List, LocalType, MatchOption, None, Option, Precedes, RoseWithin, SFits},
+  Words.{IsNear, IsNearest, IsNearestChange, IsSpanAt, IsTrue, IsValid, LeapSecond, List, LocalType, MatchOption, None, Option, Precedes, RoseWithin, SFits},
   Words.{Some, Transition, TypeAt, Zone, arith, begin_of, cases_lt, correction_at, digits, digits-le, digits-more, false, get_or, index_at, index_of},
   Words.{inl, inr, leap_time_at, length, length-take, linear, passed, pos, refl, segment_of, slice_get, suc, sym, take, true, w64, zero, ℕ, ℤ, ◌+ℤ◌},
   Words.{◌+◌, ◌-ℤ◌, ◌-◌, ◌<ℤ◌, ◌<◌, ◌==◌, ◌↔◌, ◌∙◌, ◌≡◌, ◌≤ℤ◌, ◌≤◌},
@@ -15,7 +15,7 @@ use Rattle.tz_info.proofs.{
 }
 use Rattle.tz_info.specs.{
   Steps.Entries.{AreEntries, Entries, HaveComeAt, IsBetween, IsCome, IsEntryChange, entry_time, last_index, most_looks},
-  Steps.Changes.{IsChangeAt, count_ahead, place_ahead},
+  Steps.Changes.{IsAheadChange, IsChangeWith, count_ahead, place_ahead},
   declared.zone.made.change_table.{Between.{Between}, Come.{Come}},
 }
 
@@ -101,7 +101,7 @@ IsLeftAt true len left place = len ≤ place + left
 IsLeftAt false len left place = place < left
 
 -- of the entries ahead of the second that many are left, and each change ahead comes with one of them
-pub record AreLeft (z : Zone) (e : Entries) (w : Bool) (s : ℤ) (left : ℕ) : Type 0 where
+record AreLeft (z : Zone) (e : Entries) (w : Bool) (s : ℤ) (left : ℕ) : Type 0 where
   pub most : left ≤ count_ahead w (length e.items) (count_at e s)
   pub each : (j : ℕ) (d : Change) → j < length e.items → IsChange (TypeAt z) d → time_at e j ≡ d.at → IsAhead w s d.at → IsLeftAt w (length e.items) left j
 
@@ -192,10 +192,9 @@ module _ (z : Zone) (e : Entries) (valid : IsValid z) (made : AreEntries z e) wh
       → IsNearestChange w (TypeAt z) (IsInTable z (IsAhead w s)) c
   found w s k c h is at ahead near = grind (linear, in_table, table_change)
 
-  pub with_entry : (k : ℕ) (r : Option Change) → k < length e.items → k + 1 < e.all → IsEntryChange z.types e.items k r
-      → IsChangeAt (TypeAt z) (time_at e k) r
-  with_entry k None h more least = grind linear
-  with_entry k (Some c) h more is = grind (linear, entry_change)
+  pub with_entry : (k : ℕ) (r : Option Change) → k < length e.items → k + 1 < e.all → IsEntryChange z.types e.items k r → IsChangeWith z e k r
+  with_entry k None h more least = record { change = grind linear; none = λ _. inr least }
+  with_entry k (Some c) h more is = record { change = grind (linear, entry_change); none = λ e. grind arith }
 
   -- the entries ahead of the second
   ahead_by : (w : Bool) (s : ℤ) (j : ℕ) → j < length e.items
@@ -203,19 +202,18 @@ module _ (z : Zone) (e : Entries) (valid : IsValid z) (made : AreEntries z e) wh
   ahead_by true s j h = let r = come_by j s h in grind linear
   ahead_by false s j h = grind (linear, come_by)
 
-  pub left_first : (w : Bool) (s : ℤ) (left : ℕ) → left ≡ count_ahead w (length e.items) (count_at e s) → AreLeft z e w s left
+  left_first : (w : Bool) (s : ℤ) (left : ℕ) → left ≡ count_ahead w (length e.items) (count_at e s) → AreLeft z e w s left
   left_first w s left is = grind (linear, ahead_by)
 
-  pub left_none : (w : Bool) (s : ℤ) → AreLeft z e w s 0 → HasNoChange (TypeAt z) (IsInTable z (IsAhead w s))
+  left_none : (w : Bool) (s : ℤ) → AreLeft z e w s 0 → HasNoChange (TypeAt z) (IsInTable z (IsAhead w s))
   left_none true s left = grind (linear, table_change)
   left_none false s left = grind (linear, table_change)
 
-  pub left_less : (w : Bool) (s : ℤ) (left place : ℕ) → AreLeft z e w s left → place ≡ place_ahead w (length e.items) left
-      → HasNoChange (TypeAt z) (λ u. u ≡ time_at e place) → AreLeft z e w s (left - 1)
-  left_less true s left place l is none = grind linear
-  left_less false s left place l is none = grind linear
+  left_less : (w : Bool) (s : ℤ) (left : ℕ) → AreLeft z e w s left → IsAheadChange z e w left None → AreLeft z e w s (left - 1)
+  left_less true s left l none = grind linear
+  left_less false s left l none = grind linear
 
-  pub left_found : (w : Bool) (s : ℤ) (left place : ℕ) (c : Change) → AreLeft z e w s left → 0 < left → place ≡ place_ahead w (length e.items) left
+  left_found : (w : Bool) (s : ℤ) (left place : ℕ) (c : Change) → AreLeft z e w s left → 0 < left → place ≡ place_ahead w (length e.items) left
       → IsChange (TypeAt z) c → c.at ≡ time_at e place → IsNearestChange w (TypeAt z) (IsInTable z (IsAhead w s)) c
   left_found true s left place c l some is change at =
       let first = ahead_by true s place (omega arith) in
@@ -228,6 +226,44 @@ module _ (z : Zone) (e : Entries) (valid : IsValid z) (made : AreEntries z e) wh
       found false s place c (omega arith) change at (grind linear) (λ j d below is_d time ahead.
       let r = not_later e.items j place any made.rising in
       grind linear)
+
+  found_with : (w : Bool) (s : ℤ) (left : ℕ) (c : Change) → AreLeft z e w s left → IsAheadChange z e w left (Some c)
+      → IsNearestChange w (TypeAt z) (IsInTable z (IsAhead w s)) c
+  found_with w s zero c l one = grind arith
+  found_with w s (suc n) c l one =
+      let (change, at) = (one.1 (omega arith)).change in
+      left_found w s (suc n) (place_ahead w (length e.items) (suc n)) c l (omega arith) refl change at
+
+  -- no more than two entries are asked
+  few_left : (w : Bool) (s : ℤ) (left : ℕ) → SFits w64 s → left ≡ count_ahead w (length e.items) (count_at e s) → IsAheadChange z e w left None
+      → IsAheadChange z e w (left - 1) None → AreLeft z e w s (left - 1 - 1) → HasNoChange (TypeAt z) (IsInTable z (IsAhead w s))
+  few_left true s zero fits is one two l = left_none true s l
+  few_left true s (suc n) fits is one two l = elim ((one.1 (omega arith)).none refl) [
+    | inl last ↦ let none : suc n - 1 - 1 ≡ 0 = grind (linear, made.more) in left_none true s (rw none at l)
+    | inr least ↦ let first = ahead_by true s (length e.items - suc n) (omega arith) in absurd (grind linear)
+  ]
+  few_left false s zero fits is one two l = left_none false s l
+  few_left false s (suc zero) fits is one two l = left_none false s l
+  few_left false s (suc (suc n)) fits is one two l = elim ((two.1 (omega arith)).none refl) [
+    | inl last ↦ let most = place_most e.items s made.rising in let more = made.more in absurd (omega arith)
+    | inr least ↦ λ d change inside.
+        let (k, below, time) = table_change d change inside.table in
+        let before = l.each k d below change time inside.inside in
+        let most = place_most e.items s made.rising in
+        let rise = not_later e.items k n any made.rising (omega arith) (omega arith) in
+        let fits = change.fits_before in
+        absurd (grind linear)
+  ]
+
+  pub first_found : (w : Bool) (s : ℤ) (left : ℕ) (c : Change) → left ≡ count_ahead w (length e.items) (count_at e s)
+      → IsAheadChange z e w left (Some c) → IsNearestChange w (TypeAt z) (IsInTable z (IsAhead w s)) c
+  first_found w s left c is one = found_with w s left c (left_first w s left is) one
+
+  pub second_found : (w : Bool) (s : ℤ) (left : ℕ) (r : Option Change) → SFits w64 s → left ≡ count_ahead w (length e.items) (count_at e s)
+      → IsAheadChange z e w left None → IsAheadChange z e w (left - 1) r → IsNearest w (TypeAt z) (IsInTable z (IsAhead w s)) r
+  second_found w s left (Some c) fits is none two = found_with w s (left - 1) c (left_less w s left (left_first w s left is) none) two
+  second_found w s left None fits is none two =
+      few_left w s left fits is none two (left_less w s (left - 1) (left_less w s left (left_first w s left is) none) two)
 
 -- ---- between two entries
 pub index_below : (z : Zone) (e : Entries) (k : ℕ) → IsValid z → AreEntries z e → k ≤ length e.items → index_of e.items k < length z.types

@@ -88,7 +88,7 @@ pub use Rattle.tz_info.specs.{
   Rules.{Alternate, IsAlternateRule, IsWithinWeek},
   ShownSeconds.{AreEndsWithin, AreShownWithin, IsFirstAtOrAfter, IsNeverWithin, ShowsAtOrAfter, ShowsWithin},
   Spans.{IsInSpan, IsOutOfForce, IsSince, IsSpan, IsSpanAt, IsUntil},
-  Steps.{Answers.{joined, shown_if}, Asked.IsAskedAtLeapTime},
+  Steps.{Answers.{joined}, Asked.IsAskedAtLeapTime},
   Steps.{AskedYears.{AreFrom, HasNoneBeyond, IsCalmRule, IsNextChanging, IsYearNear, changes_in_year, turn_of}, Below.all_below},
   Steps.Beside.{IsNearestMomentOf, IsSecondOfNearest},
   Steps.ChangeLists.{all_fit, change_between, change_here, changes_in, is_second, rule_type, rule_type_or},

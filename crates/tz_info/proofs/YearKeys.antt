@@ -1,5 +1,5 @@
 -- Years of one key have changes at the same places.
-use Rattle.std.proofs.{Math.Dec.eqb, lemmas.Bool.eqb-true}
+use Rattle.std.{proofs.{Math.Dec.eqb, lemmas.Bool.eqb-true}, specs.Prelude.{◌+◌, ◌/◌, ◌%◌, if◌then◌else◌}}
 use Rattle.tz_info.proofs.{
   ListLaws.one_true,
   Words.{Bool, IsRuleYear, List, SFits, all_below, ap, arith, false, floor_div, floor_mod, floor_mod_parts, floors, get_or, int_le, int_lt, is_leap},
@@ -78,6 +78,17 @@ leaps_alike x y e =
 leap_places : (x y : ℤ) → year_key x ≡ year_key y → (leap_place x ≡ leap_place y) × (weekday_of (year_start x) ≡ weekday_of (year_start y))
 leap_places x y e = grind arith
 
+second_place : (b : Bool) (p : ℕ) → b ≡ eqb 1 p → eqb p 1 ≡ b
+second_place b p e = grind arith
+
+pub kind_by_key : (year : ℤ) (key : ℕ) → year_key year ≡ key → (if eqb (key / 7) 1 then 7 else 0) + key % 7 ≡ kind_place year
+kind_by_key year key e =
+    let leap = second_place _ _ (solo_at _ _ _ _ (leaps_solo year)).1 in
+    let below = weekday_below (year_start year) in
+    let place : key / 7 ≡ leap_place year = omega (arith, e, below) in
+    let weekday : key % 7 ≡ weekday_of (year_start year) = omega (arith, e, below) in
+    rw (place, weekday, leap) refl
+
 -- the one year's days are those of the other one, whole weeks later
 weeks : (s t : ℤ) → weekday_of s ≡ weekday_of t → (q : ℤ) × (t ≡ s +ℤ pos 7 *ℤ q)
 weeks s t e =
@@ -125,8 +136,7 @@ module _ (x y q : ℤ) (leaps : LeapsAlike x y) (start : year_start y ≡ year_s
       rw (a, b, c, d, day_later _ _ q start, day_later _ _ q after)
 
   by_calm : (starts ends : List ℤ) (calm : Bool) → is_changing starts ends calm y ≡ is_changing starts ends calm x
-  by_calm starts ends true = let s = moment_moved x y q leaps.here start starts in
-      let e = moment_moved x y q leaps.here start ends in rw (s, e, lt_later _ _ _, lt_later _ _ _)
+  by_calm starts ends true = rw (kind_same x y q leaps.here start) refl
   by_calm starts ends false = ap (λ n. has_flip n) (near_alike _ _)
       ∙ has_moved _ _
 

@@ -1,5 +1,4 @@
 -- Answers of wall clocks, joined.
-use Rattle.std.specs.Prelude.{Bool, if◌then◌else◌}
 use Rattle.offset_core.specs.declared.local_result.LocalResult.{LocalResult, TheVariants.{None, Single, Ambiguous}}
 
 -- of two answers, the first of which is that of earlier seconds, the answer of all the seconds
@@ -11,7 +10,3 @@ joined (Single s) (Ambiguous t w) = Ambiguous s w
 joined (Ambiguous s v) None = Ambiguous s v
 joined (Ambiguous s v) (Single t) = Ambiguous s t
 joined (Ambiguous s v) (Ambiguous t w) = Ambiguous s w
-
--- the answer of one second, which shows the local time or doesn't
-abbrev pub shown_if : {T : Type 0} → Bool → T → LocalResult T
-shown_if b t = if b then Single t else None

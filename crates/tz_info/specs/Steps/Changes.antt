@@ -1,12 +1,12 @@
 -- The way to the next and to the previous change.
 use Rattle.std.specs.Prelude.{ℕ, ◌<◌, length, neg_ℤ, List, [], ◌∷◌, slice_index_or, ℤ, pos, ◌+ℤ◌, ◌-ℤ◌, ◌*ℤ◌, ◌≤ℤ◌, ◌<ℤ◌, ◌↔◌, ◌≡◌, ◌-◌, MatchOption, Option}
-use Rattle.std.specs.Prelude.{Some, None, Bool, true, false, FitsSigned, if◌then◌else◌, int_lt}
+use Rattle.std.specs.Prelude.{Some, None, Bool, true, false, FitsSigned, if◌then◌else◌, int_lt, ◌+◌, ◌≤◌, ◌⊎◌}
 use Rattle.std.specs.Int.{w64}
 use Rattle.{
   naive_base.specs.Year.{year_start},
   tz_base.specs.{LocalTypes.{LocalType}, declared.change.Change.{Change}},
-  tz_info.specs.{Changes.{HasNoChange, IsChange}, Leaps.{IsLeapTime}, Moments.{IsRuleTime, IsYearOf, start_in, end_in}, Rules.{Alternate}},
-  tz_info.specs.{Steps.Segments.{segment_of}, Zones.{Zone, IsFromLast}},
+  tz_info.specs.{Changes.{HasNoChange, IsChange}, Leaps.{IsLeapTime, least_time}, Moments.{IsRuleTime, IsYearOf, start_in, end_in}, Rules.{Alternate}},
+  tz_info.specs.{Steps.{Entries.{Entries, entry_time}, Segments.{segment_of}}, Zones.{Zone, IsFromLast, TypeAt}},
 }
 
 -- the first second of the year
@@ -72,6 +72,15 @@ place_ahead false len left = left - 1
 -- the change at the second, if one comes there
 abbrev pub IsChangeAt : (ℤ → LocalType → Type 0) → ℤ → Option Change → Type 0
 IsChangeAt in_force second found = MatchOption found (HasNoChange in_force (λ u. u ≡ second)) (λ c. IsChange in_force c × (c.at ≡ second))
+
+-- the change that comes with the entry at that place; if none does, it is the entry of the last transition, or comes at the least second of 64 bits
+pub record IsChangeWith (z : Zone) (e : Entries) (place : ℕ) (found : Option Change) : Type 0 where
+  pub change : IsChangeAt (TypeAt z) (entry_time e.items place) found
+  pub none : found ≡ None → (e.all ≤ place + 1) ⊎ (entry_time e.items place ≡ least_time)
+
+-- that of the nearest entry ahead, if `left` of them are
+abbrev pub IsAheadChange : Zone → Entries → Bool → ℕ → Option Change → Type 0
+IsAheadChange z e forward left found = (left ≡ 0 → found ≡ None) × (0 < left → IsChangeWith z e (place_ahead forward (length e.items) left) found)
 
 -- the end of the stretch at which it begins in that direction
 abbrev pub near_end : Bool → ℤ → ℤ → ℤ

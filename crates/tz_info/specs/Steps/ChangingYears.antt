@@ -71,7 +71,7 @@ are_apart x y = if int_lt x y then true else int_lt y x
 -- it begins or ends in the year. If all moments keep away from the ends of their year, that is so unless the year's two are one
 abbrev pub is_changing : List ℤ → List ℤ → Bool → ℤ → Bool
 is_changing starts ends calm year =
-    if calm then are_apart (moment_by starts year) (moment_by ends year)
+    if calm then are_apart (slice_index_or starts (kind_place year) (pos 0)) (slice_index_or ends (kind_place year) (pos 0))
     else has_flip (years_near (moment_by starts) (moment_by ends) year)
 
 -- the same in a year of each key

@@ -4,13 +4,13 @@
 //! four years is a leap year, of the year before it to the second one after it. It is found once for
 //! each of the 35 keys, when the rule is made.
 
-ghost use Rattle.std.specs.{List.{list_any}, Prelude.{◌≡◌, ◌<◌, ◌≤◌, ◌≤ℤ◌, neg_ℤ, pos}};
+ghost use Rattle.std.specs.{List.{list_any}, Prelude.{◌≡◌, ◌<◌, ◌≤◌, ◌≤ℤ◌, neg_ℤ, pos, ℤ}};
 ghost use Rattle.{
   tz_info.specs.Steps.ChangingYears.{changing_keys, dst_near, flips_at, has_flip, is_changing, key_years, leap_place},
-  tz_info.specs.Steps.ChangingYears.{moment_by, place_of, turns_in, year_key, years_near, AreWithinYears},
+  tz_info.specs.Steps.{ChangingYears.{moment_by, place_of, turns_in, year_key, years_near, AreWithinYears}, Kinds.{kind_place}},
 };
 
-use crate::rule::kinds::{are_calm, kind_of};
+use crate::rule::kinds::{are_calm, kind_by, kind_of};
 use crate::rule::moments::{Turns, is_dst_by_three};
 use gregorian::{is_leap_year, weekday_of, year_start};
 
@@ -67,6 +67,16 @@ fn place_of(a: bool, b: bool, c: bool, d: bool) -> u32
     }
 }
 
+// The kind of the years of that key: in a leap year it is the second of the four that is one.
+#[tactic(auto, using(crate::proofs::YearKeys::kind_by_key))]
+fn kind_of_key(key: usize) -> usize
+    requires { key < 35 }
+    ensures kind { (year : ℤ) → year_key year ≡ key → result ≡ kind_place year }
+    ensures below { result < 14 }
+{
+    kind_by(key / 7 == 1, (key % 7) as u32)
+}
+
 // A year of each key.
 #[tactic(auto, unfolding(crate::specs::Steps::ChangingYears::key_years))]
 fn key_years() -> [i32; 35]
@@ -89,7 +99,7 @@ pub(super) fn changing_keys(starts: &[i64; 14], ends: &[i64; 14]) -> [bool; 35]
     let years = key_years();
     let mut changing = [false; 35];
     for key in 0..35 {
-        changing[key] = is_changing(starts, ends, calm, years[key]);
+        changing[key] = is_changing(starts, ends, calm, key, years[key]);
     }
     changing
 }
@@ -106,20 +116,20 @@ pub(super) fn any_of(tests: &[bool]) -> bool
     false
 }
 
-// Whether clocks change in the year, if the types differ.
-fn is_changing(starts: &[i64; 14], ends: &[i64; 14], calm: bool, year: i32) -> bool
+// Whether clocks change in the year, which has that key, if the types differ.
+fn is_changing(starts: &[i64; 14], ends: &[i64; 14], calm: bool, key: usize, year: i32) -> bool
     requires starts { AreWithinYears starts.now }
     requires ends { AreWithinYears ends.now }
+    requires key { year_key year ≡ key }
     requires year { (pos 2000 ≤ℤ year) × (year ≤ℤ pos 2299) }
     ensures { result ≡ is_changing starts.now ends.now calm year }
 {
     if calm {
-        let start = moment_by(starts, year);
-        let end = moment_by(ends, year);
-        if start < end {
+        let kind = kind_of_key(key);
+        if starts[kind] < ends[kind] {
             return true;
         }
-        return end < start;
+        return ends[kind] < starts[kind];
     }
     years_near(starts, ends, year).has_flip()
 }

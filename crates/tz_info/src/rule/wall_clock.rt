@@ -1,6 +1,6 @@
 //! The wall clock of a rule.
 
-ghost use Rattle.std.specs.{Prelude.{◌-ℤ◌, ◌<ℤ◌, ⊤, IsTrue, MatchOption, ℤ}, Result.{IsOkAnd}};
+ghost use Rattle.std.specs.{Prelude.{◌≡◌, ◌-ℤ◌, ◌<ℤ◌, ⊤, int_lt, IsTrue, MatchOption, ℤ}, Result.{IsOkAnd}};
 ghost use Rattle.{
   naive_base.specs.{NaiveDateTime.{reading}, Range.{IsWide}},
   offset_core.specs.{LocalResult.{map_of}, WallAnswer.{IsWallAnswer}},
@@ -111,11 +111,11 @@ impl AlternateTime {
             probes.old.rule_questions probes.new.rule_questions }
         ensures rule { IsAlternateRule self.now }
     {
-        if self.is_early(from, local) {
-            return (None, MappedLocalTime::None);
-        }
         // The greater offset has the earlier second.
         let dst_first = self.std().offset() < self.dst().offset();
+        if self.is_early(from, local, dst_first) {
+            return (None, MappedLocalTime::None);
+        }
         let season = self.season(local);
         let one = self.ask(
             season,
@@ -129,33 +129,32 @@ impl AlternateTime {
             return (None, one);
         }
         let both = self.ask(season, from, local, !dst_first, one, probes);
-        (self.season_for(season, from, local), both)
+        (self.season_for(season, from, local, dst_first), both)
     }
 
-    // Whether no second that could show the local time comes at `from` or later.
+    // Whether no second that could show the local time comes at `from` or later: the later one doesn't.
     #[inline(always)]
-    fn is_early(&self, from: i64, local: i64) -> bool
-        requires { IsWide local }
-        ensures early { IsTrue result
+    #[tactic(auto, using(crate::proofs::SeasonAnswers::greater))]
+    fn is_early(&self, from: i64, local: i64, dst_first: bool) -> bool
+        requires local { IsWide local }
+        requires first { dst_first ≡ int_lt self.now.std.offset self.now.dst.offset }
+        ensures { IsTrue result
             → ((local -ℤ self.now.std.offset) <ℤ from) × ((local -ℤ self.now.dst.offset) <ℤ from) }
-        ensures rule { IsAlternateRule self.now }
     {
-        second_showing(local, self.std().offset()) < from
-            && second_showing(local, self.dst().offset()) < from
+        second_showing(local, self.type_when(!dst_first).offset()) < from
     }
 
     // The season, if its moments decide at both seconds that could show the local time.
     #[inline(always)]
-    #[tactic(auto, using(crate::proofs::Ranges::in_range))]
-    fn season_for(&self, season: Season, from: i64, local: i64) -> Option<Season>
+    fn season_for(&self, season: Season, from: i64, local: i64, dst_first: bool) -> Option<Season>
         requires season { IsSeason self.now season }
         requires local { IsWide local }
+        requires first { dst_first ≡ int_lt self.now.std.offset self.now.dst.offset }
         ensures { MatchOption result ⊤ (IsSeasonFor self.now from local) }
     {
-        let standard = second_showing(local, self.std().offset());
-        let daylight = second_showing(local, self.dst().offset());
-        let is_since = from <= standard && from <= daylight;
-        if is_since && season.decides(standard) && season.decides(daylight) {
+        let first = second_showing(local, self.type_when(dst_first).offset());
+        let last = second_showing(local, self.type_when(!dst_first).offset());
+        if from <= first && season.from <= first && last < season.until {
             Some(season)
         } else {
             None

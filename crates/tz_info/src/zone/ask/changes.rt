@@ -6,8 +6,8 @@
 ghost use Rattle.std.specs.Prelude.{◌≡◌, ◌≢◌, ◌<◌, ◌≤◌, ◌<ℤ◌, ◌≤ℤ◌, length, neg_ℤ, option_map, pos, MatchOption};
 ghost use Rattle.{
   tz_info.specs.{Changes.{IsFirst, IsLast, IsNearest}, HeldChanges.{change_held}, Rules.{Alternate as AlternateRule}},
-  tz_info.specs.Steps.Changes.{count_ahead, place_ahead, IsAhead, IsBegin, IsChangeAt, IsChangeByRule, IsInTable},
-  tz_info.specs.Steps.Entries.{entry_time, AreEntries},
+  tz_info.specs.Steps.Changes.{count_ahead, place_ahead, IsAhead, IsAheadChange, IsBegin, IsChangeAt, IsChangeByRule},
+  tz_info.specs.Steps.{Changes.{IsChangeWith, IsInTable}, Entries.{AreEntries}},
   tz_info.specs.Zones.{HasType, IsValid, TypeAt},
 };
 
@@ -62,7 +62,7 @@ impl TimeZone {
     }
 
     // The nearest change ahead of the second in that direction, of those that come with an entry: that of
-    // the first entry or of the second one.
+    // the first entry ahead or of the second one.
     #[inline(always)]
     fn nearest_in_table(
         &self,
@@ -74,16 +74,29 @@ impl TimeZone {
             (option_map change_held result) }
     {
         let changes = self.change_table();
-        let count = changes.count_near(second, near);
-        let mut left = count_ahead(changes.len(), count, forward);
-        while left > 0 {
-            let place = place_ahead(changes.len(), left, forward);
-            if let Some(change) = self.change_with(changes, place) {
-                return Some(change);
-            }
-            left -= 1;
+        let left = count_ahead(changes.len(), changes.count_near(second, near), forward);
+        match self.change_ahead(changes, left, forward) {
+            Some(change) => Some(change),
+            None => self.change_ahead(changes, left.saturating_sub(1), forward),
         }
-        None
+    }
+
+    // The change that comes with the nearest entry ahead, if `left` of them are.
+    #[inline(always)]
+    fn change_ahead<'a>(
+        &'a self,
+        changes: &'a ChangeTable,
+        left: usize,
+        forward: bool,
+    ) -> Option<HeldChange<'a>>
+        requires list { AreEntries self.now changes.now }
+        requires left { left ≤ length changes.now.items }
+        ensures { IsAheadChange self.now changes.now forward left (option_map change_held result) }
+    {
+        if left == 0 {
+            return None;
+        }
+        self.change_with(changes, place_ahead(changes.len(), left, forward))
     }
 
     // The change that comes with the entry at that place, if one does. That of the last transition is asked.
@@ -91,8 +104,7 @@ impl TimeZone {
     fn change_with<'a>(&'a self, changes: &'a ChangeTable, place: usize) -> Option<HeldChange<'a>>
         requires list { AreEntries self.now changes.now }
         requires place { place < length changes.now.items }
-        ensures { IsChangeAt (TypeAt self.now) (entry_time changes.now.items place)
-            (option_map change_held result) }
+        ensures { IsChangeWith self.now changes.now place (option_map change_held result) }
     {
         if changes.is_last(place) {
             return self.change_at(changes.second(place));

@@ -13,6 +13,11 @@ is_changing-requires-clause-year c =
     let f : SFits w32 (get_or c.key_years-years.result c.loop-key.key (pos 0)) = search rules in
     let k = keys_are c.loop-key.key (omega arith) in simp fits (rw c.key_years-years.ensures (k.1, k.2))
 
+pub is_changing-requires-clause-key : goal.is_changing-requires-clause-key
+is_changing-requires-clause-key c =
+    let f : SFits w32 (get_or c.key_years-years.result c.loop-key.key (pos 0)) = search rules in
+    let k = keys_are c.loop-key.key (omega arith) in simp fits (rw c.key_years-years.ensures k.0)
+
 pub loop-key-preserved : goal.loop-key-preserved
 loop-key-preserved c =
     let l = c.loop-key in let whole = l.invariant.whole in

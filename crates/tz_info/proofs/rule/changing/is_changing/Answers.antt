@@ -1,8 +1,8 @@
 use Rattle.tz_info.proofs.Words.{arith, to_z-of_z}
 use Rattle.tz_info.proofs.rule.changing.is_changing.Goals as goal
 
-pub returns-then-start-end : goal.returns-then-start-end
-returns-then-start-end c = grind (arith, to_z-of_z)
+pub returns-then-starts-kind : goal.returns-then-starts-kind
+returns-then-starts-kind c = grind (arith, to_z-of_z)
 
 pub returns-then-calm : goal.returns-then-calm
 returns-then-calm c = grind (arith, to_z-of_z)

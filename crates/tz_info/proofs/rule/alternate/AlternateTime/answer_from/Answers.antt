@@ -40,8 +40,8 @@ returns-clause-counted c =
 
 pub returns-then-is_early-clause-found : goal.returns-then-is_early-clause-found
 returns-then-is_early-clause-found c = let fl = c.ranges.local in let ff = c.ranges.from in
-    let early = (simp to_z-of_z at c.is_early.ensures.early) c.if-is_early.true in found_none _ _ _ early.0 early.1
+    let early = (simp to_z-of_z at c.is_early.ensures) c.if-is_early.true in found_none _ _ _ early.0 early.1
 
 pub returns-then-is_early-clause-counted : goal.returns-then-is_early-clause-counted
 returns-then-is_early-clause-counted c = let fl = c.ranges.local in let ff = c.ranges.from in
-    let early = (simp to_z-of_z at c.is_early.ensures.early) c.if-is_early.true in asked_neither _ _ _ true _ early.0 early.1
+    let early = (simp to_z-of_z at c.is_early.ensures) c.if-is_early.true in asked_neither _ _ _ true _ early.0 early.1
