@@ -5,7 +5,7 @@ use Rattle.tz_info.proofs.{
   Neighbours.{IsNear, KeepsMargin, ends_near, near_margin, starts_near},
   RuleDays.{rule_day_closed},
   Words.{Alternate, Bool, DayForm, DayTime, IsAlternateRule, IsRuleDay, List, are_calm, arith, closed_day, cond, day_number, day_time_second},
-  Words.{days_of_months, end_in, false, floors, get_or, get_or-map, inr, int_le, is_calm, is_calm_kind, is_leap, kind_place, margin_of, moment},
+  Words.{days_of_months, end_in, false, floors, get_or, get_or-map, inr, int_le, int_lt, is_calm, is_calm_kind, is_leap, kind_place, margin_of, moment},
   Words.{nat_le, neg_ℤ, place_by, places_by_kind, pos, refl, second_in, seconds_by_kind, start_in, sym, true, weekday_below, weekday_later},
   Words.{weekday_of, year_start, ℕ, ℤ, ◌%◌, ◌*ℤ◌, ◌+ℤ◌, ◌+◌, ◌-ℤ◌, ◌-◌, ◌<◌, ◌∙◌, ◌≡◌, ◌≤ℤ◌, ◌⊎◌},
 }
@@ -105,6 +105,10 @@ margin_by a margin true rule all is =
       order = inr (λ v w. ordered v ∙ sym (ordered w));
       bound = (omega (arith, floors), omega (arith, floors));
     })
+
+pub by_margin : (starts ends : List ℤ) → int_lt (pos 0) (margin_of starts ends) ≡ are_calm starts ends
+unfolding margin_of
+by_margin starts ends = grind arith
 
 pub margin_kept : (a : Alternate) (margin : ℤ) → IsAlternateRule a
     → margin ≡ margin_of (starts a) (ends a) → IsMargin a margin

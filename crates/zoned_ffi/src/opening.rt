@@ -102,6 +102,7 @@ fn opened(alloc: Global, kind: u32, bytes: &[u8]) -> Result<Handle, Refusal>
 }
 
 // The zone, of which there is one share.
+#[inline(always)]
 fn boxed(alloc: Global, zone: TimeZone) -> Option<Handle>
     ensures { IfSome result (λ handle. IsOpen handle zone) }
 {

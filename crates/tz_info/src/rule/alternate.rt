@@ -163,7 +163,7 @@ impl AlternateTime {
         let starts = start.seconds_by_kind(std.offset());
         let ends = end.seconds_by_kind(dst.offset());
         let margin = margin_of(&starts, &ends);
-        let changing = changing_keys(&starts, &ends);
+        let changing = changing_keys(&starts, &ends, margin > 0);
         Ok(AlternateTime {
             std_type: std,
             dst_type: dst,

@@ -7,10 +7,10 @@
 ghost use Rattle.std.specs.{List.{list_any}, Prelude.{◌≡◌, ◌<◌, ◌≤◌, ◌≤ℤ◌, neg_ℤ, pos, ℤ}};
 ghost use Rattle.{
   tz_info.specs.Steps.ChangingYears.{changing_keys, dst_near, flips_at, has_flip, is_changing, key_years, leap_place},
-  tz_info.specs.Steps.{ChangingYears.{moment_by, place_of, turns_in, year_key, years_near, AreWithinYears}, Kinds.{kind_place}},
+  tz_info.specs.Steps.{ChangingYears.{moment_by, place_of, turns_in, year_key, years_near, AreWithinYears}, Kinds.{are_calm, kind_place}},
 };
 
-use crate::rule::kinds::{are_calm, kind_by, kind_of};
+use crate::rule::kinds::{kind_by, kind_of};
 use crate::rule::moments::{Turns, is_dst_by_three};
 use gregorian::{is_leap_year, weekday_of, year_start};
 
@@ -90,12 +90,12 @@ fn key_years() -> [i32; 35]
 }
 
 // Whether clocks change in a year of each key, if the types differ.
-pub(super) fn changing_keys(starts: &[i64; 14], ends: &[i64; 14]) -> [bool; 35]
+pub(super) fn changing_keys(starts: &[i64; 14], ends: &[i64; 14], calm: bool) -> [bool; 35]
     requires starts { AreWithinYears starts.now }
     requires ends { AreWithinYears ends.now }
+    requires calm { calm ≡ are_calm starts.now ends.now }
     ensures { result ≡ changing_keys starts.now ends.now }
 {
-    let calm = are_calm(starts, ends);
     let years = key_years();
     let mut changing = [false; 35];
     for key in 0..35 {

@@ -139,6 +139,7 @@ impl TimeZone {
     }
 
     // The zone of those types, of which there is one at least, and of that rule.
+    #[inline(always)]
     pub(crate) fn with_rule(types: Vec<LocalTimeType>, rule: Option<TransitionRule>) -> TimeZone
         requires { 0 < length types.items }
         ensures { result ≡ zone_of_rule types.items rule }
@@ -148,6 +149,7 @@ impl TimeZone {
     }
 
     // The zone of those lists and without transitions.
+    #[inline(always)]
     fn without_transitions(
         types: Vec<LocalTimeType>,
         leaps: LeapSeconds,

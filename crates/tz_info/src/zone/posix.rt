@@ -160,6 +160,7 @@ impl TimeZone {
         Ok(TimeZone::utc(alloc)?)
     }
 
+    #[inline(always)]
     fn of_rule(alloc: Global, rule: TransitionRule) -> Result<TimeZone, ParseError>
         ensures { MatchResult result
             (λ z. z ≡ posix_zone rule)

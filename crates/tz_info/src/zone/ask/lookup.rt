@@ -90,7 +90,7 @@ impl TimeZone {
             probes.old.rule_questions probes.new.rule_questions }
     {
         let _ = &self.changes;
-        if self.has_no_transition() {
+        if self.changes.len() == 0 && self.has_no_transition() {
             return self.rule_or_type(unix_time, 0, probes);
         }
         match self.come_at(unix_time, probes) {

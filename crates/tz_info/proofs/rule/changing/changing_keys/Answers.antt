@@ -25,7 +25,7 @@ loop-key-preserved c =
     let h : l.key < length key_years = omega (arith, key_count) in
     let f : SFits w32 (get_or c.key_years-years.result l.key (pos 0)) = search rules in
     let next : c.is_changing.result ≡ is_changing _ _ _
-    (get_or key_years _ _) = rw (c.are_calm-calm.ensures, c.key_years-years.ensures) at (simp fits at c.is_changing.ensures) in
+    (get_or key_years _ _) = rw (c.requires.calm, c.key_years-years.ensures) at (simp fits at c.is_changing.ensures) in
     record {
       whole = rw length-set whole;
       found = rw (take_more_set l.changing l.key c.is_changing.result b, take_more key_years l.key (pos 0) h, map-append, l.invariant.found, next) refl;
