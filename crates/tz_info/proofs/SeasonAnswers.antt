@@ -4,7 +4,8 @@ use Rattle.tz_info.proofs.{
   Candidates.{asked_both, asked_one, one_second, std_or_dst},
   Words.{Alternate as AlternateRule, Bool, IsAmidFrom, IsAskedLast, IsSeason, IsSeasonFor, IsWallAnswer, LocalResult, LocalType, Season},
   Words.{Shows, TypeFrom, arith, inl, inr, false, int_le, int_lt, linear, not, true, type_when, ℤ, ◌-ℤ◌, ◌<ℤ◌, ◌≡◌, ◌≢◌},
-  Words.{◌≤ℤ◌, ◌⊎◌}}
+  Words.{◌≤ℤ◌, ◌⊎◌},
+}
 use Rattle.tz_info.specs.declared.rule.transition_rule.TransitionRule.TheVariants.{Alternate}
 
 -- the season decides at both seconds that could show the local time

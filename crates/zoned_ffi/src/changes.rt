@@ -3,7 +3,7 @@
 
 ghost use Rattle.std.specs.Prelude.{◌≡◌, ◌≢◌, ◌⊎◌, ◌<ℤ◌, ◌≤ℤ◌, slice_set};
 ghost use Rattle.{
-  tz_info.specs.{Changes.{HasNoChange}, OffsetChanges.{KeepsOffset}, Zones.{TypeAt, Zone}},
+  tz_info.specs.{Changes.{HasNoChange}, HeldChanges.{change_held}, OffsetChanges.{KeepsOffset}, Zones.{TypeAt, Zone}},
   zoned_ffi.specs.Handles.{IsLent, IsNoneLent},
   zoned_ffi.specs.WrittenChanges.{written_change, AreFirstWritten, IsFirstOffsetWritten, IsFirstWritten},
   zoned_ffi.specs.WrittenChanges.{IsLastOffsetWritten, IsLastWritten},
@@ -12,7 +12,7 @@ ghost use Rattle.{
 use crate::lent::Lent;
 use crate::local_type::WrittenType;
 use crate::refusal::{NO_CHANGE, NOT_OPEN};
-use tz_info::{Change, TimeZone};
+use tz_info::{Change, HeldChange, TimeZone};
 
 /// A change of the clocks.
 #[repr(C)]
@@ -37,6 +37,18 @@ impl WrittenChange {
             after: WrittenType::of(&change.after),
         }
     }
+
+    // That change of types that the zone holds.
+    #[inline(always)]
+    fn held(change: HeldChange<'_>) -> WrittenChange
+        ensures { result ≡ written_change (change_held change.entry) }
+    {
+        WrittenChange {
+            at: change.at,
+            before: WrittenType::of(change.before),
+            after: WrittenType::of(change.after),
+        }
+    }
 }
 
 /// Writes the first change of the zone's clocks after that second.
@@ -53,9 +65,9 @@ pub extern "C" fn zoned_zone_next_change(zone: &Lent, after: i64, change: &mut W
     let Some(share) = zone.share() else {
         return NOT_OPEN;
     };
-    match share.next_change(after) {
+    match share.next_held_change(after) {
         Some(found) => {
-            *change = WrittenChange::of(&found);
+            *change = WrittenChange::held(found);
             0
         }
         None => NO_CHANGE,
@@ -81,9 +93,9 @@ pub extern "C" fn zoned_zone_previous_change(
     let Some(share) = zone.share() else {
         return NOT_OPEN;
     };
-    match share.previous_change(before_or_at) {
+    match share.previous_held_change(before_or_at) {
         Some(found) => {
-            *change = WrittenChange::of(&found);
+            *change = WrittenChange::held(found);
             0
         }
         None => NO_CHANGE,

@@ -6,9 +6,9 @@ ghost use Rattle.{
   offset_core.specs.{LocalResult.{map_of}, WallAnswer.{IsWallAnswer}},
   tz_base.specs.LocalTypes.{IsUtOffset},
   tz_info.specs.{Counts.{HasRoomFor, RoseWithin}, HeldChanges.{change_held}},
-  tz_info.specs.Steps.{Walk.{IsAskedLast}, Gaps.{IsNeverFrom, IsRuleGap}, Seasons.{IsDecidedIn, IsSeason, IsSeasonFor, IsSeasonOf}},
+  tz_info.specs.Steps.{Walk.{IsAskedLast}, Gaps.{IsNeverFrom, IsRuleGap}, Seasons.{IsSeason, IsSeasonFor, IsSeasonOf}},
   tz_info.specs.Steps.RuleSeconds.{AreUtOffsets, IsAskedFrom, IsAskedSince, TypeFrom},
-  tz_info.specs.{Moments.{type_when, AlternateAt, IsRuleTime}, Rules.{IsAlternateRule}, RuleTypes.{RuleAt}, WallClocks.{Shows}},
+  tz_info.specs.{Moments.{type_when}, Rules.{IsAlternateRule}, RuleTypes.{RuleAt}, WallClocks.{Shows}},
 };
 
 use crate::answers::{joined, second_showing, types_copied};
@@ -117,10 +117,8 @@ impl AlternateTime {
             return (None, MappedLocalTime::None);
         }
         let season = self.season(local);
-        let decided = self.is_season_for(season, from, local, dst_first);
         let one = self.ask(
             season,
-            decided,
             from,
             local,
             dst_first,
@@ -130,9 +128,8 @@ impl AlternateTime {
         if self.std().offset() == self.dst().offset() {
             return (None, one);
         }
-        let both = self.ask(season, decided, from, local, !dst_first, one, probes);
-        let season = if decided { Some(season) } else { None };
-        (season, both)
+        let both = self.ask(season, from, local, !dst_first, one, probes);
+        (self.season_for(season, from, local, dst_first), both)
     }
 
     // Whether no second that could show the local time comes at `from` or later: the later one doesn't.
@@ -147,20 +144,21 @@ impl AlternateTime {
         second_showing(local, self.type_when(!dst_first).offset()) < from
     }
 
-    // Whether the season's moments decide at both seconds that could show the local time.
+    // The season, if its moments decide at both seconds that could show the local time.
     #[inline(always)]
-    fn is_season_for(&self, season: Season, from: i64, local: i64, dst_first: bool) -> bool
+    fn season_for(&self, season: Season, from: i64, local: i64, dst_first: bool) -> Option<Season>
         requires season { IsSeason self.now season }
         requires local { IsWide local }
         requires first { dst_first ≡ int_lt self.now.std.offset self.now.dst.offset }
-        ensures { IsTrue result → IsSeasonFor self.now from local season }
+        ensures { MatchOption result ⊤ (IsSeasonFor self.now from local) }
     {
         let first = second_showing(local, self.type_when(dst_first).offset());
         let last = second_showing(local, self.type_when(!dst_first).offset());
-        if from <= first && season.from <= first {
-            return last < season.until;
+        if from <= first && season.from <= first && last < season.until {
+            Some(season)
+        } else {
+            None
         }
-        false
     }
 
     // The change at which clocks jump over the local time, if the season's moments decide at both
@@ -181,20 +179,6 @@ impl AlternateTime {
         })
     }
 
-    // The type in force at the second, at which the season's moments may be known to decide.
-    #[inline(always)]
-    fn type_by(&self, season: Season, decided: bool, second: i64) -> &LocalTimeType
-        requires season { IsSeason self.now season }
-        requires time { IsRuleTime second }
-        requires decided { IsTrue decided → IsDecidedIn season second }
-        ensures { AlternateAt self.now second result.now }
-    {
-        if decided {
-            return self.type_when(self.is_dst_amid(season, second));
-        }
-        self.type_in(season, second)
-    }
-
     // Asks for the one second that could show the local time by daylight saving time, or by standard
     // time, unless it comes before that one.
     #[inline(always)]
@@ -202,7 +186,6 @@ impl AlternateTime {
     fn ask<'a>(
         &'a self,
         season: Season,
-        decided: bool,
         from: i64,
         local: i64,
         dst: bool,
@@ -210,7 +193,6 @@ impl AlternateTime {
         probes: &mut Probes,
     ) -> MappedLocalTime<&'a LocalTimeType>
         requires season { IsSeason self.now season }
-        requires decided { IsTrue decided → IsSeasonFor self.now from local season }
         requires local { IsWide local }
         requires room { HasRoomFor 1 probes.old.rule_questions }
         ensures asked { IsAskedLast (TypeFrom (TransitionRule.Alternate self.now) from) local
@@ -225,7 +207,7 @@ impl AlternateTime {
             return answer;
         }
         probes.count_question();
-        let found = self.type_by(season, decided, second);
+        let found = self.type_in(season, second);
         if found.offset() == offset {
             return joined(answer, MappedLocalTime::Single(found));
         }

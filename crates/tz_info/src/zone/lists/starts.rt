@@ -81,7 +81,7 @@ const FAR: i64 = 1 << 61;
 pub(in crate::zone) fn cut_at(second: i64, offset: i64) -> i64
     ensures { result ≡ saturate_signed w64 (second +ℤ offset) }
 {
-    if -FAR <= second && second < FAR && -FAR <= offset && offset < FAR {
+    if -FAR <= second && second <= FAR && -FAR <= offset && offset <= FAR {
         return second + offset;
     }
     second.saturating_add(offset)

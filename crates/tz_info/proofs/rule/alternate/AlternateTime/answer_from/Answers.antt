@@ -3,7 +3,7 @@ use Rattle.tz_info.proofs.{
   SeasonAnswers.{found_both, found_none, found_one},
   Words.{SFits, ap, arith, linear, rules, to_z, to_z-of_z, true, w32, ◌≡◌},
 }
-use Rattle.tz_info.proofs.rule.alternate.AlternateTime.answer_from.Goals.{Then-offset, else-decided, then-decided}
+use Rattle.tz_info.proofs.rule.alternate.AlternateTime.answer_from.Goals.{Then-offset}
 use Rattle.tz_info.proofs.rule.alternate.AlternateTime.answer_from.Goals as goal
 
 -- the test compares what the types' offsets are
@@ -45,11 +45,3 @@ returns-then-is_early-clause-found c = let fl = c.ranges.local in let ff = c.ran
 pub returns-then-is_early-clause-counted : goal.returns-then-is_early-clause-counted
 returns-then-is_early-clause-counted c = let fl = c.ranges.local in let ff = c.ranges.from in
     let early = (simp to_z-of_z at c.is_early.ensures) c.if-is_early.true in asked_neither _ _ _ true _ early.0 early.1
-
-pub returns-clause-season : goal.returns-clause-season
-returns-clause-season c =
-    let fl = c.ranges.local in let ff = c.ranges.from in
-    elim c.if-decided.branch [
-      | then-decided w ↦ rw w.season-is ((simp to_z-of_z at c.is_season_for-decided.ensures) w.if-decided.true)
-      | else-decided w ↦ rw w.season-is (search rules)
-    ]

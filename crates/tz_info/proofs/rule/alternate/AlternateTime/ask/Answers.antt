@@ -1,6 +1,5 @@
 use Rattle.tz_info.proofs.{
   Candidates.{asked_found, asked_other},
-  SeasonAnswers.{amid},
   Words.{AlternateAt, SFits, ap, linear, rules, to_z-of_z, type_when, w32, w64, ◌-ℤ◌, ◌∙◌, ◌≡◌},
   rule.alternate.AlternateTime.ask.Goals.{After-offset},
 }
@@ -9,22 +8,13 @@ use Rattle.tz_info.proofs.rule.alternate.AlternateTime.ask.Goals as goal
 -- the second fits, and the type is in force then
 known : (c : After-offset) → let o = (type_when c.args.self.now c.args.dst).offset in
     SFits w64 (c.args.local -ℤ o) × (c.offset-offset.result ≡ o) × (c.second_showing-second.result ≡ c.args.local -ℤ o)
-    × AlternateAt c.args.self.now (c.args.local -ℤ o) c.type_by-found.result.now
+    × AlternateAt c.args.self.now (c.args.local -ℤ o) c.type_in-found.result.now
 known c =
     let fl = c.ranges.local in let fo : SFits w32 c.offset-offset.result = search rules in
     let fs : SFits w64 c.second_showing-second.result = search rules in
     let offset = c.offset-offset.ensures.value ∙ ap (λ t. t.offset) c.type_when.ensures in
     let second = rw offset at (simp to_z-of_z at c.second_showing-second.ensures.value) in
-    (rw (← second) fs, offset, second, rw second at (simp to_z-of_z at c.type_by-found.ensures))
-
-pub type_by-found-requires-clause-decided : goal.type_by-found-requires-clause-decided
-type_by-found-requires-clause-decided c = λ decided.
-    let fl = c.ranges.local in let ff = c.ranges.from in
-    let fo : SFits w32 c.offset-offset.result = search rules in
-    let fs : SFits w64 c.second_showing-second.result = search rules in
-    let offset = c.offset-offset.ensures.value ∙ ap (λ t. t.offset) c.type_when.ensures in
-    let second = rw offset at (simp to_z-of_z at c.second_showing-second.ensures.value) in
-    simp to_z-of_z (rw second (amid _ _ _ _ _ (c.requires.decided decided)).decided)
+    (rw (← second) fs, offset, second, rw second at (simp to_z-of_z at c.type_in-found.ensures))
 
 pub returns-then-offset-clause-asked : goal.returns-then-offset-clause-asked
 returns-then-offset-clause-asked c =
