@@ -12,7 +12,6 @@ add-requires-clause-named c = kept_all (λ t. t.type_index < length c.args.lists
 
 pub loop-place-preserved : goal.loop-place-preserved
 loop-place-preserved c =
-    let fs = c.second.type_inv in
     let ft : SFits w64 c.in-Some.start = search rules in
     let at = rw (← c.index-lists-place.is) at (simp fits at c.at.ensures) in
     record {

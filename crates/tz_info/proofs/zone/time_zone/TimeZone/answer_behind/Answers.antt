@@ -1,16 +1,11 @@
-use Rattle.tz_info.proofs.{
-  Fits.fits,
-  TableLaws.{table_below, table_typed},
-  WallSegments.{all_segments, table_alone, table_first},
-  Words.{ap, arith, ints, sym, ◌∙◌},
-}
+use Rattle.tz_info.proofs.{Fits.fits, TableLaws.{table_below, table_typed}, WallSegments.{all_segments, table_alone, table_first}, Words.{ap, arith, sym, ◌∙◌}}
 use Rattle.tz_info.proofs.zone.time_zone.TimeZone.answer_behind.Goals as goal
 
 pub types_shown-table-requires : goal.types_shown-table-requires
 types_shown-table-requires c = rw (c.deref.ensures.value, ap (λ z. z.types) c.self.view_is) (table_below _ _ _ c.requires.shown)
 
 pub returns-in-None-clause-found : goal.returns-in-None-clause-found
-returns-in-None-clause-found c = grind (arith, ints, fits, table_alone, table_typed)
+returns-in-None-clause-found c = grind (arith, fits, table_alone, table_typed)
 
 pub try_rule-requires-clause-seen : goal.try_rule-requires-clause-seen
 try_rule-requires-clause-seen c =
@@ -20,4 +15,4 @@ try_rule-requires-clause-seen c =
     (table_typed _ _ _ _ (rw (← c.self.view_is) c.self.invariant.valid) listed c.requires.shown))
 
 pub returns-in-Some-clause-found : goal.returns-in-Some-clause-found
-returns-in-Some-clause-found c = grind (arith, ints, fits, all_segments)
+returns-in-Some-clause-found c = grind (arith, fits, all_segments)

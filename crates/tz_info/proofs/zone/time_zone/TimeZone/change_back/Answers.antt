@@ -2,7 +2,7 @@ use Rattle.tz_info.proofs.{
   Fits.fits,
   FoldLaws.{begins, begins_at, fold_at, goes_back},
   Words.{SFits, by_lt_z, linear, pos, rules, to_z, w64, ◌+ℤ◌, ◌-ℤ◌, ◌<ℤ◌, ◌≤ℤ◌},
-  zone.time_zone.TimeZone.change_back.Goals.{In-Some},
+  zone.time_zone.TimeZone.change_back.Goals.In-Some,
 }
 use Rattle.tz_info.proofs.zone.time_zone.TimeZone.change_back.Goals as goal
 

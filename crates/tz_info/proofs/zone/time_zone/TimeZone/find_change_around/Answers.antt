@@ -1,4 +1,4 @@
-use Rattle.tz_info.proofs.{Fits.fits, FoldLaws.ends_of_fold, Words.inr, zone.time_zone.TimeZone.find_change_around.Goals.{After-second_showing-last}}
+use Rattle.tz_info.proofs.{Fits.fits, FoldLaws.ends_of_fold, Words.inr, zone.time_zone.TimeZone.find_change_around.Goals.After-second_showing-last}
 use Rattle.tz_info.specs.Steps.Folds.{AreEndsOfFold}
 use Rattle.tz_info.proofs.zone.time_zone.TimeZone.find_change_around.Goals as goal
 

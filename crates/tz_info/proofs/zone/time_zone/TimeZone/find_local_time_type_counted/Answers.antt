@@ -22,7 +22,7 @@ pub returns-in-Some : goal.returns-in-Some
 returns-in-Some c =
     let fu = c.ranges.unix_time in
     let time = (simp fits at c.in-Some.ensures.come).of_second in
-    let same : c.come_at.new.probes.rule_questions ≡ c.args.probes.now.rule_questions = let cost = c.come_at.ensures.cost in omega arith in
+    let same : c.come_at.new.probes.rule_questions ≡ c.args.probes.now.rule_questions = omega arith in
     record {
       found = with_transitions (λ t. t.now) _ _ _ _ time (simp fits at c.type_after.ensures.found);
       cost = search rules;

@@ -6,7 +6,7 @@ use Rattle.tz_info.proofs.{
   SegmentEndLaws.{begun_near, first_there},
   TableLaws.{reach_of, table_of, top_least},
   Words.{HasReach, IsRuleOrNone, IsValid, SFits, ap, arith, cases_eq, digits, digits-more, inl, inr, linear, rules, w64, ℕ, ◌*◌, ◌+◌, ◌<◌, ◌≤◌},
-  zone.time_zone.TimeZone.first_at_or_after.Goals.{After-first_reaching-place},
+  zone.time_zone.TimeZone.first_at_or_after.Goals.After-first_reaching-place,
 }
 use Rattle.tz_info.specs.{Steps.Entries.AreEntries, Steps.SegmentEnds.IsFirstSegment}
 use Rattle.tz_info.proofs.zone.time_zone.TimeZone.first_at_or_after.Goals as goal

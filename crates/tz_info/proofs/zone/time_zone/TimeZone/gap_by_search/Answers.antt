@@ -3,7 +3,7 @@ use Rattle.tz_info.proofs.{
   Fits.fits,
   GapLaws.{first_near, gap_at_first},
   Words.{IsNear, SFits, arith, ints, pos, rules, w64, ◌-ℤ◌, ◌≤ℤ◌},
-  zone.time_zone.TimeZone.gap_by_search.Goals.{After-first_at_or_after-first},
+  zone.time_zone.TimeZone.gap_by_search.Goals.After-first_at_or_after-first,
 }
 use Rattle.tz_info.proofs.zone.time_zone.TimeZone.gap_by_search.Goals as goal
 

@@ -17,4 +17,4 @@ returns-then-from-gtminus9223372036854775808-clause-between c =
     })
 
 pub returns-else-from-gtminus9223372036854775808-clause-between : goal.returns-else-from-gtminus9223372036854775808-clause-between
-returns-else-from-gtminus9223372036854775808-clause-between c = grind (linear, fits, begin_at)
+returns-else-from-gtminus9223372036854775808-clause-between c = grind (linear, begin_at)
