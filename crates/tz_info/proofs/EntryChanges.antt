@@ -16,7 +16,7 @@ use Rattle.tz_info.proofs.{
 use Rattle.tz_info.specs.{
   Steps.Entries.{AreEntries, Entries, HaveComeAt, IsBetween, IsCome, IsEntryChange, entry_time, last_index, most_looks},
   Steps.Changes.{IsAheadChange, IsChangeWith, count_ahead, place_ahead},
-  declared.zone.made.change_table.{Between.{Between}, Come.{Come}},
+  declared.zone.made.change_table.{Between.Between, Come.Come},
 }
 
 -- a number has few binary digits

@@ -1,5 +1,5 @@
 -- How the entries of a zone are made, one transition after another.
-use Rattle.std.proofs.lemmas.{List.{take-append-le, Elements.{filter-append}}, Option.{slice_get_within}}
+use Rattle.std.proofs.lemmas.{List.{take-append-le, Elements.filter-append}, Option.slice_get_within}
 use Rattle.std.specs.Prelude.{option_to_list}
 use Rattle.tz_info.proofs.{
   LeapSearch.own_leap_time,
@@ -12,7 +12,7 @@ use Rattle.tz_info.proofs.{
   ZoneChanges.refused_on,
 }
 use Rattle.tz_info.specs.{
-  Transitions.{NameTypes},
+  Transitions.NameTypes,
   Steps.Entries.{AreBefore, AreEntries, EndsAt, IsAdded, IsStartIn, NeverComes, added, idle, last_index, none_there, one_there},
 }
 

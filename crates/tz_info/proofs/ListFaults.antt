@@ -1,16 +1,16 @@
 -- Lists make a zone or have one first fault.
 use Rattle.std.proofs.lemmas.List.Elements.{All-map}
 use Rattle.tz_base.specs.{
-  declared.error.Error.TheVariants.{TimeZone},
+  declared.error.Error.TheVariants.TimeZone,
   declared.error.Expected.TheVariants.{AtLeastOneLocalTimeType, LeapSecondsInOrder, RuleThatAgreesWithLastTransition, TransitionTimesThatRise},
-  declared.error.Expected.TheVariants.{TypeIndexesWithinTypes},
+  declared.error.Expected.TheVariants.TypeIndexesWithinTypes,
 }
 use Rattle.tz_info.proofs.{
   Words.{All, AllAdjacentBelow, AllPairs, AreLeapSeconds, AreRising, AreTransitions, Error, IsNextLeap, IsValid, LeapSecond, List, ListFault, No_type},
   Words.{Not_rising, Other_index, Other_leaps, Other_rule, Transition, Zone, [], arith, below_more, cases_lt, error_number, get_or-map, get_or_default, inl},
   Words.{inr, length, length-map, map, suc, zero, ℕ, ℤ, ◌+◌, ◌<ℤ◌, ◌<◌, ◌∷◌, ◌≡◌, ◌≤◌, ◌⊎◌},
 }
-use Rattle.tz_info.specs.{Leaps.{IsFirstLeap}, Transitions.{NameTypes}}
+use Rattle.tz_info.specs.{Leaps.IsFirstLeap, Transitions.NameTypes}
 
 -- ---- what can be tested holds or does not
 abbrev pub Known : Type 0 → Type 0

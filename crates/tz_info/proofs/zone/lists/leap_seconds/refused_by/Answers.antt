@@ -1,5 +1,5 @@
 use Rattle.{
-  std.proofs.lemmas.Int.{clamps},
+  std.proofs.lemmas.Int.clamps,
   tz_info.proofs.Words.{arith, ints},
 }
 use Rattle.tz_info.proofs.zone.lists.leap_seconds.refused_by.Goals as goal

@@ -1,4 +1,4 @@
-use Rattle.tz_info.proofs.{EntryLaws.{all_come, kept_all, never_come, turned}, Fits.{fits}, Words.{SFits, arith, length, linear, rules, w64, zone_in, ◌<◌}}
+use Rattle.tz_info.proofs.{EntryLaws.{all_come, kept_all, never_come, turned}, Fits.fits, Words.{SFits, arith, length, linear, rules, w64, zone_in, ◌<◌}}
 use Rattle.tz_info.proofs.zone.made.change_list.entries_of.Goals as goal
 
 pub returns-in_default : goal.returns-in_default

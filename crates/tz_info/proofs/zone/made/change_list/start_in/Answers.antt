@@ -14,5 +14,5 @@ returns-else-has_leap_time c =
     let ft = c.ranges.time in
     let fs = c.first_second-start.type_inv in
     let f2 : SFits w64 c.first_second-start.result = omega (arith, ints) in
-    never_refused _ _ _ (rw c.entries.ensures.entries at (simp fits at c.first_second-start.ensures.reached)) c.entries.ensures.valid
+    never_refused _ _ _ (grind (linear, fits)) c.entries.ensures.valid
     (simp fits at (c.has_leap_time.ensures.no c.if-has_leap_time.false))

@@ -59,10 +59,7 @@ returns c =
                 (closed inv (omega arith) strict (omega arith)),
             λ k first below. ends_rise inv (omega arith) strict k first (omega arith),
           )
-      | goal.else-count-entries w ↦ let more = w.if-count-entries.false in (
-        rw (w.pieces-is, here, c.segment_at.ensures.index) (whole inv some (omega arith)),
-        λ k first below. inv.rising k first (omega arith),
-      )
+      | goal.else-count-entries w ↦ let more = w.if-count-entries.false in (grind (linear, fits, whole))
     ]
 
 pub push_reserved-requires-then-count-entries : goal.push_reserved-requires-then-count-entries

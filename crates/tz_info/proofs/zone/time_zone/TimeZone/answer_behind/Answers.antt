@@ -1,4 +1,9 @@
-use Rattle.tz_info.proofs.{Fits.fits, TableLaws.{table_below, table_typed}, WallSegments.{all_segments, table_alone, table_first}, Words.{ap, arith, sym, ◌∙◌}}
+use Rattle.tz_info.proofs.{
+  Fits.fits,
+  TableLaws.{table_below, table_typed},
+  WallSegments.{all_segments, table_alone, table_first},
+  Words.{ap, arith, linear, sym, ◌∙◌},
+}
 use Rattle.tz_info.proofs.zone.time_zone.TimeZone.answer_behind.Goals as goal
 
 pub types_shown-table-requires : goal.types_shown-table-requires
@@ -12,7 +17,7 @@ try_rule-requires-clause-seen c =
     let fl = c.ranges.local in
     let listed = rw (c.deref.ensures.value, ap (λ z. z.types) c.self.view_is) at c.types_shown-table.ensures in
     simp fits (table_first _ _ _ _ (ap (λ z. z.rule) (sym c.self.view_is) ∙ c.in-Some.is)
-    (table_typed _ _ _ _ (rw (← c.self.view_is) c.self.invariant.valid) listed c.requires.shown))
+    (grind (linear, fits, table_typed)))
 
 pub returns-in-Some-clause-found : goal.returns-in-Some-clause-found
 returns-in-Some-clause-found c = grind (arith, fits, all_segments)

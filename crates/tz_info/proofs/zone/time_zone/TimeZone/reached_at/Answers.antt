@@ -63,7 +63,7 @@ returns-then-reached-end c =
     record {
       reached = simp fits (at_end _ _ _ _ (rw c.self.view_is at c.self.invariant.valid) made c.requires.second _ _ _ fg
           (rw (← c.self.view_is) c.self.invariant.extremes.greatest) c.count-place.ensures.within (since d) (latest d)
-          (begun_by _ _ _ made.rising c.count-place.ensures.within (omega arith) fs) fe (omega (arith, ints)));
+          (grind (linear, fits, begun_by)) fe (omega (arith, ints)));
       cost = ended d;
     }
 
@@ -73,6 +73,6 @@ returns-else-reached-end c =
     let fg : SFits w32 c.self.inside.extremes.greatest = search rules in
     record {
       reached = at_segment _ _ _ _ (rw c.self.view_is at c.self.invariant.valid) (rw c.self.view_is at c.self.invariant.list) c.requires.second _ _ _ fg
-          (rw (← c.self.view_is) c.self.invariant.extremes.greatest) c.count-place.ensures.within (since d) (latest d) (omega (arith, ints));
+          (grind (linear, fits)) c.count-place.ensures.within (since d) (latest d) (omega (arith, ints));
       cost = ended d;
     }
