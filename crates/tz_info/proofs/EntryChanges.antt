@@ -190,7 +190,7 @@ module _ (z : Zone) (e : Entries) (valid : IsValid z) (made : AreEntries z e) wh
 
   pub with_entry : (k : ℕ) (r : Option Change) → k < length e.items → k + 1 < e.all → IsEntryChange z.types e.items k r → IsChangeWith z e k r
   with_entry k None h more least = grind linear
-  with_entry k (Some c) h more is = record { change = grind (linear, entry_change); none = grind linear}
+  with_entry k (Some c) h more is = record { change = grind (linear, entry_change); none = grind linear }
 
   -- the entries ahead of the second
   ahead_by : (w : Bool) (s : ℤ) (j : ℕ) → j < length e.items
