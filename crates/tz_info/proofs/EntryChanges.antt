@@ -1,22 +1,22 @@
 -- What a zone's entries say of it: the types in force, the clock changes, and the spans between them.
 use Rattle.tz_info.proofs.{
-  LeapOrder.{leap_times_answer},
+  LeapOrder.leap_times_answer,
   Prefixes.{any, index_within, last_taken},
-  SegmentLaws.{begin_first, begin_next, come_at_time, come_by_time, come_from, not_later, place_before, place_begin, place_most, places_rise},
-  SegmentLaws.{segment_most, split_at, split_count},
-  TableSearch.{search_found},
-  Words.{AreLeapSeconds, AreRising, Bool, Change, Counts, HasNoChange, HasType, IsAhead, IsBeforeLast, IsChange, IsInTable, IsLastOf, IsLeapTime},
-  Words.{IsNear, IsNearest, IsNearestChange, IsSpanAt, IsTrue, IsValid, LeapSecond, List, LocalType, MatchOption, None, Option, Precedes, RoseWithin, SFits},
-  Words.{Some, Transition, TypeAt, Zone, arith, begin_of, cases_lt, correction_at, digits, digits-le, digits-more, false, get_or, index_at, index_of},
-  Words.{inl, inr, leap_time_at, length, length-take, linear, passed, pos, refl, segment_of, slice_get, suc, sym, take, true, w64, zero, ℕ, ℤ, ◌+ℤ◌},
-  Words.{◌+◌, ◌-ℤ◌, ◌-◌, ◌<ℤ◌, ◌<◌, ◌==◌, ◌↔◌, ◌∙◌, ◌≡◌, ◌≤ℤ◌, ◌≤◌},
+  SegmentLaws.{begin_next, come_at_time, come_by_time, come_from, not_later, place_before, place_begin, place_most, places_rise, segment_most, split_at},
+  SegmentLaws.split_count,
+  TableSearch.search_found,
+  Words.{AreLeapSeconds, AreRising, Bool, Change, Counts, HasNoChange, HasType, IsAhead, IsBeforeLast, IsChange, IsInTable, IsLastOf, IsLeapTime, IsNear},
+  Words.{IsNearest, IsNearestChange, IsSpanAt, IsTrue, IsValid, LeapSecond, List, LocalType, MatchOption, None, Option, Precedes, RoseWithin, SFits, Some},
+  Words.{Transition, TypeAt, Zone, arith, begin_of, cases_lt, correction_at, digits, digits-le, digits-more, false, get_or, index_at, index_of, inl, inr},
+  Words.{leap_time_at, length, length-take, linear, passed, pos, refl, segment_of, slice_get, suc, sym, take, true, w64, zero, ℕ, ℤ, ◌+ℤ◌, ◌+◌, ◌-ℤ◌, ◌-◌},
+  Words.{◌<ℤ◌, ◌<◌, ◌==◌, ◌↔◌, ◌∙◌, ◌≡◌, ◌≤ℤ◌, ◌≤◌},
   ZoneChanges.{out_before, out_from, refused_on, time_of},
   ZoneLaws.{before_or_from_last, inside_listed, last_index_below, leap_time_decided},
 }
 use Rattle.tz_info.specs.{
   Steps.Entries.{AreEntries, Entries, HaveComeAt, IsBetween, IsCome, IsEntryChange, entry_time, last_index, most_looks},
   Steps.Changes.{IsAheadChange, IsChangeWith, count_ahead, place_ahead},
-  declared.zone.made.change_table.{Between.{Between}, Come.{Come}},
+  declared.zone.made.change_table.{Between.Between, Come.Come},
 }
 
 -- a number has few binary digits
@@ -43,8 +43,7 @@ count_here ts u n rising within since until =
     let a = come_by_time ts u n any rising in grind linear
 
 pub begin_at : (ts : List Transition) (k : ℕ) (d : Transition) → 0 < k → k ≤ length ts → (get_or ts (k - 1) d).unix_leap_time ≡ begin_of ts k
-begin_at ts zero d some within = grind linear
-begin_at ts (suc k) d some within = grind (linear, begin_next)
+begin_at ts k d some within = grind (linear, begin_next)
 
 -- ---- which seconds have a leap time
 pub near_time : (es : List LeapSecond) (u : ℤ) → AreLeapSeconds es → IsNear u → IsLeapTime es u (u +ℤ correction_at es u)
@@ -56,8 +55,7 @@ near_time es u valid near = elim (leap_time_decided es u) [
 -- ---- the type in force
 pub have_come : (z : Zone) (e : Entries) (u : ℤ) (c : Come) → IsValid z → AreEntries z e → SFits w64 u → IsLeapTime z.leaps u (leap_time_at z u)
     → IsCome e u c → HaveComeAt z u c
-have_come z e u c valid made fits l come =
-    grind (linear, last_index_below)
+have_come z e u c valid made fits l come = grind (linear, last_index_below)
 
 pub not_last : (z : Zone) (u : ℤ) (c : Come) → HaveComeAt z u c → c.are_all ≡ false → IsBeforeLast z (leap_time_at z u)
 not_last z u c h not = grind (linear, before_or_from_last)
@@ -92,8 +90,7 @@ pub rose_then : (a b c : Counts) (m n p q : ℕ) → RoseWithin a b m p → Rose
 rose_then a b c m n p q one two = grind linear
 
 pub looks_most : (m n : ℕ) → 0 < n → m ≤ n → most_looks m ≤ digits n
-looks_most zero n some h = grind (linear, digits-more, digits_one)
-looks_most (suc m) n some h = digits-more _ n h
+looks_most m n some h = grind (linear, digits-more, digits_one)
 
 -- the entry at that place is one of those that are left
 abbrev IsLeftAt : Bool → ℕ → ℕ → ℕ → Type 0
@@ -127,7 +124,7 @@ module _ (z : Zone) (e : Entries) (valid : IsValid z) (made : AreEntries z e) wh
     of_second = λ _. l;
     in_force = record {
       before_last = λ _. type_here u x n fits l count ∙ has;
-      from_last = λ q. let a = (made.come u x fits l).0 q in absurd (omega arith);
+      from_last = grind linear;
     };
   }
 
@@ -181,7 +178,6 @@ module _ (z : Zone) (e : Entries) (valid : IsValid z) (made : AreEntries z e) wh
   -- before an entry comes some transition has not
   in_table : (k : ℕ) (c : Change) → k < length e.items → IsChange (TypeAt z) c → c.at ≡ time_at e k → segment_of z (c.at -ℤ pos 1) < length z.transitions
   in_table k c h is at =
-      let l = time_of z _ _ (omega arith) is.before in
       let n : count_at e (c.at -ℤ pos 1) ≡ k = rw at (count_before k h) in
       grind (linear, come_at_time, segment_most)
 
@@ -193,8 +189,8 @@ module _ (z : Zone) (e : Entries) (valid : IsValid z) (made : AreEntries z e) wh
   found w s k c h is at ahead near = grind (linear, in_table, table_change)
 
   pub with_entry : (k : ℕ) (r : Option Change) → k < length e.items → k + 1 < e.all → IsEntryChange z.types e.items k r → IsChangeWith z e k r
-  with_entry k None h more least = record { change = grind linear; none = λ _. inr least }
-  with_entry k (Some c) h more is = record { change = grind (linear, entry_change); none = λ e. grind arith }
+  with_entry k None h more least = grind linear
+  with_entry k (Some c) h more is = record { change = grind (linear, entry_change); none = grind linear }
 
   -- the entries ahead of the second
   ahead_by : (w : Bool) (s : ℤ) (j : ℕ) → j < length e.items
@@ -217,41 +213,36 @@ module _ (z : Zone) (e : Entries) (valid : IsValid z) (made : AreEntries z e) wh
       → IsChange (TypeAt z) c → c.at ≡ time_at e place → IsNearestChange w (TypeAt z) (IsInTable z (IsAhead w s)) c
   left_found true s left place c l some is change at =
       let first = ahead_by true s place (omega arith) in
-      found true s place c (omega arith) change at (grind linear) (λ j d below is_d time ahead.
-      let r = not_later e.items place j any made.rising in
-      grind linear)
+      found true s place c (omega arith) change at (grind linear) (grind (linear, not_later))
   left_found false s left place c l some is change at =
       let most = place_most e.items s made.rising in
       let first = ahead_by false s place (omega arith) in
-      found false s place c (omega arith) change at (grind linear) (λ j d below is_d time ahead.
-      let r = not_later e.items j place any made.rising in
-      grind linear)
+      found false s place c (omega arith) change at (grind linear) (grind (linear, not_later))
 
   found_with : (w : Bool) (s : ℤ) (left : ℕ) (c : Change) → AreLeft z e w s left → IsAheadChange z e w left (Some c)
       → IsNearestChange w (TypeAt z) (IsInTable z (IsAhead w s)) c
   found_with w s zero c l one = grind arith
   found_with w s (suc n) c l one =
       let (change, at) = (one.1 (omega arith)).change in
-      left_found w s (suc n) (place_ahead w (length e.items) (suc n)) c l (omega arith) refl change at
+      left_found w s (suc n) _ c l (omega arith) refl change at
 
   -- no more than two entries are asked
   few_left : (w : Bool) (s : ℤ) (left : ℕ) → SFits w64 s → left ≡ count_ahead w (length e.items) (count_at e s) → IsAheadChange z e w left None
       → IsAheadChange z e w (left - 1) None → AreLeft z e w s (left - 1 - 1) → HasNoChange (TypeAt z) (IsInTable z (IsAhead w s))
   few_left true s zero fits is one two l = left_none true s l
   few_left true s (suc n) fits is one two l = elim ((one.1 (omega arith)).none refl) [
-    | inl last ↦ let none : suc n - 1 - 1 ≡ 0 = grind (linear, made.more) in left_none true s (rw none at l)
+    | inl last ↦ let none : suc n - 1 - 1 ≡ 0 = grind linear in left_none true s (rw none at l)
     | inr least ↦ let first = ahead_by true s (length e.items - suc n) (omega arith) in absurd (grind linear)
   ]
   few_left false s zero fits is one two l = left_none false s l
   few_left false s (suc zero) fits is one two l = left_none false s l
   few_left false s (suc (suc n)) fits is one two l = elim ((two.1 (omega arith)).none refl) [
-    | inl last ↦ let most = place_most e.items s made.rising in let more = made.more in absurd (omega arith)
+    | inl last ↦ let most = place_most e.items s made.rising in absurd (omega arith)
     | inr least ↦ λ d change inside.
         let (k, below, time) = table_change d change inside.table in
         let before = l.each k d below change time inside.inside in
         let most = place_most e.items s made.rising in
         let rise = not_later e.items k n any made.rising (omega arith) (omega arith) in
-        let fits = change.fits_before in
         absurd (grind linear)
   ]
 
@@ -261,9 +252,9 @@ module _ (z : Zone) (e : Entries) (valid : IsValid z) (made : AreEntries z e) wh
 
   pub second_found : (w : Bool) (s : ℤ) (left : ℕ) (r : Option Change) → SFits w64 s → left ≡ count_ahead w (length e.items) (count_at e s)
       → IsAheadChange z e w left None → IsAheadChange z e w (left - 1) r → IsNearest w (TypeAt z) (IsInTable z (IsAhead w s)) r
-  second_found w s left (Some c) fits is none two = found_with w s (left - 1) c (left_less w s left (left_first w s left is) none) two
+  second_found w s left (Some c) fits is none two = found_with w s (left - 1) c (grind (linear, left_less, left_first)) two
   second_found w s left None fits is none two =
-      few_left w s left fits is none two (left_less w s (left - 1) (left_less w s left (left_first w s left is) none) two)
+      few_left w s left fits is none two (left_less w s (left - 1) (grind (linear, left_less, left_first)) two)
 
 -- ---- between two entries
 pub index_below : (z : Zone) (e : Entries) (k : ℕ) → IsValid z → AreEntries z e → k ≤ length e.items → index_of e.items k < length z.types
@@ -273,7 +264,7 @@ index_below z e k valid made h = grind (linear, index_within)
 pub inside_between : (z : Zone) (e : Entries) (u : ℤ) (b : Between) → AreEntries z e → IsBetween e u b → SFits w64 u → (b.from ≤ℤ u) × (u <ℤ b.until)
 inside_between z e u b made h fits =
     let c = come_by_time e.items u h.place any made.rising h.some in
-    grind (linear, come_from, begin_first)
+    grind (linear, come_from)
 
 pub stretch_between : (z : Zone) (e : Entries) (u v : ℤ) (b : Between) (t : LocalType) → IsValid z → AreEntries z e → IsBetween e u b
     → SFits w64 b.from → SFits w64 b.until
@@ -283,7 +274,7 @@ stretch_between z e u v b t valid made h low high has from until =
     let f = come_from e.items h.place v made.rising in
     let (x, l) = made.leap_time h.place h.some in
     let (y, m) = earlier_time z e valid made v _ x (omega linear) l in
-    type_amid z e valid made v y h.place t (omega linear) m (grind linear) (omega arith) (rw h.index at has)
+    type_amid z e valid made v y h.place t (omega linear) m (grind linear) (omega arith) (grind linear)
 
 pub span_between : (z : Zone) (e : Entries) (u : ℤ) (b : Between) (t : LocalType) → IsValid z → AreEntries z e → IsBetween e u b → IsTrue b.is_span
     → SFits w64 u → SFits w64 b.from → SFits w64 b.until
@@ -291,8 +282,6 @@ pub span_between : (z : Zone) (e : Entries) (u : ℤ) (b : Between) (t : LocalTy
 span_between z e u b t valid made h is fits low high has =
     let (some, not_least, more) = h.span is in
     let k = h.place in
-    let same : (k - 1) + 1 ≡ k = omega arith in
-    let own : HasType z (index_of e.items k) t = rw h.index at has in
     let (since, before) = inside_between z e u b made h fits in
     let (r, has_r) = inside_listed _ _ (index_below z e (k - 1) valid made (omega arith)) in
     let (s, has_s) = inside_listed _ _ (index_below z e (k + 1) valid made (omega arith)) in

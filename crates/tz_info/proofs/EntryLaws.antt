@@ -1,18 +1,18 @@
 -- How the entries of a zone are made, one transition after another.
-use Rattle.std.proofs.lemmas.{List.{take-append-le, Elements.{filter-append}}, Option.{slice_get_within}}
+use Rattle.std.proofs.lemmas.{List.{take-append-le, Elements.filter-append}, Option.slice_get_within}
 use Rattle.std.specs.Prelude.{option_to_list}
 use Rattle.tz_info.proofs.{
-  LeapSearch.{own_leap_time},
-  Prefixes.{index_within},
+  LeapSearch.own_leap_time,
+  Prefixes.index_within,
   SegmentLaws.{come_by_time, index_next, not_later, place_most},
-  Words.{All, All-push, AreLeapSeconds, AreRising, IsFromLast, IsLeapTime, IsLeapTimeRefused, IsValid, LeapSecond, List, None, Option, Some},
-  Words.{Transition, Zone, [], all_pairs_push, append-nil, arith, by_lt_z, cases_lt, get_or, get_or_append_left, get_or_default, get_or_push},
-  Words.{index_of, inr, last_else, le_false, le_true, length, length_push, linear, map, nat_tests, passed, pos, refl, slice_get, slice_get-get_or},
-  Words.{suc, take, take_all, take_more, zero, ℕ, ℤ, ◌++◌, ◌+◌, ◌-◌, ◌<ℤ◌, ◌<◌, ◌==◌, ◌↔◌, ◌∷◌, ◌≡◌, ◌≢◌, ◌≤ℤ◌, ◌≤◌, ◌⊎◌},
-  ZoneChanges.{refused_on},
+  Words.{All, All-push, AreLeapSeconds, AreRising, IsFromLast, IsLeapTime, IsLeapTimeRefused, IsValid, LeapSecond, List, None, Option, Some, Transition, Zone},
+  Words.{[], all_pairs_push, append-nil, arith, by_lt_z, cases_lt, get_or, get_or_append_left, get_or_default, get_or_push, index_of, last_else, le_false},
+  Words.{le_true, length, length_push, linear, map, nat_tests, passed, pos, refl, slice_get, slice_get-get_or, suc, take, take_all, take_more, zero, ℕ, ℤ},
+  Words.{◌++◌, ◌+◌, ◌-◌, ◌<ℤ◌, ◌<◌, ◌==◌, ◌↔◌, ◌∷◌, ◌≡◌, ◌≢◌, ◌≤ℤ◌, ◌≤◌, ◌⊎◌},
+  ZoneChanges.refused_on,
 }
 use Rattle.tz_info.specs.{
-  Transitions.{NameTypes},
+  Transitions.NameTypes,
   Steps.Entries.{AreBefore, AreEntries, EndsAt, IsAdded, IsStartIn, NeverComes, added, idle, last_index, none_there, one_there},
 }
 
@@ -22,10 +22,10 @@ last_more [] t i = refl
 last_more (s ∷ ts) t i = last_more ts t s.type_index
 
 passed_in : (ts : List Transition) (t : Transition) (x : ℤ) → t.unix_leap_time ≤ℤ x → passed (ts ++ t ∷ []) x ≡ passed ts x ++ t ∷ []
-passed_in ts t x h = grind (linear, filter-append, le_true)
+passed_in ts t x h = grind (linear, filter-append)
 
 passed_out : (ts : List Transition) (t : Transition) (x : ℤ) → x <ℤ t.unix_leap_time → passed (ts ++ t ∷ []) x ≡ passed ts x
-passed_out ts t x h = grind (linear, filter-append, le_false, append-nil)
+passed_out ts t x h = grind (linear, filter-append, append-nil)
 
 passed_all : (ts : List Transition) (x : ℤ) → All (λ t. t.unix_leap_time ≤ℤ x) ts → passed ts x ≡ ts
 passed_all [] x h = refl
@@ -74,23 +74,21 @@ index_left : (ts us : List Transition) (j : ℕ) → j ≤ length ts → index_o
 index_left ts us j h = grind (linear, take-append-le)
 
 kept_of : (entries kept : List Transition) (s : ℤ) → AreBefore entries s kept → AreKept entries kept s
-kept_of entries kept s (none_there e other) = grind linear
-kept_of entries kept s (one_there t e at) = grind (linear, length_push, get_or_append_left, index_left, passed_out)
+kept_of entries kept s same = grind (linear, length_push, get_or_append_left, index_left, passed_out)
 
 -- what holds of all holds of those
 pub kept_all : (P : Transition → Type 0) (entries kept : List Transition) (s : ℤ) → AreBefore entries s kept → All P entries → All P kept
 kept_all P entries kept s before all j d l =
-    let keep = kept_of entries kept s before in
-    grind linear
+    let keep = kept_of entries kept s before in grind linear
 
 -- all of them come before it
 kept_earlier : (entries kept : List Transition) (s : ℤ) → AreRising entries → All (λ t. t.unix_leap_time ≤ℤ s) entries → AreBefore entries s kept
     → All (λ t. t.unix_leap_time <ℤ s) kept
 kept_earlier entries kept s rising until (none_there e other) = rw e (λ j d h.
     let r = rising j (length entries - 1) d in
-    grind (linear, by_lt_z, slice_get-get_or))
+    grind (linear, slice_get-get_or))
 kept_earlier entries kept s rising until (one_there t e at) = λ j d h.
-    let r = rw e at rising j (length kept) d h in grind (linear, get_or_append_left, get_or_push, length_push)
+    let r = rw e at rising j (length kept) d h in grind (linear, get_or_append_left, length_push)
 
 -- ---- one turn of the loop
 pub record IsTurn (z : Zone) (old kept entries : List Transition) (k : ℕ) (s : ℤ) (t : Transition) : Type 0 where
@@ -121,22 +119,20 @@ module _ (z : Zone) (old kept entries : List Transition) (k : ℕ) (s : ℤ) (t 
   named_before : (u x : ℤ) → IsLeapTime z.leaps u x → u <ℤ s
       → slice_get z.types (last_index (passed (take (k + 1) z.transitions) x)) ≡ slice_get z.types (last_index (passed kept u))
   named_before u x l early =
-      let r = h.start.reached u x l in
-      rw (taken, passed_out (take k z.transitions) t x (grind linear), keep.same u early) (h.made.named u x l)
+      let r = h.start.reached u x l in grind (linear, taken, passed_out, keep)
 
   named_from : (u x : ℤ) → IsLeapTime z.leaps u x → s ≤ℤ u → last_index (passed (take (k + 1) z.transitions) x) ≡ t.type_index
-  named_from u x l late = rw (taken, passed_in (take k z.transitions) t x ((h.start.reached u x l).1 late), last_more) refl
+  named_from u x l late = rw (taken, passed_in _ t x (grind linear), last_more) refl
 
   -- then the entries are those of one transition more
   pub turned : AreMadeOf z entries (k + 1)
   turned =
       let few = keep.few in
-      let rising : AreRising kept = λ i j d a l. rw (keep.item i d (omega arith), keep.item j d l) (h.made.rising i j d a (omega arith)) in
+      let rising : AreRising kept = grind (linear, keep) in
       let indexes : NameTypes (length z.types) kept = kept_all (λ a. a.type_index < length z.types) old kept s h.before h.made.indexes in
       let own : All (IsOwn z (k + 1)) kept = kept_all (IsOwn z (k + 1)) old kept s h.before (λ j d l.
       let (a, i, below, own, start) = h.made.own j d l in grind linear) in
-      let differ : (j : ℕ) → j < length kept → slice_get z.types (index_of kept (j + 1)) ≢ slice_get z.types (index_of kept j) = λ j l.
-      rw (keep.index j (omega arith), keep.index (j + 1) (omega arith)) (h.made.differ j (omega arith) (inr h.more)) in
+      let differ : (j : ℕ) → j < length kept → slice_get z.types (index_of kept (j + 1)) ≢ slice_get z.types (index_of kept j) = grind (linear, keep) in
       elim h.change [
         | idle e not same ↦ rw e (record {
           rising = rising;
@@ -205,7 +201,7 @@ module _ (z : Zone) (entries : List Transition) (k all : ℕ) (valid : IsValid z
         some = grind linear;
         named = λ u x f l. rw (passed_first z.transitions k x (λ i d low h.
             let late = never u x f l in
-            let n = not_later z.transitions k i d valid.transitions.rising low h in grind (linear, get_or_default))) (made.named u x l);
+            let n = not_later z.transitions k i d valid.transitions.rising low h in grind (linear, get_or_default))) (grind linear);
         come = λ u x f l.
             let late = never u x f l in
             let c = come_by_time z.transitions x k t valid.transitions.rising more in
@@ -220,8 +216,7 @@ AreChanges z n = (k : ℕ) → k + 1 < n → slice_get z.types (index_of z.trans
 
 pub own_entries : (z : Zone) → IsValid z → length z.leaps ≡ 0 → AreChanges z (length z.transitions)
     → AreEntries z (record { items = z.transitions; all = length z.transitions; transitions = z.transitions })
-own_entries z valid none differ =
-    grind (linear, own_leap_time)
+own_entries z valid none differ = grind (linear, own_leap_time)
 
 -- ---- the second at which a transition comes
 -- a leap time comes at no second if its first one is too late, or has no leap time
@@ -236,15 +231,14 @@ module _ (leaps : List LeapSecond) (x start : ℤ) (reached : (u y : ℤ) → Is
 pub popped : (entries kept : List Transition) (r : Option Transition) (second : ℤ) → EndsAt entries second → entries ≡ kept ++ option_to_list r
     → ((d : Transition) → 0 < length entries → r ≡ Some (get_or entries (length entries - 1) d)) → AreBefore entries second kept
 popped entries kept None second (t, is, at) e value =
-    let some = slice_get_within entries (length entries - 1) t is in let v = value t (omega arith) in absurd cc
+    let some = slice_get_within entries _ t is in let v = value t (omega arith) in absurd cc
 popped entries kept (Some r) second (t, is, at) e value =
-    let some = slice_get_within entries (length entries - 1) t is in
+    let some = slice_get_within entries _ t is in
     let v = value t (omega arith) in one_there r e (grind (arith, slice_get-get_or))
 
 pub last_item : (entries : List Transition) (t : Transition) → 0 < length entries → t ≡ get_or entries (length entries - 1) t
     → t.type_index ≡ last_index entries
-last_item entries t some item =
-    grind (linear, take_all, index_next)
+last_item entries t some item = grind (linear, take_all, index_next)
 
 pub last_below : (entries : List Transition) (n : ℕ) → 0 < n
     → NameTypes n entries → last_index entries < n

@@ -1,16 +1,16 @@
 -- Lists make a zone or have one first fault.
 use Rattle.std.proofs.lemmas.List.Elements.{All-map}
 use Rattle.tz_base.specs.{
-  declared.error.Error.TheVariants.{TimeZone},
+  declared.error.Error.TheVariants.TimeZone,
   declared.error.Expected.TheVariants.{AtLeastOneLocalTimeType, LeapSecondsInOrder, RuleThatAgreesWithLastTransition, TransitionTimesThatRise},
-  declared.error.Expected.TheVariants.{TypeIndexesWithinTypes},
+  declared.error.Expected.TheVariants.TypeIndexesWithinTypes,
 }
 use Rattle.tz_info.proofs.{
-  Words.{All, AllAdjacentBelow, AllPairs, AreLeapSeconds, AreRising, AreTransitions, Error, IsNextLeap, IsValid, LeapSecond, List, ListFault},
-  Words.{No_type, Not_rising, Other_index, Other_leaps, Other_rule, Transition, Zone, [], arith, below_more, cases_lt, error_number, get_or},
-  Words.{get_or-map, get_or_default, inl, inr, length, length-map, map, suc, zero, ℕ, ℤ, ◌+◌, ◌<ℤ◌, ◌<◌, ◌∷◌, ◌≡◌, ◌≤◌, ◌⊎◌},
+  Words.{All, AllAdjacentBelow, AllPairs, AreLeapSeconds, AreRising, AreTransitions, Error, IsNextLeap, IsValid, LeapSecond, List, ListFault, No_type},
+  Words.{Not_rising, Other_index, Other_leaps, Other_rule, Transition, Zone, [], arith, below_more, cases_lt, error_number, get_or-map, get_or_default, inl},
+  Words.{inr, length, length-map, map, suc, zero, ℕ, ℤ, ◌+◌, ◌<ℤ◌, ◌<◌, ◌∷◌, ◌≡◌, ◌≤◌, ◌⊎◌},
 }
-use Rattle.tz_info.specs.{Leaps.{IsFirstLeap}, Transitions.{NameTypes}}
+use Rattle.tz_info.specs.{Leaps.IsFirstLeap, Transitions.NameTypes}
 
 -- ---- what can be tested holds or does not
 abbrev pub Known : Type 0 → Type 0
@@ -38,21 +38,21 @@ below_known {P = P} (suc n) each =
 all_known : {X : Type 0} {P : X → Type 0} → ((x : X) → Known (P x)) → (xs : List X) → Known (All P xs)
 all_known each [] = inl (grind arith)
 all_known {P = P} each (x ∷ xs) = like_known (λ h k d l. rw (get_or_default (x ∷ xs) k d x l) (h k l)) (λ h k l. h k x l)
-    (below_known {P = λ k. P (get_or (x ∷ xs) k x)} (length (x ∷ xs)) (λ k. each _))
+    (below_known {P = λ k. P _} (length (x ∷ xs)) (λ k. each _))
 
 pairs_known : {X : Type 0} {R : X → X → Type 0} → ((x y : X) → Known (R x y)) → (xs : List X) → Known (AllPairs R xs)
 pairs_known each [] = inl (grind arith)
 pairs_known {R = R} each (x ∷ xs) = like_known
     (λ h i j d l m. rw (get_or_default (x ∷ xs) i d x (omega arith), get_or_default (x ∷ xs) j d x m) (h j m i l))
     (λ h j m i l. h i j x l m)
-    (below_known {P = λ j. (i : ℕ) → i < j → R (get_or (x ∷ xs) i x) (get_or (x ∷ xs) j x)} (length (x ∷ xs)) (λ j. below_known j (λ i. each _ _)))
+    (below_known {P = λ j. (i : ℕ) → i < j → R _ _} (length (x ∷ xs)) (λ j. below_known j (λ i. each _ _)))
 
 adjacent_known : {X : Type 0} {R : X → X → Type 0} → ((x y : X) → Known (R x y)) → (xs : List X) → Known (AllAdjacentBelow R xs (length xs))
 adjacent_known each [] = inl (grind arith)
 adjacent_known {R = R} each (x ∷ xs) = like_known
     (λ h k d l. rw (get_or_default (x ∷ xs) k d x (omega arith), get_or_default (x ∷ xs) (k + 1) d x l) (h k (omega arith)))
     (λ h k l. h k x (omega arith))
-    (below_known {P = λ k. R (get_or (x ∷ xs) k x) (get_or (x ∷ xs) (k + 1) x)} (length xs) (λ k. each _ _))
+    (below_known {P = λ k. R _ _} (length xs) (λ k. each _ _))
 
 -- ---- transitions and leap seconds
 earlier_known : (a b : Transition) → Known (a.unix_leap_time <ℤ b.unix_leap_time)

@@ -20,7 +20,7 @@ split_count ts x n b = grind (arith, search_found ts x n n, length-take)
 
 -- transitions that rise are split by a leap time
 pub split_at : (ts : List Transition) (x : ℤ) → AreRising ts → (n : ℕ) × Between ts x n n
-split_at [] x r = (0, grind arith)
+split_at [] x r = grind linear
 split_at (t ∷ ts) x r = by_lt_z x t.unix_leap_time
     (λ later. (0, grind (linear, not_later (t ∷ ts) 0)))
     (λ come. let (n, b) = split_at ts x (λ i j d h l. r (suc i) (suc j) d (omega arith) (omega arith)) in (suc n, grind linear))
@@ -48,7 +48,7 @@ any = record { unix_leap_time = least_time; type_index = 0 }
 
 -- a greater number splits them later
 splits_rise : (ts : List Transition) (x y : ℤ) (m n : ℕ) → x ≤ℤ y → Between ts x m m → Between ts y n n → m ≤ n
-splits_rise ts x y m n h a b = grind (linear, a.below n any, b.above n any)
+splits_rise ts x y m n h a b = grind (linear, b.above n any)
 
 -- segments rise with seconds
 pub segments_rise : (z : Zone) (u v : ℤ) → AreRising z.transitions → AreLeapSeconds z.leaps → u ≤ℤ v → segment_of z u ≤ segment_of z v
@@ -72,7 +72,7 @@ pub index_next : (ts : List Transition) (i : ℕ) (d : Transition) → i < lengt
 index_next ts i d h = grind (arith, last_taken)
 
 begun_before : (ts : List Transition) (x : ℤ) (i : ℕ) → least_time ≤ℤ x → Between ts x i i → begin_of ts i ≤ℤ x
-begun_before ts x zero h b = rw (begin_first ts) h
+begun_before ts x zero h b = grind linear
 begun_before ts x (suc i) h b = grind (linear, begin_suc ts i any)
 
 -- a leap time is in segment i if it comes from the segment's begin on, and before the next transition
@@ -109,7 +109,7 @@ come_at_time z u x time = come_by_then z u x (λ _. time)
 pub come_by_time : (ts : List Transition) (x : ℤ) (k : ℕ) (d : Transition) → AreRising ts → k < length ts
     → (suc k ≤ length (passed ts x)) ↔ ((get_or ts k d).unix_leap_time ≤ℤ x)
 come_by_time ts x k d rising h =
-    let (n, b) = split_at ts x rising in grind (linear, split_count ts x n b, b.below k d, b.above k d)
+    let (n, b) = split_at ts x rising in grind (linear, split_count ts x n b)
 
 -- a type at a second of a zone whose transitions rise
 module _ (z : Zone) (u : ℤ) (t : LocalType) (r : AreRising z.transitions) where
@@ -130,14 +130,14 @@ pub type_in_before : (z : Zone) (i : ℕ) (u x : ℤ) (t : LocalType) → IsLeap
 type_in_before z i u x t l b h k =
     let e = search_found _ x i i (omega arith) b in
     let c = split_count _ x i b in
-    record { type = record { leap_time = x; of_second = grind arith; in_force = grind arith }; segment = segment_is z u i (rw l.sum at b) }
+    record { type = grind linear; segment = segment_is z u i (rw l.sum at b) }
 
 pub type_in_from : (z : Zone) (u x : ℤ) (t : LocalType) → IsLeapTime z.leaps u x → Between z.transitions x (length z.transitions) (length z.transitions)
     → RuleOrType z u (index_of z.transitions (length z.transitions)) t → TypeIn z (length z.transitions) u t
 type_in_from z u x t l b k =
     let e = search_found _ x _ _ (omega arith) b in
     let c = split_count _ x _ b in
-    record { type = record { leap_time = x; of_second = grind arith; in_force = grind arith }; segment = segment_is z u _ (rw l.sum at b) }
+    record { type = grind linear; segment = segment_is z u _ (rw l.sum at b) }
 
 -- ---- how many have come by a second
 pub place_most : (ts : List Transition) (u : ℤ) → AreRising ts → length (passed ts u) ≤ length ts
@@ -150,7 +150,7 @@ come_from ts (suc k) u rising some within = grind (linear, come_by_time ts u k a
 
 pub begins_rise : (ts : List Transition) (k : ℕ) → AreRising ts → 0 < k → k < length ts → begin_of ts k <ℤ begin_of ts (suc k)
 begins_rise ts zero rising some within = grind linear
-begins_rise ts (suc k) rising some within = grind (linear, begin_suc ts k any, begin_suc ts (suc k) any, rising k (suc k) any)
+begins_rise ts (suc k) rising some within = grind (linear, begin_suc ts k any, begin_suc ts (suc k) any)
 
 pub places_rise : (ts : List Transition) (u v : ℤ) → AreRising ts → u ≤ℤ v → length (passed ts u) ≤ length (passed ts v)
 places_rise ts u v rising h =

@@ -7,11 +7,11 @@ use Rattle.tz_info.proofs.{
   RuleChanges.rule_second,
   RuleLaws.rule_year,
   SegmentLaws.{come_at_time, come_by_time, segment_most, segments_rise},
-  Words.{Alternate as AlternateRule, AreLeapSeconds, Change, HasNoChange, IfSome, IsAlternateRefused, IsBeginBy, IsChange, IsEndBy, IsFirst},
-  Words.{IsFromLast, IsInSpan, IsLast, IsLeapTime, IsOutOfForce, IsRefusedBy, IsRuleOrNone, IsRuleTime, IsSince, IsSpan, IsSpanAt, IsTypeRefused},
-  Words.{IsTyped, IsUnixTime, IsUntil, IsValid, LeapSecond, List, LocalType, None, Option, SFits, Some, Span, Transition, TransitionRule, TypeAt},
-  Words.{Zone, ap, arith, by_leap_time, by_lt_z, by_rule, cases_lt, correction_before, floor_div, inl, inr, last_transition, length, lies_in, linear},
-  Words.{neg_ℤ, option_map, pos, refl, segment_of, sym, w64, ℤ, ◌-ℤ◌, ◌-◌, ◌<ℤ◌, ◌<◌, ◌∙◌, ◌≡◌, ◌≤ℤ◌, ◌⊎◌},
+  Words.{Alternate as AlternateRule, AreLeapSeconds, Change, HasNoChange, IfSome, IsAlternateRefused, IsBeginBy, IsChange, IsEndBy, IsFirst, IsFromLast},
+  Words.{IsInSpan, IsLast, IsLeapTime, IsOutOfForce, IsRefusedBy, IsRuleOrNone, IsRuleTime, IsSince, IsSpan, IsSpanAt, IsTypeRefused, IsTyped, IsUnixTime},
+  Words.{IsUntil, IsValid, LeapSecond, List, LocalType, None, Option, SFits, Some, Span, Transition, TransitionRule, TypeAt, Zone, ap, arith, by_leap_time},
+  Words.{by_lt_z, by_rule, cases_lt, correction_before, floor_div, inl, inr, last_transition, length, lies_in, linear, neg_ℤ, option_map, pos, refl},
+  Words.{segment_of, sym, w64, ℤ, ◌-ℤ◌, ◌-◌, ◌<ℤ◌, ◌<◌, ◌∙◌, ◌≡◌, ◌≤ℤ◌, ◌⊎◌},
   ZoneChanges.{out_before, out_from, refused_on, time_of, to_rule},
   ZoneLaws.{inside_listed, type_decided, type_once},
 }
@@ -20,14 +20,13 @@ use Rattle.tz_info.specs.declared.rule.transition_rule.TransitionRule.TheVariant
 -- ---- between two seconds that have a type each has one
 -- before 1970 no entry has come
 early : (es : List LeapSecond) (v x : ℤ) → AreLeapSeconds es → v <ℤ pos 0 → IsLeapTime es v x → x ≡ v
-early es v x valid h l = let none = none_counted _ v es (follow es valid) (grind linear) in
-    grind linear
+early es v x valid h l = let none = none_counted _ v es (follow es valid) (grind linear) in grind linear
 
 early_unix : (es : List LeapSecond) (x u : ℤ) → AreLeapSeconds es → x <ℤ pos 0 → IsUnixTime es x u → u ≡ x
 early_unix es x u valid h is =
     let none : pos 0 ≡ correction_before es x = before_found es (record { unix_leap_time = pos 0; correction = pos 0 }) valid 0 x _ (omega arith)
     (grind linear)
-    (λ some. grind linear) in
+    (grind linear) in
     omega linear
 
 last_of : (ts : List Transition) → 0 < length ts → (t : Transition) × (last_transition ts ≡ Some t)
@@ -51,7 +50,7 @@ module _ (z : Zone) (a : AlternateRule) (v : ℤ) (valid : IsValid z) (rule : z.
 
   not_before_second : (u y : ℤ) (t : LocalType) → (0 < length z.transitions → IsLeapTime z.leaps v y) → u ≤ℤ v → TypeAt z u t
       → v <ℤ neg_ℤ (pos 67_768_100_504_812_800) → ⊥
-  not_before_second u y t l h k low = elim (cases_lt 0 (length z.transitions)) [
+  not_before_second u y t l h k low = elim (cases_lt 0 _) [
     | inl some ↦ not_before y some (l some) low
     | inr none ↦
         let m = segment_most z u valid.transitions.rising in
@@ -62,10 +61,10 @@ module _ (z : Zone) (a : AlternateRule) (v : ℤ) (valid : IsValid z) (rule : z.
   not_behind_second u t h k high =
       let m = segment_most z u valid.transitions.rising in
       let r = segments_rise z v u valid.transitions.rising valid.leaps h in
-      let within = rule_second a u t (to_rule z a u t rule valid (omega arith) k) in grind arith
+      let within = rule_second a u t (grind (linear, to_rule)) in grind arith
 
 pub out_of_years : (u : ℤ) → IsAlternateRefused u → (u <ℤ neg_ℤ (pos 67_768_100_504_812_800)) ⊎ (pos 67_767_976_170_460_799 <ℤ u)
-out_of_years u refused = by_lt_z u (neg_ℤ (pos 67_768_100_504_812_800))
+out_of_years u refused = by_lt_z u _
     (λ low. inl low)
     (λ from. by_lt_z (pos 67_767_976_170_460_799) u
     (λ high. inr high)
@@ -110,13 +109,11 @@ seconds_of found = option_map (λ c. c.at) found
 
 idle_since : (f : InForce) (u v : ℤ) (last : Option Change) → IsLast f (λ w. w ≤ℤ u) last → IsSince (seconds_of last) v
     → HasNoChange f (λ w. (v <ℤ w) × (w ≤ℤ u))
-idle_since f u v None h since d is i = h d is i.1
-idle_since f u v (Some c) h since d is i = grind linear
+idle_since f u v last h since d is i = grind linear
 
 idle_until : (f : InForce) (u v : ℤ) (next : Option Change) → IsFirst f (λ w. u <ℤ w) next → IsUntil (seconds_of next) v
     → HasNoChange f (λ w. (u <ℤ w) × (w ≤ℤ v))
-idle_until f u v None h until d is i = h d is i.0
-idle_until f u v (Some c) h until d is i = grind linear
+idle_until f u v next h until d is i = grind linear
 
 -- ---- a span goes from the last change or the first second with a type to the next change or the last second with a type
 -- a second with a type, from which on the span's seconds come, and up to which they come
@@ -147,12 +144,11 @@ module _ (z : Zone) (u : ℤ) (t : LocalType) (valid : IsValid z) (limits : IsRu
   }
   low_of (Some c) from last k =
       let same = no_change z _ u _ t valid limits last.is.fits fits last.inside
-      (λ d is i. grind linear) last.is.after h in
+      (grind linear) last.is.after h in
       grind (linear, out_before)
 
   high_of : (next : Option Change) (until : Option ℤ) → IsFirst (TypeAt z) (λ v. u <ℤ v) next → IsEndBy z next until → IsHigh z u t next until
-  high_of None None next k =
-      grind linear
+  high_of None None next k = grind linear
   high_of None (Some x) next k = record {
     high = x -ℤ pos 1;
     typed = k.typed;
@@ -162,7 +158,7 @@ module _ (z : Zone) (u : ℤ) (t : LocalType) (valid : IsValid z) (limits : IsRu
   }
   high_of (Some c) until next k =
       let same = no_change z u _ t _ valid limits fits next.is.fits_before (omega linear)
-      (λ d is i. grind linear) h next.is.before in
+      (grind linear) h next.is.before in
       grind (linear, out_from)
 
 pub span_between : (z : Zone) (u : ℤ) (t : LocalType) (last next : Option Change) (from until : Option ℤ) → IsValid z → IsRuleOrNone z.rule → SFits w64 u
@@ -172,7 +168,7 @@ pub span_between : (z : Zone) (u : ℤ) (t : LocalType) (last next : Option Chan
 span_between z u t _ _ from until valid limits fits h before after begin end =
     let low = low_of z u t valid limits fits h _ _ before begin in
     let high = high_of z u t valid limits fits h _ _ after end in
-    let inside : IsInSpan (record { local_time_type = t; from = from; until = until }) u =
+    let inside : IsInSpan _ u =
     grind linear in record {
       in_force_then = h;
       inside = inside;
@@ -192,17 +188,15 @@ span_between z u t _ _ from until valid limits fits h before after begin end =
 
 -- ---- a second lies in one span
 pub since_more : (from : Option ℤ) (u v : ℤ) → IsSince from u → u ≤ℤ v → IsSince from v
-since_more None u v h l = tt
-since_more (Some from) u v h l = omega linear
+since_more from u v h l = grind linear
 
 pub until_less : (until : Option ℤ) (u v : ℤ) → IsUntil until v → u ≤ℤ v → IsUntil until u
-until_less None u v h l = tt
-until_less (Some until) u v h l = omega linear
+until_less until u v h l = grind linear
 
 -- between two seconds of a span no change comes
 pub no_change_within : (z : Zone) (s : Span) (d : Change) → IsSpan (TypeAt z) s → IsInSpan s (d.at -ℤ pos 1) → IsInSpan s d.at → IsChange (TypeAt z) d → ⊥
 no_change_within z s d h i j is =
-    is.differ (type_once z _ _ _ is.before (h.each (d.at -ℤ pos 1) i)
+    is.differ (type_once z _ _ _ is.before (grind linear)
     ∙ type_once z _ _ _ (h.each d.at j) is.after)
 
 -- two spans of one type, with a second in each
@@ -216,22 +210,20 @@ module _ (z : Zone) (a b : Span) (u x : ℤ) (same : a.local_time_type ≡ b.loc
   end_outside is until = grind linear
 
 same_begin : (p q : Option ℤ) → ((x : ℤ) → p ≡ Some x → IsSince q (x -ℤ pos 1) → ⊥) → ((x : ℤ) → q ≡ Some x → IsSince p (x -ℤ pos 1) → ⊥) → p ≡ q
-same_begin None None h k = refl
-same_begin None (Some y) h k = grind linear
+same_begin None q h k = grind linear
 same_begin (Some x) None h k = grind linear
 same_begin (Some x) (Some y) h k = ap Some (by_lt_z y x (λ l. absurd (h x refl (omega linear)))
-    (λ m. by_lt_z x y (λ l. absurd (k y refl (omega linear))) (λ n. omega linear)))
+    (λ m. by_lt_z x y (λ l. absurd (k y refl (omega linear))) (grind linear)))
 
 same_end : (p q : Option ℤ) → ((x : ℤ) → p ≡ Some x → IsUntil q x → ⊥) → ((x : ℤ) → q ≡ Some x → IsUntil p x → ⊥) → p ≡ q
-same_end None None h k = refl
-same_end None (Some y) h k = grind linear
+same_end None q h k = grind linear
 same_end (Some x) None h k = grind linear
-same_end (Some x) (Some y) h k = ap Some (by_lt_z x y (λ l. grind linear) (λ m. by_lt_z y x (λ l. grind linear) (λ n. omega linear)))
+same_end (Some x) (Some y) h k = ap Some (by_lt_z x y (grind linear) (λ m. by_lt_z y x (λ l. grind linear) (λ n. omega linear)))
 
 pub span_once : (z : Zone) (a b : Span) (u : ℤ) → IsSpan (TypeAt z) a → IsSpan (TypeAt z) b → IsInSpan a u → IsInSpan b u → a ≡ b
 span_once z a b u h k i j =
     let same = type_once z u _ _ (h.each u i) (k.each u j) in
-    let from = same_begin _ _ (λ x. begin_outside z a b u x same h k i j) (λ x. begin_outside z b a u x (sym same) k h j i) in
+    let from = same_begin _ _ (λ x. begin_outside z a b u x same h k i j) (grind (linear, begin_outside)) in
     grind (linear, same_end, end_outside)
 
 -- ---- at an end of a span clocks change, if the zone has a type beyond it

@@ -34,6 +34,6 @@ stand_less types xs n some s = grind arith
 
 pub stand_more : (types : ℕ) (xs : List Transition) (n : ℕ) → StandUntil types xs n → Stands types xs n → StandUntil types xs (n + 1)
 stand_more types xs n s here = record {
-  indexes = grind (arith, here.index, s.indexes);
-  rising = λ i j d h l. grind (linear, here.later d, s.rising i j d, s.rising i (n - 1) d);
+  indexes = grind linear;
+  rising = λ i j d h l. grind (linear, here.later d, s.rising i (n - 1) d);
 }

@@ -1,15 +1,15 @@
 -- When a zone's types change: at its transitions, and after them when the rule's types do.
 use Rattle.std.proofs.lemmas.List.Sums.{sum_by-le-sum_by}
 use Rattle.tz_info.proofs.{
-  ChangeSearch.{nearest_moved},
+  ChangeSearch.nearest_moved,
   GapLaws.{HasOneType, one_type},
-  LeapOrder.{passed_bounded},
-  RuleChanges.{rule_second},
+  LeapOrder.passed_bounded,
+  RuleChanges.rule_second,
   SegmentLaws.{come_at_time, later_segment, segment_at, segment_most, segments_rise, type_from, type_in_from},
-  Words.{Alternate as AlternateRule, AlternateAt, AreLeapSeconds, Bool, Change, HasNoChange, IsAhead, IsBegin, IsChange, IsChangeByRule, IsInTable},
-  Words.{IsLeapTime, IsLeapTimeRefused, IsNearest, IsNearestChange, IsOutOfForce, IsRuleTime, IsValid, LeapSecond, List, LocalType, None, Option},
-  Words.{SFits, Some, TypeAt, Zone, arith, cases_lt, cond, inl, inr, int_le, length, linear, not, passed_count, pos, refl, segment_of, sym},
-  Words.{thresholds, true, false, w64, ℤ, ◌-ℤ◌, ◌<ℤ◌, ◌<◌, ◌↔◌, ◌∙◌, ◌≡◌, ◌≤ℤ◌, ◌≤◌, ◌⊎◌},
+  Words.{Alternate as AlternateRule, AlternateAt, AreLeapSeconds, Bool, Change, HasNoChange, IsAhead, IsBegin, IsChange, IsChangeByRule, IsInTable, IsLeapTime},
+  Words.{IsLeapTimeRefused, IsNearest, IsNearestChange, IsOutOfForce, IsRuleTime, IsValid, LeapSecond, List, LocalType, None, Option, SFits, Some, TypeAt},
+  Words.{Zone, arith, cases_lt, false, inl, inr, length, linear, not, passed_count, pos, refl, segment_of, sym, thresholds, true, w64, ℤ, ◌-ℤ◌, ◌<ℤ◌, ◌<◌, ◌↔◌},
+  Words.{◌∙◌, ◌≡◌, ◌≤ℤ◌, ◌≤◌, ◌⊎◌},
   ZoneLaws.{leap_time_decided, type_once},
 }
 use Rattle.tz_info.specs.declared.rule.transition_rule.TransitionRule.TheVariants.{Alternate}
@@ -20,7 +20,7 @@ pub refused_on : (es : List LeapSecond) (u v y : ℤ) → AreLeapSeconds es → 
 refused_on es u v y valid h r l =
     let b = passed_bounded es u _ valid r.passed in
     let more : passed_count es u ≤ passed_count es v =
-    sum_by-le-sum_by (λ t. cond (int_le t u) 1 0) (λ t. cond (int_le t v) 1 0) (thresholds (pos 0) es) (λ t. grind arith) in grind arith
+    sum_by-le-sum_by _ _ (thresholds (pos 0) es) (λ t. grind arith) in grind arith
 
 -- so has each second of the years that a rule answers in
 pub rule_leap_time : (es : List LeapSecond) (u : ℤ) → AreLeapSeconds es → IsRuleTime u → (x : ℤ) × IsLeapTime es u x
@@ -31,12 +31,12 @@ rule_leap_time es u valid within = elim (leap_time_decided es u) [
 
 -- ---- segments
 pub time_of : (z : Zone) (u : ℤ) (t : LocalType) → 0 < length z.transitions → (h : TypeAt z u t) → IsLeapTime z.leaps u h.leap_time
-time_of z u t some h = h.of_second some
+time_of z u t some h = grind linear
 
 -- a change comes from one segment to a later one, if one type is in force in the segment
 changes_segment : (z : Zone) (d : Change) → IsValid z → IsChange (TypeAt z) d → HasOneType z (segment_of z (d.at -ℤ pos 1))
     → segment_of z (d.at -ℤ pos 1) < segment_of z d.at
-changes_segment z d valid is one = elim (cases_lt (segment_of z (d.at -ℤ pos 1)) (segment_of z d.at)) [
+changes_segment z d valid is one = elim (cases_lt _ _) [
   | inl l ↦ l
   | inr m ↦
       let r = segments_rise z (d.at -ℤ pos 1) d.at valid.transitions.rising valid.leaps (omega linear) in
@@ -66,7 +66,7 @@ module _ (z : Zone) (a : AlternateRule) (u : ℤ) (t : LocalType) (rule : z.rule
 -- `begin` comes no later than a second with a type at which all have come
 pub begun : (z : Zone) (begin u : ℤ) (t : LocalType) → IsValid z → IsBegin z begin → SFits w64 u → TypeAt z u t → segment_of z u ≡ length z.transitions
     → begin ≤ℤ u
-begun z _ u t valid h fits k e = grind (linear, time_of, come_at_time)
+begun z _ u t valid h fits k e = grind (linear, come_at_time)
 
 pub begins : (z : Zone) (begin u : ℤ) → IsValid z → IsBegin z begin → IsRuleTime u → begin ≤ℤ u → segment_of z u ≡ length z.transitions
 begins z _ u valid h within from =
@@ -87,8 +87,8 @@ by_rule z a begin d valid rule h = (
 pub rule_found : (z : Zone) (a : AlternateRule) (w : Bool) (s begin : ℤ) (found : Option Change) → IsValid z → z.rule ≡ Some (Alternate a) → IsBegin z begin
     → IsNearest w (AlternateAt a) (λ u. (begin <ℤ u) × IsAhead w s u) found → IsNearest w (TypeAt z) (IsChangeByRule z (IsAhead w s)) found
 rule_found z a w s begin _ valid rule h =
-    nearest_moved w _ _ (λ u. (begin <ℤ u) × IsAhead w s u) _ _
-    (λ d is inside. let k = (by_rule z a _ d valid rule h).0 in let b = inside.by_rule in let i = inside.inside in grind arith)
+    nearest_moved w _ _ _ _ _
+    (λ d is inside. let k = (by_rule z a _ d valid rule h).0 in let i = inside.inside in grind arith)
     (λ d is inside. let k = (by_rule z a _ d valid rule h).1 in grind arith)
 
 -- if none of those seconds comes after `begin`, no change comes at one after the last transition
@@ -117,9 +117,7 @@ module _ (z : Zone) (within : ℤ → Type 0) where
   pub farther_first : (w : Bool) (found : Option Change) → IsValid z → HasNoChange (TypeAt z) (IsNearer w z within)
       → IsNearest w (TypeAt z) (IsNearer (not w) z within) found → IsNearest w (TypeAt z) within found
   farther_first true None valid none h = grind (linear, in_either)
-  farther_first false None valid none h = grind (linear, in_either)
-  farther_first true (Some c) valid none h = grind (linear, in_either)
-  farther_first false (Some c) valid none h = grind (linear, in_either)
+  farther_first w found valid none h = grind (linear, in_either)
 
 -- ---- at the ends of a span
 pub out_before : (z : Zone) (c : Change) → IsChange (TypeAt z) c → IsOutOfForce (TypeAt z) c.after (c.at -ℤ pos 1)

@@ -2,11 +2,11 @@
 use Rattle.std.proofs.lemmas.Option.{slice_get_cases, slice_get_within}
 use Rattle.tz_info.proofs.{
   RuleLaws.{rule_decided, rule_once},
-  SegmentLaws.{passed_here},
+  SegmentLaws.passed_here,
   Words.{HasType, IsBeforeLast, IsFromLast, IsLeapTime, IsLeapTimeRefused, IsRefusedBy, IsRuleOrNone, IsTypeOf, IsTypeRefused, IsValid, LeapSecond, List},
   Words.{LocalType, None, Option, RuleOrElse, SFits, Some, Transition, TransitionRule, TypeAt, Zone, [], arith, by_leap_time, by_lt_z, by_rule, cases_lt},
-  Words.{corrections, count_by-le-length, error_number, get_or, inl, inr, last_else, le_false, le_true, length, length-filter, linear, map, passed, pos, refl},
-  Words.{slice_get, suc, sym, type_error, w64, zero, zone_of_rule, ℕ, ℤ, ◌+ℤ◌, ◌<◌, ◌∙◌, ◌∷◌, ◌≡◌, ◌≤◌, ◌⊎◌},
+  Words.{count_by-le-length, error_number, get_or, inl, inr, last_else, le_true, length, length-filter, linear, map, passed, refl, slice_get, suc, sym},
+  Words.{type_error, w64, zero, zone_of_rule, ℕ, ℤ, ◌<◌, ◌∙◌, ◌∷◌, ◌≡◌, ◌≤◌, ◌⊎◌},
 }
 
 passed_at_most : (z : Zone) (x : ℤ) → length (passed z.transitions x) ≤ length z.transitions
@@ -42,14 +42,14 @@ fits_or_not a = grind arith
 
 -- all of n numbers fit 64 bits, or one does not
 all_fit_or_not : (f : ℕ → ℤ) (n : ℕ) → ((k : ℕ) → k < n → SFits w64 (f k)) ⊎ ((k : ℕ) × (k < n) × (SFits w64 (f k) → ⊥))
-all_fit_or_not f zero = inl (grind arith)
+all_fit_or_not f zero = grind linear
 all_fit_or_not f (suc n) = elim (all_fit_or_not f n) [
-  | inl all ↦ elim (fits_or_not (f n)) [ inl here ↦ inl (λ k h. grind (arith, all)) | inr out ↦ inr (n, omega arith, out) ]
-  | inr some ↦ inr (some.0, omega arith, some.2)
+  | inl all ↦ elim (fits_or_not (f n)) [ inl here ↦ inl (grind linear) | inr out ↦ inr (n, omega arith, out) ]
+  | inr some ↦ inr (grind linear)
 ]
 
 pub leap_time_decided : (leaps : List LeapSecond) (u : ℤ) → ((x : ℤ) × IsLeapTime leaps u x) ⊎ IsLeapTimeRefused leaps u
-leap_time_decided leaps u = elim (all_fit_or_not (λ k. u +ℤ get_or (corrections leaps) k (pos 0)) _) [
+leap_time_decided leaps u = elim (all_fit_or_not _ _) [
   | inl all ↦ inl (_, record { sum = refl; fits = all })
   | inr some ↦ inr (record { place = some.0; passed = some.1; leaves = some.2 })
 ]
@@ -60,7 +60,7 @@ pub last_index_below : (ts : List Transition) (x : ℤ) (d n : ℕ) → d < n �
 last_index_below [] x d n h all = h
 last_index_below (t ∷ ts) x d n h all =
     let more = λ (d : ℕ) (h : d < n). last_index_below ts x d n h (λ k e l. all (suc k) e (omega arith)) in
-    by_lt_z x t.unix_leap_time (λ later. rw (le_false _ x later) (more d h)) (λ come. rw (le_true _ x come) (more _ (all 0 t (omega arith))))
+    by_lt_z x t.unix_leap_time (grind linear) (λ come. rw (le_true _ x come) (more _ (all 0 t (omega arith))))
 
 or_else_decided : (rule : Option TransitionRule) (z : Zone) (u : ℤ) (i : ℕ) → i < length z.types → IsRuleOrNone rule
     → ((t : LocalType) × RuleOrElse rule u (HasType z i t) t) ⊎ IsRefusedBy rule u
@@ -73,9 +73,9 @@ decided_at z u x valid limits of_second =
     let below = last_index_below _ x 0 _ valid.some valid.transitions.indexes in
     let (t, listed) = inside_listed _ _ below in
     elim (before_or_from_last z x) [
-      | inl before ↦ inl (t, record { leap_time = x; of_second = of_second; in_force = grind (arith, listed) })
+      | inl before ↦ inl (grind linear)
       | inr last ↦ elim (or_else_decided _ z u _ below limits) [
-        | inl t ↦ inl (t.0, record { leap_time = x; of_second = of_second; in_force = grind (arith, t.1) })
+        | inl t ↦ inl (grind linear)
         | inr refused ↦ inr (by_rule x of_second last refused)
       ]
     ]
@@ -84,7 +84,7 @@ pub type_error_number : (z : Zone) (u : ℤ) (refused : IsTypeRefused z u) → e
 type_error_number z u refused = grind linear
 
 pub type_decided : (z : Zone) (u : ℤ) → IsValid z → IsRuleOrNone z.rule → ((t : LocalType) × TypeAt z u t) ⊎ IsTypeRefused z u
-type_decided z u valid limits = elim (cases_lt 0 (length z.transitions)) [
+type_decided z u valid limits = elim (cases_lt 0 _) [
   | inl some ↦ elim (leap_time_decided z.leaps u) [ inl x ↦ decided_at z u x.0 valid limits (λ _. x.1) | inr refused ↦ inr (by_leap_time some refused) ]
   | inr none ↦ decided_at z u u valid limits (grind arith)
 ]

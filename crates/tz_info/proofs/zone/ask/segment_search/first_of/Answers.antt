@@ -1,4 +1,4 @@
-use Rattle.tz_info.proofs.{Fits.fits, SegmentEndLaws.first_of_made, Words.{SFits, refl, rules, slice_get_read, w64}}
+use Rattle.tz_info.proofs.{Fits.fits, SegmentEndLaws.first_of_made, Words.{SFits, linear, refl, rules, slice_get_read, w64}}
 use Rattle.tz_info.proofs.zone.ask.segment_search.first_of.Goals as goal
 
 pub returns-clause-first : goal.returns-clause-first
@@ -10,4 +10,4 @@ returns-clause-first c =
     let fo = c.offset.type_inv in
     let b = c.begin_of-index.ensures in
     simp fits (first_of_made _ _ _ _ _ _ _ _ _ b.index (slice_get_read _ _ _ _ refl b.below c.index-types-index.is) c.offset.ensures.bound
-    b.begin (rw c.offset.ensures.value at (simp fits at c.second_showing-shown.ensures.value)) (simp fits at c.later.ensures))
+    b.begin (grind (linear, fits)) (simp fits at c.later.ensures))

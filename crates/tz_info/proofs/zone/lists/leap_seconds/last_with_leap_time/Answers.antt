@@ -1,8 +1,8 @@
 use Rattle.tz_info.proofs.{
-  Fits.{fits},
+  Fits.fits,
   LeapSearch.{last_with_leap_time, refused_more, refuses_by_entry},
   Prefixes.{any_leap, last_taken},
-  Words.{SFits, add-one, arith, get_or, ints, length, pos, refl, rules, sym, to_z, w128, w32, w64, ◌-ℤ◌, ◌≡◌},
+  Words.{SFits, add-one, arith, get_or, ints, length, linear, pos, refl, rules, sym, to_z, w128, w32, w64, ◌-ℤ◌, ◌≡◌},
 }
 use Rattle.tz_info.proofs.zone.lists.leap_seconds.last_with_leap_time.Goals as goal
 
@@ -13,8 +13,7 @@ loop-entry-preserved c =
     let fm = c.min-refused.type_inv in
     simp fits (record {
       refused = refused_more _ _ _ _ _ c.loop-entry.invariant.refused c.refused_by.ensures.late
-          (λ u. refuses_by_entry _ _ any_leap _ _ u c.loop-entry-test.true c.loop-entry.invariant.before
-          (c.refused_by.ensures.first u)) (simp fits at c.min-refused.ensures.value);
+          (grind (linear, fits, refuses_by_entry)) (simp fits at c.min-refused.ensures.value);
       before = sym (rw add-one (last_taken (λ e. e.correction) _ _ _ any_leap c.loop-entry-test.true));
     })
 

@@ -1,4 +1,4 @@
-use Rattle.tz_info.proofs.{Fits.fits, LeapSearch.{by_saturated, passed_here, since_epoch}, Prefixes.any_leap, Words.{SFits, arith, get_or, rules, w64}}
+use Rattle.tz_info.proofs.{Fits.fits, LeapSearch.{by_saturated, passed_here, since_epoch}, Prefixes.any_leap, Words.{SFits, arith, get_or, linear, rules, w64}}
 use Rattle.tz_info.proofs.zone.lists.leap_time.is_passed.Goals as goal
 
 pub returns : goal.returns
@@ -9,4 +9,4 @@ returns c =
     let fs = c.saturating_add.type_inv in
     let ft : SFits w64 (get_or c.args.entries.now c.args.place any_leap).unix_leap_time = search rules in
     simp fits (by_saturated _ _ _ ft (since_epoch _ _ _ c.requires.leaps c.requires.place) (simp fits at c.saturating_add.ensures)
-    (passed_here _ _ _ _ _ c.requires.leaps c.requires.place c.correction_after-correction.ensures))
+    (grind (linear, fits, passed_here)))

@@ -1,8 +1,8 @@
 use Rattle.tz_info.proofs.{
-  Fits.{fits},
-  LeapSearch.{since_epoch},
+  Fits.fits,
+  LeapSearch.since_epoch,
   LeapStarts.{reached_first, reached_later},
-  Prefixes.{any_leap},
+  Prefixes.any_leap,
   Words.{SFits, arith, get_or, linear, rules, to_z-of_z, w128, w64, ◌-ℤ◌, ◌-◌},
 }
 use Rattle.tz_info.proofs.zone.lists.starts.first_second.Goals as goal

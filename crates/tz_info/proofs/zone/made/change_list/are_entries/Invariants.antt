@@ -1,4 +1,4 @@
-use Rattle.tz_info.proofs.{EntryLaws.{AreChanges}, Words.{Some, index_of, slice_get, zone_in, ◌-◌, ◌≡◌}}
+use Rattle.tz_info.proofs.{EntryLaws.AreChanges, Words.{Some, index_of, slice_get, zone_in, ◌-◌, ◌≡◌}}
 use Rattle.tz_info.proofs.zone.made.change_list.are_entries.Given as goal
 
 abbrev pub invariant-loop-place : goal.invariant-loop-place

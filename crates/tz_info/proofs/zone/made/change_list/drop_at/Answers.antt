@@ -1,4 +1,4 @@
-use Rattle.tz_info.proofs.{EntryLaws.{popped}, Words.{arith, length, rules, to_z-of_z, vec_len, ◌≡◌}}
+use Rattle.tz_info.proofs.{EntryLaws.popped, Words.{arith, length, rules, to_z-of_z, vec_len, ◌≡◌}}
 use Rattle.tz_info.proofs.zone.made.change_list.drop_at.Goals as goal
 
 pub returns-then-ends_at-clause-before : goal.returns-then-ends_at-clause-before

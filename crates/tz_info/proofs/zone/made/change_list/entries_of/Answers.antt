@@ -1,4 +1,4 @@
-use Rattle.tz_info.proofs.{EntryLaws.{all_come, kept_all, never_come, turned}, Fits.{fits}, Words.{SFits, arith, length, linear, rules, w64, zone_in, ◌<◌}}
+use Rattle.tz_info.proofs.{EntryLaws.{all_come, kept_all, never_come, turned}, Fits.fits, Words.{SFits, arith, length, linear, rules, w64, zone_in, ◌<◌}}
 use Rattle.tz_info.proofs.zone.made.change_list.entries_of.Goals as goal
 
 pub returns-in_default : goal.returns-in_default
@@ -12,7 +12,6 @@ add-requires-clause-named c = kept_all (λ t. t.type_index < length c.args.lists
 
 pub loop-place-preserved : goal.loop-place-preserved
 loop-place-preserved c =
-    let fs = c.second.type_inv in
     let ft : SFits w64 c.in-Some.start = search rules in
     let at = rw (← c.index-lists-place.is) at (simp fits at c.at.ensures) in
     record {

@@ -1,4 +1,4 @@
-use Rattle.tz_info.proofs.{EntryLaws.{AreMadeOf}, Words.{length, vec_capacity, vec_len, zone_in, ◌≡◌, ◌≤◌}}
+use Rattle.tz_info.proofs.{EntryLaws.AreMadeOf, Words.{length, vec_capacity, vec_len, zone_in, ◌≡◌, ◌≤◌}}
 use Rattle.tz_info.proofs.zone.made.change_list.entries_of.Given as goal
 
 abbrev pub invariant-loop-place : goal.invariant-loop-place

@@ -2,7 +2,6 @@ use Rattle.tz_info.proofs.{
   Fits.fits,
   WallPieces.{closed, crossed_by, cuts_of, ends_rise, open_first, open_more, whole},
   Words.{SFits, add-one, arith, inl, linear, rules, w64, zone_in, ◌≡◌},
-  zone.made.one_pass.pieces_in_one_pass.Goals.{else-count-entries, then-count-entries+else-is_crossed-2},
 }
 use Rattle.tz_info.proofs.zone.made.one_pass.pieces_in_one_pass.Goals as goal
 
@@ -27,7 +26,6 @@ loop-place-preserved c =
 pub returns-then-is_crossed : goal.returns-then-is_crossed
 returns-then-is_crossed c =
     let ff : SFits w64 c.pieces_at-first.result.0.start = search rules in
-    let within = c.requires.table.within in
     let crossed = simp fits at (c.is_crossed.ensures.crossed c.if-is_crossed.true) in
     crossed_by c.loop-place.invariant.pieces _ (omega arith) crossed.0
     (cuts_of c.loop-place.invariant.pieces _ _ _ c.pieces_at-first.ensures c.segment_at-behind.ensures).0 crossed.1
@@ -36,7 +34,6 @@ pub returns-then-is_crossed-2 : goal.returns-then-is_crossed-2
 returns-then-is_crossed-2 c =
     let fe = c.cut_of-end.type_inv in
     let fo : SFits w64 c.loop-place.before.offset = search rules in
-    let until = c.loop-place.auto.place-end (omega arith) in
     let here : c.args.count ≡ c.loop-place.place = omega (arith, c.loop-place-test.false) in
     let crossed = rw here at (simp fits at (c.is_crossed-then-count-entries.ensures.crossed c.if-is_crossed-2.true)) in
     let last = c.if-count-entries.true in
@@ -49,12 +46,11 @@ returns c =
     let within = c.requires.table.within in
     let some = c.requires.some in
     let count = c.requires.count in
-    let until = c.loop-place.auto.place-end (omega arith) in
     let here : c.args.count ≡ c.loop-place.place = omega (arith, c.loop-place-test.false) in
     let inv = c.loop-place.invariant.pieces in
     let fo : SFits w64 c.loop-place.before.offset = search rules in
     elim c.if-count-entries.branch [
-      | then-count-entries+else-is_crossed-2 w ↦
+      | goal.then-count-entries+else-is_crossed-2 w ↦
           let fe = w.cut_of-end.type_inv in
           let last = w.if-count-entries.true in
           let cut = rw here at (simp fits at w.cut_of-end.ensures) in
@@ -63,11 +59,8 @@ returns c =
                 (closed inv (omega arith) strict (omega arith)),
             λ k first below. ends_rise inv (omega arith) strict k first (omega arith),
           )
-      | else-count-entries w ↦ let more = w.if-count-entries.false in (
-        rw (w.pieces-is, here, c.segment_at.ensures.index) (whole inv some (omega arith)),
-        λ k first below. inv.rising k first (omega arith),
-      )
+      | goal.else-count-entries w ↦ let more = w.if-count-entries.false in (grind (linear, fits, whole))
     ]
 
 pub push_reserved-requires-then-count-entries : goal.push_reserved-requires-then-count-entries
-push_reserved-requires-then-count-entries c = grind (linear, c.loop-place.auto.place-end, c.requires.some)
+push_reserved-requires-then-count-entries c = grind (linear, fits)

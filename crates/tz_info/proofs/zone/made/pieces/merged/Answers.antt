@@ -1,4 +1,4 @@
-use Rattle.tz_info.proofs.{WallPieces.merging_more, Words.{SFits, arith, rules, to_z-of_z, w64, ⊎_elim}}
+use Rattle.tz_info.proofs.{Fits.fits, WallPieces.merging_more, Words.{SFits, arith, linear, rules, to_z-of_z, w64, ⊎_elim}}
 use Rattle.tz_info.proofs.zone.made.pieces.merged.Goals as goal
 
 pub loop-step-preserved : goal.loop-step-preserved
@@ -6,7 +6,7 @@ loop-step-preserved c =
     let fits : SFits w64 c.next_start-start.result.0 = search rules in
     record {
       merging = merging_more c.requires.first c.requires.last c.loop-step.invariant.merging c.next_start-start.ensures
-          (rw (c.answer_before.ensures, c.answer_before-in-loop-step.ensures) at c.together-answer.ensures)
+          (grind (linear, fits))
           (rw (simp to_z-of_z at c.in_ok-piece.ensures) at c.in_ok-push.ensures.items);
       step = ⊎_elim (λ s. omega arith) (λ s. omega arith) c.next_start-start.ensures;
     }

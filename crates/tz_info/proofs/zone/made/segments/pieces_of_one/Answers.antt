@@ -7,14 +7,14 @@ returns-then-place-eq0 c =
     let fo : SFits w64 c.segment_at-segment.result.offset = search rules in
     let zero = c.if-place-eq0.true in
     rw (c.in_ok-pieces.ensures.items, simp fits at c.in_ok-end.ensures, simp fits at c.cut_of.ensures, zero)
-    (first_pieces (rw zero at c.requires.table) (omega arith) (rw zero at c.segment_at-segment.ensures) refl c.requires.some)
+    (first_pieces c.requires.table (omega arith) (rw zero at c.segment_at-segment.ensures) refl c.requires.some)
 
 pub returns-then-place-entries : goal.returns-then-place-entries
 returns-then-place-entries c =
     let fc = c.cut_of-2.type_inv in
     let fo : SFits w64 c.segment_at-segment.result.offset = search rules in
     rw (c.in_ok-pieces-2.ensures.items, simp fits at c.in_ok-start.ensures, simp fits at c.cut_of-2.ensures, add-one)
-    (last_pieces (rw add-one at c.requires.table) (omega arith) c.segment_at-segment.ensures (omega arith) c.if-place-entries.true)
+    (last_pieces c.requires.table (omega arith) c.segment_at-segment.ensures (omega arith) c.if-place-entries.true)
 
 pub returns : goal.returns
 returns c =
@@ -29,4 +29,4 @@ returns c =
       simp fits at c.cut_of-3.ensures,
       add-one,
     )
-    (inner_pieces (rw add-one at c.requires.table) (omega arith) c.segment_at-segment.ensures (omega arith) (omega arith))
+    (inner_pieces c.requires.table (omega arith) c.segment_at-segment.ensures (omega arith) (omega arith))

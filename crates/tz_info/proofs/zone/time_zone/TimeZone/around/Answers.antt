@@ -1,7 +1,7 @@
 use Rattle.tz_info.proofs.{
   Fits.fits,
   TableLaws.{gap_by_index, reach_of, rose_by_wall},
-  Words.{HasReach, IsShownAmong, ap, arith, length, rules, top_of, ◌≡◌},
+  Words.{HasReach, IsShownAmong, ap, arith, length, linear, rules, top_of, ◌≡◌},
   zone.time_zone.TimeZone.around.Goals.{After-answer-shown, After-answer_behind-season},
 }
 use Rattle.tz_info.specs.{Looks.RoseByWallClock, Steps.Entries.AreEntries}
@@ -12,7 +12,7 @@ said : (c : After-answer-shown)
     → IsShownAmong c.args.self.now c.self.inside.changes.items 0 (top_of c.args.self.now.rule c.self.inside.changes) c.args.local c.answer-shown.result
 said c =
     let fl = c.ranges.local in
-    rw (simp fits at c.answer-shown.ensures.answer, ← c.self.view_is) (c.self.invariant.index.answers c.args.local c.requires.local)
+    rw (simp fits at c.answer-shown.ensures.answer, ← c.self.view_is) (grind (linear, fits))
 
 entries : (c : After-answer-shown) → AreEntries c.args.self.now c.self.inside.changes
 entries c = rw (← c.self.view_is) c.self.invariant.list
@@ -29,7 +29,7 @@ answer_behind-season-requires-clause-shown c =
 pub gap_at-requires-clause-reach : goal.gap_at-requires-clause-reach
 gap_at-requires-clause-reach c =
     let fl = c.ranges.local in
-    simp fits (reach (goal.at.gap_at-requires-clause-reach c).After-answer-shown)
+    simp fits (grind (linear, fits, reach))
 
 pub gap_at-requires-clause-jump : goal.gap_at-requires-clause-jump
 gap_at-requires-clause-jump c =
@@ -38,14 +38,14 @@ gap_at-requires-clause-jump c =
     let reach = reach d in
     simp fits (gap_by_index _ _ _ reach.0 reach.1 _ _ (rw c.self.view_is at c.self.invariant.valid) (rw (← c.self.view_is) c.self.invariant.limits)
     (entries d) (rw c.in-None.is at (simp fits at c.answer_behind-season.ensures.found)) reach.2 (said d)
-    (rw (c.deref.ensures.value, ap (λ z. z.types) c.self.view_is) at c.jump-jump.ensures.jump))
+    (grind (linear, fits)))
 
 -- one search, and questions to the rule
 cost : (c : After-answer_behind-season) → RoseByWallClock c.args.self.now c.args.probes.now c.answer_behind-season.new.probes
 cost c =
     let n = ap (λ z. length z.transitions) c.self.view_is in
     rose_by_wall _ _ _ _ _ (omega arith) c.answer-shown.ensures.cost
-    (λ some. c.answer-shown.ensures.looked (c.self.invariant.index.some (omega arith))) c.answer_behind-season.ensures.cost
+    (grind (linear, fits)) c.answer_behind-season.ensures.cost
 
 pub returns-in-None : goal.returns-in-None
 returns-in-None c =
@@ -55,7 +55,7 @@ returns-in-None c =
     record {
       found = search rules;
       cost = (_, cost (goal.at.returns-in-None c).After-answer_behind-season, c.jump-jump.ensures.cost);
-      questions = rw after (rw same at (simp fits at c.answer_behind-season.ensures.counted));
+      questions = grind (linear, fits);
     }
 
 pub returns-in-Single-clause-cost : goal.returns-in-Single-clause-cost

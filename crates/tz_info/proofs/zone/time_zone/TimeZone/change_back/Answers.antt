@@ -1,8 +1,8 @@
 use Rattle.tz_info.proofs.{
   Fits.fits,
   FoldLaws.{begins, begins_at, fold_at, goes_back},
-  Words.{SFits, by_lt_z, linear, pos, rules, to_z, w64, ◌+ℤ◌, ◌-ℤ◌, ◌<ℤ◌, ◌≤ℤ◌},
-  zone.time_zone.TimeZone.change_back.Goals.{In-Some},
+  Words.{SFits, by_lt_z, linear, pos, rules, to_z, w64, ◌-ℤ◌, ◌<ℤ◌, ◌≤ℤ◌},
+  zone.time_zone.TimeZone.change_back.Goals.In-Some,
 }
 use Rattle.tz_info.proofs.zone.time_zone.TimeZone.change_back.Goals as goal
 
@@ -47,7 +47,7 @@ loop-at-smaller c =
 pub loop-at-preserved : goal.loop-at-preserved
 loop-at-preserved c =
     let (fl, ff, fe, fa, fb, later, most) = before (goal.at.loop-at-preserved c).In-Some in
-    let less = by_lt_z ((c.in-Some.at -ℤ pos 1) +ℤ c.type_at-before.result.now.offset) c.args.local (λ l. l)
+    let less = by_lt_z _ c.args.local (λ l. l)
     (λ m. let t = (simp fits at c.has_reached.ensures).1 m in cc) in
     simp fits (goes_back _ _ _ _ _ _ _
     _

@@ -1,4 +1,4 @@
-use Rattle.tz_info.proofs.{EntryChanges.{have_come, looks_most, rose_less}, Fits.fits, Words.arith}
+use Rattle.tz_info.proofs.{EntryChanges.{have_come, looks_most}, Fits.fits, Words.arith}
 use Rattle.tz_info.proofs.zone.time_zone.TimeZone.come_at.Goals as goal
 
 pub returns-then-has_leap_time-clause-come : goal.returns-then-has_leap_time-clause-come
@@ -9,4 +9,4 @@ returns-then-has_leap_time-clause-come c =
     (simp fits at c.come.ensures.come))
 
 pub returns-then-has_leap_time-clause-cost : goal.returns-then-has_leap_time-clause-cost
-returns-then-has_leap_time-clause-cost c = grind (arith, looks_most, rose_less)
+returns-then-has_leap_time-clause-cost c = grind (arith, looks_most)

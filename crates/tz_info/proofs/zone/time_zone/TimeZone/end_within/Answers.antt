@@ -1,8 +1,8 @@
 use Rattle.tz_info.proofs.{
   Fits.fits,
   ShownSecondLaws.{found_in_run, goes_on, leaves_less, none_left},
-  Words.{SFits, arith, ints, rules, to_z-of_z, w64, ◌-ℤ◌, ◌≡◌},
-  zone.time_zone.TimeZone.end_within.Goals.{After-second_showing-before},
+  Words.{SFits, arith, ints, rules, w64, ◌-ℤ◌, ◌≡◌},
+  zone.time_zone.TimeZone.end_within.Goals.After-second_showing-before,
 }
 use Rattle.tz_info.proofs.zone.time_zone.TimeZone.end_within.Goals as goal
 
@@ -32,4 +32,4 @@ returns-in-Some c =
     simp fits (found_in_run _ _ _ (simp fits at c.loop-left.invariant) c.next_run.ensures.one_type _ _ fi c.next_run.ensures.run found.0 found.1)
 
 pub returns : goal.returns
-returns c = grind (arith, ints, to_z-of_z, none_left)
+returns c = grind (arith, ints, none_left)

@@ -1,4 +1,4 @@
-use Rattle.tz_info.proofs.{Fits.fits, FoldLaws.ends_of_fold, Words.inr, zone.time_zone.TimeZone.find_change_around.Goals.{After-second_showing-last}}
+use Rattle.tz_info.proofs.{Fits.fits, FoldLaws.ends_of_fold, Words.{inr, linear}, zone.time_zone.TimeZone.find_change_around.Goals.After-second_showing-last}
 use Rattle.tz_info.specs.Steps.Folds.{AreEndsOfFold}
 use Rattle.tz_info.proofs.zone.time_zone.TimeZone.find_change_around.Goals as goal
 
@@ -7,15 +7,13 @@ ends : (c : After-second_showing-last) → AreEndsOfFold c.args.self.now c.args.
 ends c =
     let fl = c.secs_since_epoch-local.type_inv in
     let ff = c.offset.type_inv in let fo = c.offset-in-Ambiguous.type_inv in
-    let local = c.secs_since_epoch-local.ensures in
-    ends_of_fold _ _ _ _ _ _ c.in-Ambiguous.ensures (rw local at (rw c.offset.ensures.value at (simp fits at c.second_showing-first.ensures.value)))
-    (rw local at (rw c.offset-in-Ambiguous.ensures.value at (simp fits at c.second_showing-last.ensures.value)))
+    let local = c.secs_since_epoch-local.ensures in grind (linear, fits, ends_of_fold)
 
 pub change_back-requires-clause-ends : goal.change_back-requires-clause-ends
 change_back-requires-clause-ends c =
     let fl = c.secs_since_epoch-local.type_inv in
     let ff = c.second_showing-first.type_inv in let fe = c.second_showing-last.type_inv in
-    simp fits (rw c.secs_since_epoch-local.ensures (ends (goal.at.change_back-requires-clause-ends c).After-second_showing-last))
+    simp fits (grind (linear, fits, ends))
 
 pub returns-in-Ambiguous : goal.returns-in-Ambiguous
 returns-in-Ambiguous c =

@@ -6,7 +6,7 @@ use Rattle.tz_info.proofs.{
   SegmentEndLaws.{begun_near, first_there},
   TableLaws.{reach_of, table_of, top_least},
   Words.{HasReach, IsRuleOrNone, IsValid, SFits, ap, arith, cases_eq, digits, digits-more, inl, inr, linear, rules, w64, ℕ, ◌*◌, ◌+◌, ◌<◌, ◌≤◌},
-  zone.time_zone.TimeZone.first_at_or_after.Goals.{After-first_reaching-place},
+  zone.time_zone.TimeZone.first_at_or_after.Goals.After-first_reaching-place,
 }
 use Rattle.tz_info.specs.{Steps.Entries.AreEntries, Steps.SegmentEnds.IsFirstSegment}
 use Rattle.tz_info.proofs.zone.time_zone.TimeZone.first_at_or_after.Goals as goal
@@ -23,8 +23,7 @@ reach c = reach_of _ _ c.self.inside.extremes c.requires.local (search rules) (s
 
 first : (c : After-first_reaching-place) → IsFirstSegment c.args.self.now.types c.self.inside.changes.items c.args.local c.first_reaching-place.result
 first c =
-    let fl = c.ranges.local in
-    rw (c.deref.ensures.value, ap (λ z. z.types) c.self.view_is) at (simp fits at c.first_reaching-place.ensures.first)
+    let fl = c.ranges.local in grind (linear, fits)
 
 -- the probes of the search are fewer than the bound, if there is an entry
 fewer : (n m : ℕ) → n ≤ m → digits n ≤ 2 * digits m × (0 < n → digits n + 1 ≤ 2 * digits m)
@@ -42,11 +41,7 @@ returns-in_default c =
     let bound = fewer _ _ (entries d).few in
     record {
       found = first_there z _ _ _ _ (table_of z _ (valid d) (entries d)) c.requires.local (first d) _ _ _ _ (valid d) limits own (reach d).2 is;
-      cost = elim (cases_eq _ 0) [
-        | inl none ↦ rw (c.first_of.ensures.free none) (rose_less _ _ _ _ _ _ c.first_reaching-place.ensures.cost bound.0 (omega arith))
-        | inr some ↦ rose_less _ _ _ _ _ _ (rose_then _ _ _ _ _ _ _ c.first_reaching-place.ensures.cost c.first_of.ensures.cost)
-            (bound.1 (omega arith)) (omega arith)
-      ];
+      cost = grind (linear, fits, cases_eq, rose_less, rose_then);
     }
 
 pub first_since-requires-clause-near : goal.first_since-requires-clause-near
@@ -57,7 +52,7 @@ first_since-requires-clause-near c =
     let limits : IsRuleOrNone z.rule = rw (← c.self.view_is) c.self.invariant.limits in
     simp fits (rw c.begin_of-begin.ensures.begin (begun_near z _ _
     _ _ (table_of z _ (valid d) (entries d)) c.requires.local (first d) _ _
-    (valid d) limits (let top = top_least z.rule c.self.inside.changes (entries d).more in omega arith) (reach d).2))
+    (valid d) limits (grind (linear, fits, top_least, entries)) (reach d).2))
 
 pub returns : goal.returns
 returns c =
@@ -69,7 +64,7 @@ returns c =
     record {
       found = first_by_rule c.args.self.now c.self.inside.changes _ _ (valid d) (entries d) is.0 (first d).within is.1
           c.args.local c.first_since.result.at _ c.requires.local (first d)
-          (rw c.begin_of-begin.ensures.begin at (simp fits at c.first_since.ensures.first));
+          (grind (linear, fits));
       cost = elim (cases_eq _ 0) [
         | inl none ↦ let free = c.begin_of-begin.ensures.free none in grind linear
         | inr some ↦ rose_less _ _ _ _ _ _ (rose_then _ _ _ _ _ _ _ (rose_then _ _ _ _ _ _ _ c.first_reaching-place.ensures.cost

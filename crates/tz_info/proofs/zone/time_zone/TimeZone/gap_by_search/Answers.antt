@@ -2,8 +2,8 @@ use Rattle.tz_info.proofs.{
   ExtremeLaws.at_most_greatest,
   Fits.fits,
   GapLaws.{first_near, gap_at_first},
-  Words.{IsNear, SFits, arith, ints, pos, rules, w64, ◌-ℤ◌, ◌≤ℤ◌},
-  zone.time_zone.TimeZone.gap_by_search.Goals.{After-first_at_or_after-first},
+  Words.{IsNear, SFits, arith, ints, linear, pos, rules, w64, ◌-ℤ◌, ◌≤ℤ◌},
+  zone.time_zone.TimeZone.gap_by_search.Goals.After-first_at_or_after-first,
 }
 use Rattle.tz_info.proofs.zone.time_zone.TimeZone.gap_by_search.Goals as goal
 
@@ -17,7 +17,7 @@ near c =
     let fl = c.ranges.local in
     let found = simp fits at c.first_at_or_after-first.ensures.found in
     let most = at_most_greatest _ first.at c.self.inside.extremes.greatest first.local_time_type.now
-    (rw (← c.self.view_is) c.self.invariant.extremes.greatest) found.shown.type in
+    (grind (linear, fits)) found.shown.type in
     let near = first_near c.args.self.now c.args.local c.requires.reach.0 c.requires.reach.1 first.at first.local_time_type.now
     (rw (← c.self.view_is) c.self.invariant.valid) (rw (← c.self.view_is) c.self.invariant.limits) c.requires.reach.2 found in
     (ff, omega (arith, ints), near.0, near.1, (omega (arith, ints), omega (arith, ints)))
@@ -37,4 +37,4 @@ returns c =
     let (ff, fb, low, high, near) = near (goal.at.returns c).After-first_at_or_after-first in
     let fl = c.ranges.local in
     simp fits (gap_at_first _ _ _ _ _ _ _
-    c.requires.never c.requires.reach.2 low high (simp fits at c.first_at_or_after-first.ensures.found) (simp fits at c.type_at.ensures))
+    c.requires.never c.requires.reach.2 low high (grind (linear, fits)) (simp fits at c.type_at.ensures))

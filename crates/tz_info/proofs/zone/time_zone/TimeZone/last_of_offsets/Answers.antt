@@ -6,6 +6,6 @@ returns-then-begin c =
     let fw = c.rule_begin-begin.type_inv in
     let fb : SFits w64 c.rule_begin-begin.result = omega (arith, ints) in
     let same : c.in-Some.turns.now.std.offset ≡ c.in-Some.turns.now.dst.offset =
-    grind (arith, ints) in
+    grind arith in
     simp fits (rule_keeps _ _ _ (rw (← c.self.view_is) c.self.invariant.valid)
     c.in-Some.ensures c.rule_begin-begin.ensures.begin same)

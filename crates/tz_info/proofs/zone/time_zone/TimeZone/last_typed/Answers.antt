@@ -1,4 +1,4 @@
-use Rattle.tz_info.proofs.{GapLaws.near_type, TypedLaws.last_typed, Words.{SFits, arith, linear, rules, to_z-of_z, w64}}
+use Rattle.tz_info.proofs.{Fits.fits, GapLaws.near_type, TypedLaws.last_typed, Words.{SFits, arith, linear, rules, to_z-of_z, w64}}
 use Rattle.tz_info.proofs.zone.time_zone.TimeZone.last_typed.Goals as goal
 
 pub loop-known-init : goal.loop-known-init
@@ -8,9 +8,7 @@ loop-known-init c =
     let far = e.1 in
     simp to_z-of_z (
       record {
-        typed = near_type _ _
-            (rw (← c.self.view_is) c.self.invariant.valid) (rw (← c.self.view_is) c.self.invariant.limits)
-            (omega arith, omega arith);
+        typed = grind (linear, fits, near_type);
         not = e.0;
         far = omega arith;
         less = far;

@@ -1,4 +1,4 @@
-use Rattle.tz_info.proofs.{Fits.fits, OffsetChanges.{found_on, goes_on}, Words.{SFits, arith, false≢true, ints, rules, sym, w64, ◌∙◌}}
+use Rattle.tz_info.proofs.{Fits.fits, OffsetChanges.{found_on, goes_on}, Words.{SFits, arith, ints, linear, rules, w64}}
 use Rattle.tz_info.proofs.zone.time_zone.TimeZone.next_offset_change.Goals as goal
 
 pub returns-else-keeps_offset : goal.returns-else-keeps_offset
@@ -6,7 +6,7 @@ returns-else-keeps_offset c =
     let fa = c.ranges.after in
     let (order, kept) = simp fits at c.changes.invariant in
     rw c.copied.ensures (found_on _ _ _ order kept _ c.in_ok-change.ensures
-    (λ e. false≢true (sym c.if-keeps_offset.false ∙ c.keeps_offset.ensures.1 e)))
+    (grind (linear, fits)))
 
 pub changes-preserved : goal.changes-preserved
 changes-preserved c =

@@ -1,4 +1,4 @@
-use Rattle.tz_info.proofs.{Fits.fits, RunLaws.{near_end, next_run, one_type}, Words.{SFits, arith, ints, rules, to_z-of_z, w64}}
+use Rattle.tz_info.proofs.{Fits.fits, RunLaws.{near_end, next_run, one_type}, Words.{SFits, linear, rules, w64}}
 use Rattle.tz_info.proofs.zone.time_zone.TimeZone.next_run.Goals as goal
 
 pub returns : goal.returns
@@ -15,4 +15,4 @@ returns c =
     }
 
 pub near_span_at-span-requires : goal.near_span_at-span-requires
-near_span_at-span-requires c = grind (arith, ints, to_z-of_z, near_end)
+near_span_at-span-requires c = grind (linear, fits, near_end)

@@ -10,6 +10,6 @@ returns-in-Some c =
     let h = simp fits at c.in-Some.ensures.between in
     let offset = c.offset.type_inv in
     simp fits (record {
-      each = grind (linear, fits, stretch_between);
+      each = grind (linear, stretch_between);
       at = inside_between _ _ _ _ table.list h fu;
     })

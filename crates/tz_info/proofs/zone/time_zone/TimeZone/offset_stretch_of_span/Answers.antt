@@ -1,4 +1,4 @@
-use Rattle.tz_info.proofs.{Fits.fits, Words.{arith, by_lt_z, inl, ints, linear, pos, ◌<ℤ◌}}
+use Rattle.tz_info.proofs.{Fits.fits, Words.{arith, inl, ints, linear, pos, ◌<ℤ◌}}
 use Rattle.tz_info.proofs.zone.time_zone.TimeZone.offset_stretch_of_span.Goals as goal
 
 pub returns-in-Err-clause-at : goal.returns-in-Err-clause-at
@@ -14,7 +14,7 @@ returns-in-Ok c =
     let fo = c.offset.type_inv in
     let at = simp fits at c.in-Ok.ensures in
     let u = c.args.unix_time in
-    let below : u <ℤ pos 9_223_372_036_854_775_807 = grind (linear, fits, by_lt_z) in
+    let below : u <ℤ pos 9_223_372_036_854_775_807 = grind (linear, fits) in
     simp fits (record {
       each = λ u low high. (
         c.in-Ok.span.local_time_type,

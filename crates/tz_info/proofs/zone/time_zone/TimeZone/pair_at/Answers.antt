@@ -15,5 +15,5 @@ returns c =
     record {
       from = search rules;
       until = simp fits (pair_until (TypeAt c.args.self.now) (TypeAt c.args.other.now) _ _ _ _ own other);
-      types = grind (linear, fits);
+      types = grind linear;
     }

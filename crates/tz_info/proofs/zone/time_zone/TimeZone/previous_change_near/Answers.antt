@@ -1,4 +1,4 @@
-use Rattle.tz_info.proofs.{Fits.fits, Words.false, ZoneChanges.{farther_first, nearer_first}}
+use Rattle.tz_info.proofs.{Fits.fits, Words.{false, linear}, ZoneChanges.{farther_first, nearer_first}}
 use Rattle.tz_info.proofs.zone.time_zone.TimeZone.previous_change_near.Goals as goal
 
 pub returns-in-Some : goal.returns-in-Some
@@ -12,6 +12,4 @@ returns-in-None c =
     farther_first _ _ false _ (rw (← c.self.view_is) c.self.invariant.valid) (simp fits at c.in-None.ensures) (simp fits at c.nearest_in_table.ensures)
 
 pub returns-then-has_begun : goal.returns-then-has_begun
-returns-then-has_begun c =
-    let fa = c.ranges.before_or_at in
-    rw (← c.self.view_is, c.held.ensures) (c.self.invariant.last.begins c.args.before_or_at fa (simp fits at (c.has_begun.ensures.0 c.if-has_begun.true)))
+returns-then-has_begun c = grind (linear, fits)

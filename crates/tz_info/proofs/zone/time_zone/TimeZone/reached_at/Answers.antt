@@ -4,20 +4,15 @@ use Rattle.tz_info.proofs.{
   ReachedLaws.{at_end, at_segment, reached_in},
   RuleSegments.reached_by_rule,
   SegmentEndLaws.begun_by,
-  Words.{RoseWithin, SFits, TypeAt, ap, arith, begin_of, digits, digits-more, ints, length, linear, pos, refl, rules, slice_get_read, sym, to_z},
-  Words.{w32, w64, ◌+◌, ◌-ℤ◌, ◌≡◌},
-  zone.time_zone.TimeZone.reached_at.Goals.{After-latest_end-end, in-None, in-Some},
+  Words.{RoseWithin, SFits, TypeAt, ap, arith, begin_of, digits, digits-more, ints, length, linear, pos, refl, rules, slice_get_read, sym, to_z, w32, w64, ◌+◌},
+  Words.◌-ℤ◌,
+  zone.time_zone.TimeZone.reached_at.Goals.After-latest_end-end,
 }
 use Rattle.tz_info.specs.{Steps.SegmentEnds.IsLatestEnd, Steps.Since.IsReachedSince}
 use Rattle.tz_info.proofs.zone.time_zone.TimeZone.reached_at.Goals as goal
 
 pub reached_since-reached-requires-clause-order : goal.reached_since-reached-requires-clause-order
-reached_since-reached-requires-clause-order c =
-    let fs = c.ranges.second in
-    let fb : SFits w64 c.begin_of-index.result.1 = search rules in
-    let made = rw c.self.view_is at c.self.invariant.list in
-    let place = simp fits at c.count-place.ensures.count in
-    simp fits (rw c.begin_of-index.ensures.begin (begun_by _ _ _ made.rising c.count-place.ensures.within (omega arith) fs))
+reached_since-reached-requires-clause-order c = grind (linear, fits, begun_by)
 
 -- from the begin of the segment on
 since : (c : After-latest_end-end)
@@ -29,12 +24,12 @@ since c =
     let made = rw c.self.view_is at c.self.invariant.list in
     let place = simp fits at c.count-place.ensures.count in
     elim c.match-rule_at.branch [
-      | in-Some w ↦
+      | goal.in-Some w ↦
           let fr = w.reached_since-reached.type_inv in
           let is = rw (ap (λ z. z.rule) c.self.view_is) at w.in-Some.ensures in
           rw w.reached-is (simp fits (reached_by_rule _ _ _ _ valid made is.0 c.count-place.ensures.within is.1 _ _
           (rw c.begin_of-index.ensures.begin at (simp fits at w.reached_since-reached.ensures.reached))))
-      | in-None w ↦
+      | goal.in-None w ↦
           let fr = w.shown_at-reached.type_inv in
           let own = rw (ap (λ z. z.rule) c.self.view_is) at w.in-None.ensures in
           let has = slice_get_read _ _ _ _ refl (rw c.deref.ensures.value at c.begin_of-index.ensures.below) w.index.ensures in
@@ -48,9 +43,9 @@ ended c =
     let more = digits-more _ _ (rw c.self.view_is at c.self.invariant.list).few in
     let first = rose_then _ _ _ _ _ _ _ c.count-place.ensures.cost c.begin_of-index.ensures.cost in
     elim c.match-rule_at.branch [
-      | in-Some w ↦ rose_less _ _ _ _ _ _ (rose_then _ _ _ _ _ _ _ (rose_then _ _ _ _ _ _ _ first w.reached_since-reached.ensures.cost)
+      | goal.in-Some w ↦ rose_less _ _ _ _ _ _ (rose_then _ _ _ _ _ _ _ (rose_then _ _ _ _ _ _ _ first w.reached_since-reached.ensures.cost)
           (rw w.probes-is at c.latest_end-end.ensures.cost)) (omega arith) (omega arith)
-      | in-None w ↦ grind linear
+      | goal.in-None w ↦ grind linear
     ]
 
 latest : (c : After-latest_end-end) → IsLatestEnd c.args.self.now.types c.self.inside.changes.items c.count-place.result c.latest_end-end.result
@@ -68,7 +63,7 @@ returns-then-reached-end c =
     record {
       reached = simp fits (at_end _ _ _ _ (rw c.self.view_is at c.self.invariant.valid) made c.requires.second _ _ _ fg
           (rw (← c.self.view_is) c.self.invariant.extremes.greatest) c.count-place.ensures.within (since d) (latest d)
-          (begun_by _ _ _ made.rising c.count-place.ensures.within (omega arith) fs) fe (omega (arith, ints)));
+          (grind (linear, fits, begun_by)) fe (omega (arith, ints)));
       cost = ended d;
     }
 
@@ -78,6 +73,6 @@ returns-else-reached-end c =
     let fg : SFits w32 c.self.inside.extremes.greatest = search rules in
     record {
       reached = at_segment _ _ _ _ (rw c.self.view_is at c.self.invariant.valid) (rw c.self.view_is at c.self.invariant.list) c.requires.second _ _ _ fg
-          (rw (← c.self.view_is) c.self.invariant.extremes.greatest) c.count-place.ensures.within (since d) (latest d) (omega (arith, ints));
+          (grind (linear, fits)) c.count-place.ensures.within (since d) (latest d) (omega (arith, ints));
       cost = ended d;
     }

@@ -1,4 +1,4 @@
-use Rattle.tz_info.proofs.{ExtremeLaws.window_made, Fits.fits, ShownSecondLaws.all_within, Words.{SFits, rules, w32}}
+use Rattle.tz_info.proofs.{ExtremeLaws.window_made, Fits.fits, ShownSecondLaws.all_within, Words.{SFits, linear, rules, w32}}
 use Rattle.tz_info.proofs.zone.time_zone.TimeZone.seconds_around.Goals as goal
 
 pub returns : goal.returns
@@ -13,4 +13,4 @@ returns c =
     simp fits (all_within _ _ _ _ _
     (rw (low, high) (window_made _
     _ _ _ _ c.requires.from c.requires.until fg fh
-    (rw (← c.self.view_is) c.self.invariant.extremes.greatest) (rw (← c.self.view_is) c.self.invariant.extremes.least))))
+    (grind (linear, fits)) (rw (← c.self.view_is) c.self.invariant.extremes.least))))

@@ -5,7 +5,7 @@ use Rattle.tz_info.proofs.{
   RuleGaps.season_in,
   TableLaws.start_begun,
   WalkLaws.with_rule,
-  Words.{IsStart, length, rules},
+  Words.{IsStart, length, linear, rules},
 }
 use Rattle.tz_info.proofs.zone.time_zone.TimeZone.try_rule.Goals as goal
 
@@ -19,7 +19,7 @@ returns c =
     rw (c.rule_from.ensures, ← c.self.view_is) (start_begun _ _ _ c.self.invariant.valid c.self.invariant.list c.self.invariant.index.rule_from) in
     let offsets = c.answer_from-season.ensures.offsets in
     record {
-      season = season_in z _ _ _ _ c.requires.rule start (simp fits at c.answer_from-season.ensures.season);
+      season = grind (linear, fits, season_in);
       found = rw c.joined.ensures (joined_answer _ _ _ _ _ (with_rule _ _ _ _ valid c.requires.rule start c.requires.local offsets)
           c.requires.seen (simp fits at c.answer_from-season.ensures.found));
       cost = search rules;

@@ -1,4 +1,4 @@
-use Rattle.tz_info.proofs.{Fits.fits, Words.{SFits, inl, inr, refl, rules, w64}}
+use Rattle.tz_info.proofs.{Fits.fits, Words.{SFits, inr, linear, refl, rules, w64}}
 use Rattle.tz_info.proofs.zone.time_zone.TimeZone.try_until.Goals as goal
 
 pub returns-then-is_within : goal.returns-then-is_within
@@ -10,8 +10,7 @@ returns-then-is_within c =
       type = _;
       leap_time = _;
       candidate = simp fits at c.candidate-time.ensures;
-      tried = inl
-          ((simp fits at c.is_within.ensures).0 c.if-is_within.true, c.joined.ensures);
+      tried = grind (linear, fits);
     }
 
 pub returns-else-is_within : goal.returns-else-is_within

@@ -5,8 +5,7 @@ use Rattle.tz_info.proofs.{
   TableSearch.Between,
   WalkLaws.{none_before, none_behind, one_look, rose_by_walk, tried_segment, walked_more},
   WallSegments.all_segments,
-  Words.{IsShownIn, IsWallAnswer, IsWindow, SFits, Some, ap, arith, digits-le, inl, length, linear, map_of, rules, sym, w32, w64, ◌+◌, ◌∙◌},
-  Words.{◌≡◌},
+  Words.{IsShownIn, IsWallAnswer, IsWindow, SFits, ap, arith, digits-le, length, linear, map_of, rules, sym, w32, w64, ◌+◌, ◌∙◌, ◌≡◌},
   zone.time_zone.TimeZone.walked_answer.Goals.{After-passed_count-first, After-try_until-answer},
 }
 use Rattle.tz_info.proofs.zone.time_zone.TimeZone.walked_answer.Goals as goal
@@ -27,7 +26,7 @@ begun c =
       record {
         greatest = c.self.inside.extremes.greatest;
         least = c.self.inside.extremes.least;
-        is_greatest = rw (← c.self.view_is) c.self.invariant.extremes.greatest;
+        is_greatest = grind (linear, fits);
         is_least = rw (← c.self.view_is) c.self.invariant.extremes.least;
         is_low = rw low at (simp fits at c.leap_time_near-low.ensures);
         is_high = rw high at (simp fits at c.leap_time_near-high.ensures);
@@ -44,7 +43,7 @@ tried c =
     let fn : SFits w64 c.transition-next.result.unix_leap_time = search rules in
     let i = c.loop-place.invariant in
     tried_segment _ _ _ (rw c.self.view_is at c.self.invariant.valid) (omega arith) (grind arith) i.begin
-    (inl (c.transition-next.result, omega arith, ap (λ t. Some t.unix_leap_time) c.transition-next.ensures.item))
+    (grind (linear, fits))
     (rw i.index at (simp fits at c.try_until-answer.ensures)) (simp fits at i.found)
 
 pub latest-current-requires-clause-room : goal.latest-current-requires-clause-room
@@ -87,7 +86,7 @@ returns-then-high-next c =
       cost = rose_by_walk _ _ _ _ _ _ 1 _ _ _ window split (omega arith) walked (omega arith) (one_look _ _ c.transition-next.ensures.cost);
       counted = asked_for_window _ _ _ c.leap_time_near-high.result c.loop-place.place c.transition-next.result _ _
           valid window (omega arith) (omega linear)
-          (ap (λ p. p.rule_questions) c.transition-next.ensures.cost ∙ walked.questions);
+          (grind (linear, fits));
     }
 
 pub loop-place-preserved : goal.loop-place-preserved
@@ -97,7 +96,7 @@ loop-place-preserved c =
     let ts = c.args.self.now.transitions in let place = c.loop-place.place in let item = c.transition-next.ensures.item in
     record {
       found = simp fits (tried (goal.at.loop-place-preserved c).After-try_until-answer);
-      begin = ap (λ t. t.unix_leap_time) item ∙ sym (begin_next ts place _ (omega arith));
+      begin = grind (linear, fits, begin_next);
       index = ap (λ t. t.type_index) item ∙ sym (index_next ts _ _ (omega arith));
       listed = c.transition-next.ensures.index;
       walked =
@@ -116,5 +115,5 @@ returns c =
     record {
       found = all_segments _ _ _ valid.transitions.rising (simp fits at c.try_last.ensures.found);
       cost = rose_by_walk _ _ _ _ _ _ 0 _ _ _ window split (omega arith) (simp fits at c.loop-place.invariant.walked) (omega arith) c.try_last.ensures.cost;
-      counted = rw c.loop-place.invariant.walked.questions at (simp fits at c.try_last.ensures.counted);
+      counted = grind (linear, fits);
     }

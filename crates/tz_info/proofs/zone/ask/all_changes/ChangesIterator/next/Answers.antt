@@ -1,4 +1,4 @@
-use Rattle.tz_info.proofs.{ChangeLists.{steps_first, steps_none}, Words.{ap, arith, length, linear}}
+use Rattle.tz_info.proofs.{ChangeLists.{steps_first, steps_none}, Fits.fits, Words.linear}
 use Rattle.tz_info.proofs.zone.ask.all_changes.ChangesIterator.next.Goals as goal
 
 pub returns-clause-steps : goal.returns-clause-steps
@@ -6,8 +6,7 @@ returns-clause-steps c =
     grind (linear, steps_first)
 
 pub returns-clause-goes : goal.returns-clause-goes
-returns-clause-goes c =
-    record { on = λ _. (tt, tt, omega (arith, ap length (returns-clause-steps c))); keeps = tt; rests = λ _. tt }
+returns-clause-goes c = grind (linear, fits, returns-clause-steps)
 
 pub returns-in_err-change-clause-steps : goal.returns-in_err-change-clause-steps
 returns-in_err-change-clause-steps c = grind (linear, steps_none)

@@ -10,5 +10,4 @@ returns-in_default-clause-found c = λ s at.
 pub returns-clause-found : goal.returns-clause-found
 returns-clause-found c =
     let fs = c.ranges.second in
-    let fit : SFits w64 c.args.second = omega linear in
-    rw (ap (λ p. p.zone) c.self.view_is) at (simp fits at c.in-Ok.ensures)
+    let fit : SFits w64 c.args.second = omega linear in grind (linear, fits)

@@ -1,16 +1,15 @@
-use Rattle.tz_info.proofs.{Fits.fits, LeapSearch.leap_time_fits, LeapStarts.passed_at_most, Words.{SFits, arith, ints, refl, w64, ◌+ℤ◌}}
+use Rattle.tz_info.proofs.{Fits.fits, LeapSearch.leap_time_fits, LeapStarts.passed_at_most, Words.{SFits, arith, refl, w64, ◌+ℤ◌}}
 use Rattle.tz_info.proofs.zone.lists.leap_seconds.LeapSeconds.leap_time.Goals as goal
 
 pub correction_after-requires : goal.correction_after-requires
 correction_after-requires c =
-    let fu = c.ranges.unix_time in
     rw (c.deref-2.ensures.value, rw c.deref.ensures.value at c.passed_at-passed.ensures) (passed_at_most _ _)
 
 pub overflow_add-result : goal.overflow_add-result
 overflow_add-result c =
     let fu = c.ranges.unix_time in
     let fb = c.correction_after.type_inv in
-    let fd : SFits w64 c.correction_after.result = omega (arith, ints) in
+    let fd : SFits w64 c.correction_after.result = omega arith in
     let count = rw c.deref.ensures.value at (simp fits at c.passed_at-passed.ensures) in
     let correction = rw (c.deref-2.ensures.value, count) at c.correction_after.ensures in
     let has = rw (← c.self.view_is) at (simp fits at (c.if-not-has_leap_time.ensures.yes refl)) in
@@ -20,7 +19,7 @@ pub returns : goal.returns
 returns c =
     let fu = c.ranges.unix_time in
     let fb = c.correction_after.type_inv in
-    let fd : SFits w64 c.correction_after.result = omega (arith, ints) in
+    let fd : SFits w64 c.correction_after.result = omega arith in
     let count = rw c.deref.ensures.value at (simp fits at c.passed_at-passed.ensures) in
     let correction = rw (c.deref-2.ensures.value, count) at c.correction_after.ensures in
     let has = rw (← c.self.view_is) at (simp fits at (c.if-not-has_leap_time.ensures.yes refl)) in

@@ -1,4 +1,4 @@
-use Rattle.tz_info.proofs.{EntryChanges.begin_at, Fits.fits, Words.{arith, linear, ◌∙◌}}
+use Rattle.tz_info.proofs.{EntryChanges.begin_at, Fits.fits, Words.{arith, linear}}
 use Rattle.tz_info.proofs.zone.made.change_table.ChangeTable.between.Goals as goal
 
 pub returns-then-from-gtminus9223372036854775808-clause-between : goal.returns-then-from-gtminus9223372036854775808-clause-between
@@ -10,11 +10,11 @@ returns-then-from-gtminus9223372036854775808-clause-between c =
       place = c.count_near-place.result;
       some = grind arith;
       come = simp fits at c.count_near-place.ensures.count;
-      from = c.second-from.ensures ∙ begin_at _ _ _ (grind arith) c.count_near-place.ensures.within;
+      from = grind (linear, fits, begin_at);
       until = c.second-until.ensures;
       index = c.index_after-index.ensures.index;
       span = λ t. (grind arith, omega linear, grind arith);
     })
 
 pub returns-else-from-gtminus9223372036854775808-clause-between : goal.returns-else-from-gtminus9223372036854775808-clause-between
-returns-else-from-gtminus9223372036854775808-clause-between c = grind (linear, fits, begin_at)
+returns-else-from-gtminus9223372036854775808-clause-between c = grind (linear, begin_at)
