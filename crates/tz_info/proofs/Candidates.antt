@@ -44,8 +44,7 @@ module _ (a : AlternateRule) (t : LocalType) where
 
 -- the offset of a rule's type is one of the rule's offsets
 pub offset_of_rule : (rule : TransitionRule) (u : ℤ) (t : LocalType) → RuleAt rule u t → Contains (rule_offsets (Some rule)) t.offset
-offset_of_rule (Fixed f) u t k = grind linear
-offset_of_rule (Alternate a) u t k = elim (one_of_two a t u k) [ inl e ↦ (0, omega arith, cc) | inr e ↦ (1, omega arith, cc) ]
+offset_of_rule rule u t k = grind (linear, one_of_two)
 
 -- if both offsets are equal
 pub one_second : (a : AlternateRule) (from l : ℤ) → a.std.offset ≡ a.dst.offset → (u : ℤ) (t : LocalType)

@@ -28,7 +28,7 @@ loop-key-preserved c =
     (get_or key_years _ _) = rw (c.are_calm-calm.ensures, c.key_years-years.ensures) at (simp fits at c.is_changing.ensures) in
     record {
       whole = rw length-set whole;
-      found = rw (take_more_set l.changing l.key c.is_changing.result b, take_more key_years l.key (pos 0) h, map-append, l.invariant.found, next) refl;
+      found = rw (take_more_set _ l.key _ b, take_more key_years l.key (pos 0) h, map-append, l.invariant.found, next) refl;
     }
 
 pub returns : goal.returns
@@ -39,4 +39,4 @@ returns c =
     let s : length l.changing ≤ 35 = omega arith in
     let p : length key_years ≤ 35 = omega (arith, key_count) in
     sym (take_all 35 _ s) ∙ (rw all at l.invariant.found)
-    ∙ ap (map _) (take_all 35 key_years p)
+    ∙ ap (map _) (take_all 35 _ p)
