@@ -7,7 +7,7 @@ use Rattle.tz_info.proofs.{
   TextLaws.{spelled_law},
   TrimLaws.{trim_is, trim_whole},
   Words.{Bool, Colon, Decided, Decides, Decides-eqb, Error, FooterFault, HasNoZero, HasText, In_text, IsBetweenNewlines, IsFooter, IsTextFault},
-  Words.{IsUtf8, IsUtf8-from_is_utf8, List, No_newlines, Not_utf8, Option, SaysRule, TransitionRule, Zero, [], arith, choice, ends_with, false},
+  Words.{IsUtf8, IsUtf8-from_is_utf8, List, No_newlines, Not_utf8, Option, SaysRule, TransitionRule, Zero, [], arith, choice, false},
   Words.{false_unless, footer_at, inl, inr, is_between_newlines, is_no_text, is_utf8-from_IsUtf8, is_zero, like, list_any, nat_eq, refl, refused},
   Words.{rule_or_none, slice_index, trimmed, ℕ, ◌∷◌, ◌≡◌, ◌≢◌, ◌⊎◌},
 }

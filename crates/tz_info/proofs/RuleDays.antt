@@ -1,8 +1,8 @@
 -- Each year has one day that is the rule's, and the closed form finds it.
 use Rattle.tz_info.proofs.{
   Words.{Bool, DayForm, IsDayOf, IsRuleDay, IsWeekdayInWeek, LiesIn, ap, arith, closed_day, closed_day_is, date_lies, day_number, days_at_least},
-  Words.{days_at_most, days_in_month, days_in_year, floors, is_leap, julian_is, julian_place, leap_at_most, months_all, months_step},
-  Words.{number_after, pos, rule_day, starts_rise, sym, weekday_at, weekday_below, weekday_is, weekday_of, weekday_place, year_start, year_step},
+  Words.{days_at_most, days_in_year, floors, is_leap, julian_is, julian_place, leap_at_most, months_all, months_step},
+  Words.{number_after, pos, rule_day, starts_rise, sym, weekday_at, weekday_below, weekday_is, weekday_place, year_start, year_step},
   Words.{ℕ, ℤ, ◌%◌, ◌*◌, ◌+ℤ◌, ◌+◌, ◌-◌, ◌<ℤ◌, ◌<◌, ◌∙◌, ◌≡◌, ◌≤ℤ◌, ◌≤◌},
 }
 use Rattle.tz_info.specs.declared.rule.day.DayForm.TheVariants.{Julian0, Julian1, MonthWeekday}

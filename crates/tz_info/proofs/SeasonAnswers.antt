@@ -3,7 +3,7 @@ use Rattle.offset_core.specs.declared.local_result.LocalResult.TheVariants.{None
 use Rattle.tz_info.proofs.{
   Candidates.{asked_both, asked_one, one_second, std_or_dst},
   Words.{Alternate as AlternateRule, Bool, IsAmidFrom, IsAskedLast, IsSeason, IsSeasonFor, IsWallAnswer, LocalResult, LocalType, Season},
-  Words.{Shows, TypeFrom, arith, inl, inr, false, int_le, int_lt, linear, not, true, type_when, ℤ, ◌-ℤ◌, ◌<ℤ◌, ◌≡◌, ◌≢◌},
+  Words.{Shows, TypeFrom, arith, int_le, int_lt, linear, not, true, type_when, ℤ, ◌-ℤ◌, ◌<ℤ◌, ◌≡◌, ◌≢◌},
   Words.{◌≤ℤ◌, ◌⊎◌}}
 use Rattle.tz_info.specs.declared.rule.transition_rule.TransitionRule.TheVariants.{Alternate}
 

@@ -2,7 +2,7 @@
 use Rattle.std.proofs.lemmas.Bool.{cases_Bool}
 use Rattle.tz_base.specs.{
   declared.error.Error.TheVariants.{InvalidTzFile, LocalTimeType},
-  declared.error.Expected.TheVariants.{NameWithinDesignations, ZeroByteAfterName, ZeroOrOneAsIsDst},
+  declared.error.Expected.TheVariants.{ZeroByteAfterName, ZeroOrOneAsIsDst},
 }
 use Rattle.tz_info.proofs.{
   ContentLaws.{records},

@@ -1,4 +1,4 @@
-use Rattle.tz_info.proofs.{ListLaws.one_false, Words.{indicators_of, length, pair_agrees}}
+use Rattle.tz_info.proofs.{ListLaws.one_false, Words.{indicators_of, pair_agrees}}
 use Rattle.tz_info.proofs.file.contents.check_indicators.Goals as goal
 
 pub returns-then-not-pair_agrees : goal.returns-then-not-pair_agrees

@@ -1,7 +1,7 @@
 use Rattle.tz_info.proofs.{
   QuestionLaws.{asked_in_turn, asked_neither, asked_once},
   SeasonAnswers.{found_both, found_none, found_one},
-  Words.{SFits, ap, arith, linear, rules, to_z, to_z-of_z, true, w32, ◌≡◌},
+  Words.{arith, linear, rules, to_z, to_z-of_z, w32, ◌≡◌},
 }
 use Rattle.tz_info.proofs.rule.alternate.AlternateTime.answer_from.Goals.{Then-offset}
 use Rattle.tz_info.proofs.rule.alternate.AlternateTime.answer_from.Goals as goal

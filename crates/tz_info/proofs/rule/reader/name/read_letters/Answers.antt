@@ -1,4 +1,4 @@
-use Rattle.tz_info.proofs.Words.{is_letter, runs_are, tested}
+use Rattle.tz_info.proofs.Words.{runs_are, tested}
 use Rattle.tz_info.proofs.rule.reader.name.read_letters.Goals as goal
 
 pub returns : goal.returns

@@ -1,4 +1,4 @@
-use Rattle.tz_info.{proofs.Words.{ap, is_not_greater, not, runs_are, tested, ◌==◌}, specs.TzGrammar.greater}
+use Rattle.tz_info.{proofs.Words.{ap, not, runs_are, tested, ◌==◌}, specs.TzGrammar.greater}
 use Rattle.tz_info.proofs.rule.reader.name.read_until_greater.Goals as goal
 
 pub returns : goal.returns
