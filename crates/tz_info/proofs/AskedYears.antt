@@ -103,8 +103,7 @@ module _ (w : Bool) (a : Alternate) (s : ℤ) where
 
 -- ---- from year to year
 pub beyond_first : (w : Bool) (first : ℤ) (n : ℕ) → 0 < n → Precedes w (year_at w first 1) (year_at w first n)
-beyond_first true _ n h = omega linear
-beyond_first false first n h = omega linear
+beyond_first w first n h = grind linear
 
 pub from_next : (a : Alternate) (w : Bool) (first : ℤ) (n : ℕ) → IsAlternateRule a → changes_in_year a (year_at w first n) ≡ false
     → AreFrom a w first (year_at w first n)

@@ -6,7 +6,7 @@ use Rattle.tz_info.proofs.{
   Words.{Alternate as AlternateRule, AlternateAt, Bool, Contains, FitsSigned, IsAskedLast, IsWallAnswer, LocalResult, LocalType, RuleAt, Shows, Some},
   Words.{TransitionRule, TypeFrom, arith, inl, inr, joined, linear, rule_offsets, type_when, w64, ℤ, ◌+ℤ◌, ◌-ℤ◌, ◌<ℤ◌, ◌≡◌, ◌≤ℤ◌, ◌⊎◌},
 }
-use Rattle.tz_info.specs.declared.rule.transition_rule.TransitionRule.TheVariants.{Alternate, Fixed}
+use Rattle.tz_info.specs.declared.rule.transition_rule.TransitionRule.TheVariants.{Alternate}
 
 -- a second that shows the local time at a type is the local time less the type's offset
 pub shown_at : (u l : ℤ) (t s : LocalType) → u +ℤ t.offset ≡ l → t ≡ s → u ≡ l -ℤ s.offset
@@ -44,8 +44,7 @@ module _ (a : AlternateRule) (t : LocalType) where
 
 -- the offset of a rule's type is one of the rule's offsets
 pub offset_of_rule : (rule : TransitionRule) (u : ℤ) (t : LocalType) → RuleAt rule u t → Contains (rule_offsets (Some rule)) t.offset
-offset_of_rule (Fixed f) u t k = grind linear
-offset_of_rule (Alternate a) u t k = elim (one_of_two a t u k) [ inl e ↦ (0, omega arith, cc) | inr e ↦ (1, omega arith, cc) ]
+offset_of_rule rule u t k = grind (linear, one_of_two)
 
 -- if both offsets are equal
 pub one_second : (a : AlternateRule) (from l : ℤ) → a.std.offset ≡ a.dst.offset → (u : ℤ) (t : LocalType)

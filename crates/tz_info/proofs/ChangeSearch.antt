@@ -18,17 +18,12 @@ one_more _ n _ _ u = (λ one. grind arith, λ h. elim h [ inl one ↦ grind arit
 pub nearest_moved : (w : Bool) (f g : InForce) (p q : ℤ → Type 0) (found : Option Change) → ((d : Change) → IsChange g d → q d.at → IsChange f d × p d.at)
     → ((d : Change) → IsChange f d → p d.at → IsChange g d × q d.at)
     → IsNearest w f p found → IsNearest w g q found
-nearest_moved w f g p q None to from h = grind linear
-nearest_moved w f g p q (Some c) to from h = grind arith
+nearest_moved w f g p q found to from h = grind linear
 
 -- of the nearest change of some seconds and that of others the one that comes first is the nearest one of all
 pub nearest_either : (w : Bool) (f : InForce) (p q : ℤ → Type 0) (found other : Option Change) → IsNearest w f p found → IsNearest w f q other
     → IsNearest w f (λ u. p u ⊎ q u) (nearer_one w found other)
-nearest_either w f p q None None h k = grind linear
-nearest_either w f p q None (Some d) h k = grind linear
-nearest_either w f p q (Some c) None h k = grind linear
-nearest_either true f p q (Some c) (Some d) h k = grind linear
-nearest_either false f p q (Some c) (Some d) h k = grind linear
+nearest_either w f p q found other h k = grind linear
 
 -- one second, of which is known whether it has a change in the stretch
 abbrev pub IsAsked : InForce → ℤ → ℤ → ℤ → Option Change → Type 0
@@ -36,9 +31,7 @@ IsAsked f after last second other = MatchOption other (IsIdle f after last secon
 
 pub asked : (w : Bool) (f : InForce) (after last second : ℤ) (other : Option Change) → IsAsked f after last second other
     → IsNearest w f (λ u. (second ≡ u) × IsInStretch after last u) other
-asked w f _ _ _ None h = grind linear
-asked true f after last second (Some c) h = grind linear
-asked false f after last second (Some c) h = grind linear
+asked w f after last second other h = grind linear
 
 -- one second more
 pub nearest_more : (w : Bool) (f : InForce) (seconds : List ℤ) (n : ℕ) (after last : ℤ) (found other : Option Change)
@@ -66,8 +59,7 @@ nearest_ahead w f begin s _ _ _ e = nearest_moved w f f _ (λ u. (begin <ℤ u) 
 
 -- the seconds of a stretch are ahead of its near end, and so are those before a second of it
 ahead_within : (w : Bool) (after last u : ℤ) → IsInStretch after last u → IsAhead w (near_end w after last) u
-ahead_within true _ _ u k = k.0
-ahead_within false after last u k = k.1
+ahead_within w after last u k = grind linear
 
 -- the nearest change ahead of a stretch's near end is its nearest one, if it lies in it
 pub nearest_within : (w : Bool) (f : InForce) (after last : ℤ) (found r : Option Change) → IsNearest w f (IsAhead w (near_end w after last)) found

@@ -22,7 +22,7 @@ values_front (suc n) read = rw (values_front n read) (front_step _ _ _)
 
 values_same : {X : Type 0} (n : ℕ) (read other : ℕ → Result X Error) → ((k : ℕ) → read k ≡ other k) → values_below n read ≡ values_below n other
 values_same zero _ _ _ = refl
-values_same (suc n) read other h = rw (values_same n read other h, h)
+values_same (suc n) read other h = rw (values_same n _ _ h, h)
 
 -- the first value, and then those of another parse
 first_and_more : {X : Type 0} {P : X → Type 0} {F : Error → Type 0} {Q : List X → Type 0} {G : Error → Type 0} (n : ℕ) (read other : ℕ
@@ -54,14 +54,14 @@ module _ {X : Type 0} (size : ℕ) (Spells : List ℕ → X → Type 0) where
       → AreRecords size Spells part xs
       → (x : X) × Spells (take size part) x × ((more : List X) × AreRecords size Spells (drop size part) more × (x ∷ more ≡ xs))
   first_of n _ [] some l h = absurd (omega (arith, ap length h))
-  first_of n part (x ∷ xs) some l h = let cut = exact_cut size part h.0 h.1 h.2 h.3 in (x, rw cut.0 h.4, (xs, rw cut.1 h.5, refl))
+  first_of n part (x ∷ xs) some l h = let cut = exact_cut size _ h.0 h.1 h.2 h.3 in (x, rw cut.0 h.4, (xs, rw cut.1 h.5, refl))
 
   first_fault : (F : List ℕ → Error → Type 0) (part : List ℕ) (m : Error) (f : HasRecordFault size Spells F part m) (earlier : List X)
       → AreRecords size Spells f.before earlier
       → F (take size part) m ⊎ ((x : X) × Spells (take size part) x × HasRecordFault size Spells F (drop size part) m)
-  first_fault F part m f [] none = let cut = exact_cut size part f.faulty f.after (rw none at f.whole) f.size_is in inl (rw cut.0 f.fault)
+  first_fault F part m f [] none = let cut = exact_cut size part _ _ (rw none at f.whole) f.size_is in inl (rw cut.0 f.fault)
   first_fault F part m f (x ∷ xs) h =
-      let cut = exact_cut size part h.0 _ (rw (h.2, append_assoc) at f.whole) h.3 in
+      let cut = exact_cut size _ h.0 _ (rw (h.2, append_assoc) at f.whole) h.3 in
       grind arith
 
 -- each record is read by that law
@@ -102,7 +102,7 @@ first_transition : (w : ℕ) (times : List ℕ) (i : ℕ) (is : List ℕ) (ts : 
     → (t : Transition) × (record { unix_leap_time = file_time w (take w times); type_index = i } ≡ t)
     × ((more : List Transition) × SpellTransitions w (drop w times) is more × (t ∷ more ≡ ts))
 first_transition w _ i is [] h = cc
-first_transition w times i is (t ∷ ts) h = let cut = exact_cut w times h.times_are.0 h.times_are.1 h.times_are.2 h.times_are.3 in grind arith
+first_transition w times i is (t ∷ ts) h = let cut = exact_cut w times h.times_are.0 _ h.times_are.2 h.times_are.3 in grind arith
 
 none_spelled : (w : ℕ) (times : List ℕ) (ts : List Transition) → SpellTransitions w times [] ts → [] ≡ ts
 none_spelled _ _ [] _ = refl

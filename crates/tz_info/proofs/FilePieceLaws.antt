@@ -80,11 +80,11 @@ unfolding block
 of_block p start rest size h = grind linear
 
 pub has_lengths : (bytes : List ℕ) (p : FilePieces) → HasPieces bytes p → HasLengths p
-has_lengths _ p h = let e = file_ends _ p [] h in (of_block p e.1 _ e.3 e.4).0
+has_lengths _ p h = grind (linear, file_ends, of_block)
 
 -- the last block and the footer are the end of the file
 pub whole : (bytes : List ℕ) (p : FilePieces) → HasPieces bytes p → (before : List ℕ) × (bytes ≡ before ++ in_order p.parts (footer_bytes p.footer))
-whole _ p h = let e = file_ends _ p [] h in (e.0, e.2 ∙ ap (λ s. e.0 ++ s) (of_block p e.1 _ e.3 e.4).1)
+whole _ p h = grind (linear, file_ends, of_block)
 
 -- ---- counts
 -- whole pieces have one pair of counts

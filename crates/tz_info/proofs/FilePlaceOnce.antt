@@ -56,7 +56,7 @@ no_zero (b ∷ bs) h = (h 0 (omega arith), no_zero bs (λ k l. h (suc k) (omega 
 
 pub next_later : (p : FilePieces) (k : ℕ) (here before : ℤ) → HoldsOfNone (IsNotLater p) k → here ≡ time_at p k → before ≡ time_at p (k - 1) → before <ℤ here
     → HoldsOfNone (IsNotLater p) (k + 1)
-next_later p k here before none is was later = below_more (λ j. ¬ (IsNotLater p j)) k none (λ h. grind linear)
+next_later p k here before none is was later = grind (linear, below_more)
 
 -- ---- the footer
 pub text_within : (extended : Bool) (text : List ℕ) (n : ℕ) → IsTextPlace extended text n → n ≤ length text

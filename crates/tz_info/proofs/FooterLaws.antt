@@ -7,7 +7,7 @@ use Rattle.tz_info.proofs.{
   TextLaws.{spelled_law},
   TrimLaws.{trim_is, trim_whole},
   Words.{Bool, Colon, Decided, Decides, Decides-eqb, Error, FooterFault, HasNoZero, HasText, In_text, IsBetweenNewlines, IsFooter, IsTextFault},
-  Words.{IsUtf8, IsUtf8-from_is_utf8, List, No_newlines, Not_utf8, Option, SaysRule, TransitionRule, Zero, [], arith, choice, ends_with, false},
+  Words.{IsUtf8, IsUtf8-from_is_utf8, List, No_newlines, Not_utf8, Option, SaysRule, TransitionRule, Zero, [], arith, choice, false},
   Words.{false_unless, footer_at, inl, inr, is_between_newlines, is_no_text, is_utf8-from_IsUtf8, is_zero, like, list_any, nat_eq, refl, refused},
   Words.{rule_or_none, slice_index, trimmed, ℕ, ◌∷◌, ◌≡◌, ◌≢◌, ◌⊎◌},
 }
@@ -18,7 +18,7 @@ pub ruleset utf8_tests = (IsUtf8-from_is_utf8, is_utf8-from_IsUtf8, false_unless
 -- ---- newlines
 pub between : (bytes : List ℕ) → Decides (is_between_newlines bytes) (IsBetweenNewlines bytes)
 between bytes =
-    let (to_last, from_last) = ends_is {E = nat_eq} Decides-eqb bytes (10 ∷ []) (ends_with nat_eq bytes (10 ∷ [])) refl in grind arith
+    let (to_last, from_last) = ends_is {E = nat_eq} Decides-eqb bytes (10 ∷ []) _ refl in grind arith
 
 -- ---- the text
 no_zero_is : (text : List ℕ) → list_any is_zero text ≡ false → HasNoZero text
@@ -62,7 +62,7 @@ fault_is extended bytes n (inl u) = elim u.1 [
   | inl b ↦
       let has = text_has _ u.0 b.0 in
       elim b.1 [
-        | inl k ↦ rw k.1 (elim k.0 [ inl colon ↦ Colon (trimmed bytes) has colon | inr zero ↦ Zero (trimmed bytes) has zero ])
+        | inl k ↦ rw k.1 (elim k.0 [ inl colon ↦ Colon _ has colon | inr zero ↦ Zero (trimmed bytes) has zero ])
         | inr k ↦ In_text (trimmed bytes) n has (λ e. k.0 (inl e)) (no_zero _ k.0) k.1.0 k.1.1
       ]
 ]

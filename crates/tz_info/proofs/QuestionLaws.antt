@@ -125,7 +125,7 @@ module _ (a : AlternateRule) (from l : ℤ) (dst : Bool) where
 
   -- both come too early
   pub asked_neither : (p : ℕ) → (l -ℤ a.std.offset) <ℤ from → (l -ℤ a.dst.offset) <ℤ from → IsAskedFrom (Alternate a) from l p p
-  asked_neither p first last = nowhere _ p p (λ u k. elim (either u k) [ inl e ↦ grind linear | inr e ↦ grind linear ]) refl
+  asked_neither p first last = grind (linear, nowhere, either)
 
   -- if both offsets are equal
   pub asked_once : (p q : ℕ) → a.std.offset ≡ a.dst.offset → IsAskedSince from (l -ℤ (type_when a dst).offset) p q → IsAskedFrom (Alternate a) from l p q

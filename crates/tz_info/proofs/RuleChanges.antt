@@ -169,8 +169,7 @@ later_year u v x y h k l = by_lt_z u v (λ m. m) (λ m. let r = years_rise v u y
 
 -- ---- changes year by year
 pub year_on : (w : Bool) (first y : ℤ) (n : ℕ) → (y ≡ year_at w first n → ⊥) → Precedes w (year_at w first n) y → Precedes w (year_at w first (n + 1)) y
-year_on true first y n not h = grind (linear, first)
-year_on false first y n not h = grind (linear, first)
+year_on w first y n not h = grind (linear, first)
 
 pub seconds_follow : (w : Bool) (u v x y : ℤ) → IsYearOf (u -ℤ pos 1) x → IsYearOf (v -ℤ pos 1) y → (y ≡ x → ⊥) → Precedes w x y → Precedes w u v
 seconds_follow true u v x y h k not p = let r = later_year _ _ x y h k (omega linear) in omega linear

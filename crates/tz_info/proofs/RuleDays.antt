@@ -1,8 +1,8 @@
 -- Each year has one day that is the rule's, and the closed form finds it.
 use Rattle.tz_info.proofs.{
   Words.{Bool, DayForm, IsDayOf, IsRuleDay, IsWeekdayInWeek, LiesIn, ap, arith, closed_day, closed_day_is, date_lies, day_number, days_at_least},
-  Words.{days_at_most, days_in_month, days_in_year, floors, is_leap, julian_is, julian_place, leap_at_most, months_all, months_step},
-  Words.{number_after, pos, rule_day, starts_rise, sym, weekday_at, weekday_below, weekday_is, weekday_of, weekday_place, year_start, year_step},
+  Words.{days_at_most, days_in_year, floors, is_leap, julian_is, julian_place, leap_at_most, months_all, months_step},
+  Words.{number_after, pos, rule_day, starts_rise, sym, weekday_at, weekday_below, weekday_is, weekday_place, year_start, year_step},
   Words.{ℕ, ℤ, ◌%◌, ◌*◌, ◌+ℤ◌, ◌+◌, ◌-◌, ◌<ℤ◌, ◌<◌, ◌∙◌, ◌≡◌, ◌≤ℤ◌, ◌≤◌},
 }
 use Rattle.tz_info.specs.declared.rule.day.DayForm.TheVariants.{Julian0, Julian1, MonthWeekday}
@@ -20,10 +20,10 @@ one_weekday : (year : ℤ) (month week weekday a b : ℕ) → week ≤ 5 → IsW
 one_weekday year month week _ a b most h k = grind (arith, same_week, weekday_at, weekday_below)
 
 pub one_rule_day : (form : DayForm) (year a b : ℤ) → IsRuleDay form → IsDayOf form year a → IsDayOf form year b → a ≡ b
-one_rule_day (Julian1 n) year a b fits h k = h.3 ∙ sym (julian_is year n h.0 h.1 h.2) ∙ julian_is year n k.0 k.1 k.2 ∙ sym k.3
+one_rule_day (Julian1 n) year a b fits h k = h.3 ∙ sym (julian_is year n h.0 h.1 h.2) ∙ julian_is _ n k.0 k.1 k.2 ∙ sym k.3
 one_rule_day (Julian0 n) year a b fits h k = h ∙ sym k
 one_rule_day (MonthWeekday month week weekday) year a b fits h k =
-    h.2 ∙ ap (day_number year month) (one_weekday _ _ _ _ h.0 k.0 fits.3 h.1 k.1) ∙ sym k.2
+    h.2 ∙ ap (day_number year _) (one_weekday _ _ _ _ h.0 k.0 fits.3 h.1 k.1) ∙ sym k.2
 
 pub rule_day_is : (form : DayForm) (year : ℤ) → IsRuleDay form → IsDayOf form year (rule_day form year)
 unfolding rule_day
@@ -41,7 +41,7 @@ weekday_lies : (year : ℤ) (month week weekday : ℕ) → IsRuleDay (MonthWeekd
     → LiesIn (closed_day (MonthWeekday month week weekday) year) year
 unfolding closed_day
 weekday_lies year month week weekday fits =
-    let place = weekday_place (days_in_month (is_leap year) month) (weekday_of (day_number year month 1)) week weekday in
+    let place = weekday_place _ _ week weekday in
     rw (number_after year month place) at (date_lies year month (place + 1) (weekday_is year month week weekday fits.0 fits.1 fits.2 fits.3 fits.4).date)
 
 -- the rule's day lies in its year, or is the day after it

@@ -22,7 +22,7 @@ pub first_come : {A : Type 0} (time : A → ℤ) (items : List A) (v : ℤ) (n :
     → filter (λ (x : A). int_le (time x) v) items ≡ take n items
 first_come {A = A} time items v n come =
     let same = length-map items time in
-    filter_first (λ x. int_le (time x) v) _ n (omega arith)
+    filter_first (λ x. int_le _ v) _ n (omega arith)
     (λ k d l. grind (arith, mapped_at time items k d (pos 0), le_true, come.before k))
     (λ k d l m. grind (arith, mapped_at time items k d (pos 0), le_false, come.behind k))
 

@@ -3,8 +3,7 @@ use Rattle.offset_core.specs.declared.local_result.LocalResult.TheVariants.{None
 use Rattle.tz_info.proofs.{
   Candidates.{asked_both, asked_one, one_second, std_or_dst},
   Words.{Alternate as AlternateRule, Bool, IsAmidFrom, IsAskedLast, IsSeason, IsSeasonFor, IsWallAnswer, LocalResult, LocalType, Season},
-  Words.{Shows, TypeFrom, arith, inl, inr, false, int_le, int_lt, linear, not, true, type_when, ℤ, ◌-ℤ◌, ◌<ℤ◌, ◌≡◌, ◌≢◌},
-  Words.{◌≤ℤ◌, ◌⊎◌},
+  Words.{Shows, TypeFrom, arith, int_le, int_lt, linear, not, true, type_when, ℤ, ◌-ℤ◌, ◌<ℤ◌, ◌≡◌, ◌≢◌, ◌≤ℤ◌, ◌⊎◌},
 }
 use Rattle.tz_info.specs.declared.rule.transition_rule.TransitionRule.TheVariants.{Alternate}
 
@@ -21,13 +20,12 @@ pub within : (a : AlternateRule) (s : Season) (from l : ℤ) (dst : Bool) → Is
     → int_le from (l -ℤ (type_when a dst).offset) ≡ true → int_le s.from (l -ℤ (type_when a dst).offset) ≡ true
     → int_lt (l -ℤ (type_when a (not dst)).offset) s.until ≡ true
     → IsSeasonFor a from l s
-within a s from l true season is since begun goes = let g = greater a true is in grind linear
-within a s from l false season is since begun goes = let g = greater a false is in grind linear
+within a s from l dst season is since begun goes = let g = greater a dst is in grind linear
 
 -- both seconds come too early
 pub found_none : (a : AlternateRule) (from l : ℤ) → (l -ℤ a.std.offset) <ℤ from → (l -ℤ a.dst.offset) <ℤ from
     → IsWallAnswer (Shows (TypeFrom (Alternate a) from) l) None
-found_none a from l first last = λ u t s. elim (std_or_dst a t from l u s) [ inl e ↦ grind linear | inr e ↦ grind linear ]
+found_none a from l first last = grind (linear, std_or_dst)
 
 module _ (a : AlternateRule) (from l : ℤ) (dst : Bool) where
   -- the second is that of the one type or of the other one

@@ -14,7 +14,7 @@ text_ends extended bytes r rest h = grind linear
 pub spelled_law : (extended : Bool) (text : List ℕ)
     → Decided TransitionRule (rule_in extended text) (IsTzText extended text) (IsTextFault extended text)
 unfolding rule_in
-spelled_law extended bytes = said (made (λ p. p.0) (lawful (text extended) bytes))
+spelled_law extended bytes = said (made (λ p. p.0) (lawful (text _) bytes))
     (λ rule h. rw h.2 at (rw (text_ends _ _ _ _ h.1) at h.1))
     (λ rule h. ((rule, []), h, refl))
 
@@ -22,18 +22,18 @@ spelled_law extended bytes = said (made (λ p. p.0) (lawful (text extended) byte
 module _ (extended : Bool) (bytes : List ℕ) where
   -- a text with a fault spells no rule, and has no other fault
   pub refused_or_spelled : (e : Error) (r : TransitionRule) → IsTextFault extended bytes e → IsTzText extended bytes r → ⊥
-  refused_or_spelled e r fault spelled = apart (spelled_law extended bytes) r e spelled fault
+  refused_or_spelled e r fault spelled = apart (spelled_law _ bytes) r e spelled fault
 
   pub one_fault : (d e : Error) → IsTextFault extended bytes d → IsTextFault extended bytes e → d ≡ e
-  one_fault = fault_once (spelled_law extended bytes)
+  one_fault = fault_once (spelled_law _ bytes)
 
   -- it is not running out of memory
   pub text_low : (e : Error) → IsTextFault extended bytes e → error_number e ≤ 16
-  text_low = fault_low (spelled_law extended bytes)
+  text_low = fault_low (spelled_law _ bytes)
 
   -- no bytes spell two rules
   pub one_rule : (a b : TransitionRule) → IsTzText extended bytes a → IsTzText extended bytes b → a ≡ b
-  one_rule = value_once (spelled_law extended bytes)
+  one_rule = value_once (spelled_law _ bytes)
 
   -- ---- what a reader of a whole text answers
   pub found_by : (r : Result TransitionRule ParseError) → IsParsed extended bytes r → IfOk r (λ rule. IsTzText extended bytes rule)

@@ -22,7 +22,7 @@ back_again (b ∷ []) after e s = rw (space_back _ s, e)
 back_again (b ∷ c ∷ cs) _ e s = ap (λ t. unless_space b t) (back_again (c ∷ cs) _ e s)
 
 front_again : (text after : List ℕ) → BeginsBare text → EndsBare text → IsSpace after → trimmed_back (trimmed_front (text ++ after)) ≡ text
-front_again [] after _ _ s = ap trimmed_back (rw append-nil at (space_front after [] s))
+front_again [] after _ _ s = ap trimmed_back (rw append-nil at (space_front _ [] s))
 front_again (x ∷ xs) after b e s = rw b (back_again _ _ e s)
 
 pub trim_whole : (before text after : List ℕ) → IsSpace before → IsSpace after → BeginsBare text → EndsBare text → trimmed (before ++ (text ++ after)) ≡ text
@@ -108,7 +108,7 @@ bare_counted (x ∷ xs) b rest s bare = rw s.0 (omega (arith, bare_counted xs b 
 -- the text fits after the white space in front
 pub fits_behind : (bytes text : List ℕ) → IsTrimmed bytes text → prefix_len is_ascii_whitespace bytes + length text ≤ length bytes
 fits_behind bytes [] t = omega (arith, prefix_len-le-length is_ascii_whitespace bytes)
-fits_behind bytes (b ∷ bs) t = let front = bare_counted t.before b (bs ++ t.after) t.space_before t.first in grind (arith, length-append)
+fits_behind bytes (b ∷ bs) t = let front = bare_counted _ b (bs ++ t.after) t.space_before t.first in grind (arith, length-append)
 
 pub trimmed_fits : (s r : List ℕ) → IsTrimAscii s r → prefix_len is_ascii_whitespace s + length r ≤ length s
 trimmed_fits s r t = fits_behind _ _ (trims_both _ _ t)

@@ -2,7 +2,7 @@
 use Rattle.std.proofs.lemmas.Bool.{cases_Bool}
 use Rattle.tz_base.specs.{
   declared.error.Error.TheVariants.{InvalidTzFile, LocalTimeType},
-  declared.error.Expected.TheVariants.{NameWithinDesignations, ZeroByteAfterName, ZeroOrOneAsIsDst},
+  declared.error.Expected.TheVariants.{ZeroByteAfterName, ZeroOrOneAsIsDst},
 }
 use Rattle.tz_info.proofs.{
   ContentLaws.{records},
@@ -39,11 +39,11 @@ text_takes : (names : List ℕ) (i n : ℕ) (x : List ℕ) → i < length names 
 text_takes names i n x inside e same =
     let r = zero_takes _ 0 n e in
     let m : r.0 ≡ n = omega arith in
-    let same : take r.0 (drop i names) ≡ x = rw m same in
+    let same : take r.0 _ ≡ x = rw m same in
     record {
       before = take i names;
       after = r.2;
-      whole = sym (take-append-drop i names) ∙ ap (λ s. take i names ++ s) (r.3 ∙ ap (λ s. s ++ (0 ∷ r.2)) same);
+      whole = sym (take-append-drop i _) ∙ ap (λ s. take i names ++ s) (r.3 ∙ ap (λ s. s ++ (0 ∷ r.2)) same);
       at = omega (arith, length-take i names);
       ends = rw same at r.4;
     }
@@ -51,7 +51,7 @@ text_takes names i n x inside e same =
 text_again : (names : List ℕ) (i : ℕ) (x : List ℕ) → StandsAt names i x
     → (i < length names) × (Place names i ≡ Some (length x)) × (take (length x) (drop i names) ≡ x)
 text_again names i x s =
-    let after : drop i names ≡ x ++ (0 ∷ s.after) = rw (s.whole, ← s.at) (drop_front s.before (x ++ (0 ∷ s.after))) in
+    let after : drop i names ≡ x ++ (0 ∷ s.after) = rw (s.whole, ← s.at) (drop_front s.before _) in
     grind (arith, length-append, zero_again, take-append_seam)
 
 abbrev NoText : List ℕ → ℕ → Error → Type 0
@@ -61,7 +61,7 @@ text_law : (names : List ℕ) (i : ℕ)
     → Decided (List ℕ) (designation_at names i) (StandsAt names i) (NoText names i)
 unfolding designation_at
 text_law names i = by_error (InvalidTzFile (expected_of_place names i))
-    (choice (Decides-ltb i (length names)) (front_law _ _) (refused (InvalidTzFile NameWithinDesignations) (omega arith)))
+    (choice (Decides-ltb i (length names)) (front_law _ _) (refused _ (omega arith)))
     (λ x h. grind (arith, text_takes))
     (λ x s. let t = text_again _ i x s in grind arith)
     (λ e h. grind (arith, nat_tests))
@@ -76,7 +76,7 @@ NoMark b e = ((d : Bool) → ¬ (IsMark b d)) × (e ≡ InvalidTzFile ZeroOrOneA
 
 mark_law : (b : ℕ) → Decided Bool (mark_of b) (IsMark b) (NoMark b)
 mark_law b = by_error (InvalidTzFile ZeroOrOneAsIsDst)
-    (choice (Decides-eqb b 0) (done false) (guard true (InvalidTzFile ZeroOrOneAsIsDst) (omega arith) (Decides-eqb b 1)))
+    (choice (Decides-eqb b 0) (done false) (guard true _ (omega arith) (Decides-eqb b 1)))
     (λ d h. grind arith)
     (λ d h. grind arith)
     (λ n h. grind arith)

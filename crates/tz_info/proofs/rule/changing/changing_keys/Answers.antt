@@ -2,8 +2,8 @@ use Rattle.std.proofs.lemmas.List.{map-append, take_more_set}
 use Rattle.tz_info.proofs.{
   Fits.{fits},
   YearKeys.{key_count, keys_are},
-  Words.{SFits, ap, arith, changing_keys, get_or, key_years, length, length-set, map, pos, refl, rules, sym, take_all, take_more, w32, ◌<◌, ◌∙◌, ◌≡◌},
-  Words.{◌≤◌},
+  Words.{SFits, ap, arith, changing_keys, get_or, key_years, length, length-set, map, pos, refl, rules, sym, take_all, take_more, to_z-of_z, w32, ◌<◌, ◌∙◌},
+  Words.{◌≡◌, ◌≤◌},
 }
 use Rattle.tz_info.specs.Steps.ChangingYears.{is_changing}
 use Rattle.tz_info.proofs.rule.changing.changing_keys.Goals as goal
@@ -14,9 +14,7 @@ is_changing-requires-clause-year c =
     let k = keys_are c.loop-key.key (omega arith) in simp fits (rw c.key_years-years.ensures (k.1, k.2))
 
 pub is_changing-requires-clause-key : goal.is_changing-requires-clause-key
-is_changing-requires-clause-key c =
-    let f : SFits w32 (get_or c.key_years-years.result c.loop-key.key (pos 0)) = search rules in
-    let k = keys_are c.loop-key.key (omega arith) in simp fits (rw c.key_years-years.ensures k.0)
+is_changing-requires-clause-key c = grind (arith, to_z-of_z, keys_are)
 
 pub loop-key-preserved : goal.loop-key-preserved
 loop-key-preserved c =
@@ -28,7 +26,7 @@ loop-key-preserved c =
     (get_or key_years _ _) = rw (c.requires.calm, c.key_years-years.ensures) at (simp fits at c.is_changing.ensures) in
     record {
       whole = rw length-set whole;
-      found = rw (take_more_set l.changing l.key c.is_changing.result b, take_more key_years l.key (pos 0) h, map-append, l.invariant.found, next) refl;
+      found = rw (take_more_set _ l.key _ b, take_more key_years l.key (pos 0) h, map-append, l.invariant.found, next) refl;
     }
 
 pub returns : goal.returns
@@ -39,4 +37,4 @@ returns c =
     let s : length l.changing ≤ 35 = omega arith in
     let p : length key_years ≤ 35 = omega (arith, key_count) in
     sym (take_all 35 _ s) ∙ (rw all at l.invariant.found)
-    ∙ ap (map _) (take_all 35 key_years p)
+    ∙ ap (map _) (take_all 35 _ p)

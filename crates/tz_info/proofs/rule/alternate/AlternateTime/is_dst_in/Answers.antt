@@ -20,8 +20,7 @@ in_year c =
     (at_second, at_day, omega (arith, floors), day, lies, inside)
 
 pub is_dst-requires-clause-lies : goal.is_dst-requires-clause-lies
-is_dst-requires-clause-lies c = let (at_second, at_day, at_year, day, lies, inside) =
-    in_year (goal.at.is_dst-requires-clause-lies c).After-year_of in simp fits lies
+is_dst-requires-clause-lies c = grind (arith, to_z-of_z, in_year)
 
 pub is_dst-requires-clause-inside : goal.is_dst-requires-clause-inside
 is_dst-requires-clause-inside c = grind (arith, to_z-of_z, in_year)

@@ -1,4 +1,4 @@
-use Rattle.tz_info.proofs.{SeasonAnswers.within, Words.{SFits, ap, linear, rules, to_z-of_z, w32, w64, ◌∙◌}}
+use Rattle.tz_info.proofs.{SeasonAnswers.within, Words.{SFits, ap, rules, to_z-of_z, w32, w64, ◌∙◌}}
 use Rattle.tz_info.proofs.rule.alternate.AlternateTime.season_for.Goals as goal
 
 pub returns-then-last-season : goal.returns-then-last-season

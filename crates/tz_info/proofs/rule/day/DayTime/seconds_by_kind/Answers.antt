@@ -10,4 +10,4 @@ returns c =
     let s : length l.seconds ≤ 14 = omega arith in
     let p : length places ≤ 14 = search rules in
     rw (← c.places_by_kind-places.ensures.value) (sym (take_all 14 _ s) ∙ (rw all at (simp fits at l.invariant.found))
-    ∙ ap (map _) (take_all 14 places p))
+    ∙ ap (map _) (take_all 14 _ p))

@@ -1,9 +1,9 @@
-use Rattle.tz_info.{proofs.Words.{ap, is_not_greater, not, runs_are, tested, ◌==◌}, specs.TzGrammar.greater}
+use Rattle.tz_info.{proofs.Words.{ap, not, runs_are, tested, ◌==◌}, specs.TzGrammar.greater}
 use Rattle.tz_info.proofs.rule.reader.name.read_until_greater.Goals as goal
 
 pub returns : goal.returns
 returns c =
     let w = c.read_until.ensures in
-    let (run, rest) = runs_are is_not_greater _ _ _ w.whole (λ k h. ap not (tested _ (λ b. b == greater) (λ b m. m) (w.run k h)))
+    let (run, rest) = runs_are _ _ _ _ w.whole (λ k h. ap not (tested _ (λ b. b == greater) (λ b m. m) (w.run k h)))
     (λ h. ap not (tested _ (λ b. b == greater) (λ b m. m) (w.stop h))) in
     record { run = run; rest = rest }
