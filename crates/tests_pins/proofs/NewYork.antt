@@ -3,10 +3,10 @@ use Rattle.std.{proofs.lemmas.Int.{fits_signed_from_abs}, specs.Prelude.{if◌th
 use Rattle.tz_info.proofs.{AnswerLaws.{same_answer}, KindLaws.{margin_kept}, RuleDays.{rule_day_closed}, SeasonLaws.{season_made}}
 use Rattle.tz_info.proofs.Candidates.{asked_both, asked_found, asked_other, dst_or_std}
 use Rattle.tz_info.proofs.ZoneLaws.{type_once}
-use Rattle.tz_info.proofs.Words.{Bool, FitsSigned, IsAskedLast, IsWallAnswer, LocalType, RuleAt, Shows, TypeAt, TypeFrom, are_calm, arith, by_lt_z, closed_day, day_number}
-use Rattle.tz_info.proofs.Words.{days_of_months, end_in, false, ints, is_dst_by_one, joined, least_time, margin_of, moment, neg_ℤ, not, place_by, places_by_kind}
-use Rattle.tz_info.proofs.Words.{pos, refl, seconds_by_kind, start_in, sym, true, type_when, w64, year_start, ℤ, ◌*ℤ◌, ◌+ℤ◌, ◌-ℤ◌, ◌<ℤ◌, ◌≡◌, ◌≤ℤ◌}
-use Rattle.tz_info.proofs.Words.{◌⊎◌}
+use Rattle.tz_info.proofs.Words.{Bool, FitsSigned, IsAskedLast, IsWallAnswer, LocalType, RuleAt, Shows, TypeAt, TypeFrom, are_calm, arith, by_lt_z}
+use Rattle.tz_info.proofs.Words.{closed_day, day_number, days_of_months, end_in, false, ints, is_dst_by_one, joined, least_time, margin_of, moment, neg_ℤ}
+use Rattle.tz_info.proofs.Words.{not, place_by, places_by_kind, pos, refl, seconds_by_kind, start_in, sym, true, type_when, w64, year_start, ℤ, ◌*ℤ◌, ◌+ℤ◌}
+use Rattle.tz_info.proofs.Words.{◌-ℤ◌, ◌<ℤ◌, ◌≡◌, ◌≤ℤ◌, ◌⊎◌}
 use Rattle.tz_info.specs.{declared.rule.day.DayForm.TheVariants.{MonthWeekday}, Rules.{IsAlternateRule}}
 use Rattle.offset_core.specs.{WallAnswer.{IsNeverShown, IsShownBetween, IsShownOnce}, declared.local_result.LocalResult.{LocalResult}}
 use Rattle.offset_core.specs.declared.local_result.LocalResult.TheVariants.{Ambiguous, None, Single}

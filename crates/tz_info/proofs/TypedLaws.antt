@@ -4,9 +4,9 @@ use Rattle.tz_info.proofs.{
   RuleChanges.{rule_second},
   SegmentLaws.{segment_most, segments_rise},
   SpanLaws.{all_come, out_of_years, typed_between},
-  Words.{AreLeapSeconds, IsAfterTyped, IsFirstTyped, IsFromLast, IsLastTyped, IsLeapTime, IsLeapTimeRefused, IsRefusedBy, IsRuleOrNone, IsSearched},
-  Words.{IsTypeRefused, IsValid, LeapSecond, List, None, Option, SFits, Some, TransitionRule, Zone, arith, by_leap_time, by_rule, inl, inr, least_time, length},
-  Words.{linear, neg_ℤ, pos, refl, w64, ℤ, ◌+ℤ◌, ◌-ℤ◌, ◌<ℤ◌, ◌<◌, ◌≡◌, ◌≤ℤ◌},
+  Words.{AreLeapSeconds, IsFirstTyped, IsFromLast, IsLastTyped, IsLeapTime, IsLeapTimeRefused, IsRefusedBy, IsRuleOrNone, IsSearched},
+  Words.{IsTypeRefused, IsValid, LeapSecond, List, None, Option, Some, TransitionRule, Zone, arith, by_leap_time, by_rule, inl, inr, least_time, length},
+  Words.{linear, neg_ℤ, pos, refl, ℤ, ◌+ℤ◌, ◌-ℤ◌, ◌<ℤ◌, ◌<◌, ◌≡◌, ◌≤ℤ◌},
   ZoneChanges.{refused_on, to_rule},
   ZoneLaws.{type_decided},
 }
@@ -52,10 +52,3 @@ module _ (z : Zone) (valid : IsValid z) (limits : IsRuleOrNone z.rule) where
         h.not (typed_between z _ v end _ _ valid (omega linear) (omega linear) h.typed.1 there.1 limits);
     far = h.far;
   }
-
--- after it none has
-pub after_typed : (z : Zone) (last : ℤ) → SFits w64 last → IsLastTyped z last → (last ≡ pos 9_223_372_036_854_775_807 → ⊥) → IsAfterTyped z (last +ℤ pos 1)
-after_typed z last fits h not =
-    let back : last ≡ (last +ℤ pos 1) -ℤ pos 1 = omega linear in
-    let next : SFits w64 (last +ℤ pos 1) = grind linear in
-    grind linear
