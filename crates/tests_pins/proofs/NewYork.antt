@@ -94,7 +94,7 @@ pub second_of : (l u : ℤ) (t : LocalType) → pos 1_604_210_400 ≤ℤ u → u
 second_of l u t low high s = let e = rw (one_type u t low high s.type) at s.shown in omega (arith, ints, e)
 
 -- the answer of one second, which shows the local time or doesn't
-shown_if : Bool → LocalType → LocalResult LocalType
+abbrev shown_if : Bool → LocalType → LocalResult LocalType
 shown_if b t = if b then Single t else None
 
 -- what shows a local time: the earlier second by daylight saving time, the later one by standard time
@@ -106,7 +106,7 @@ asked_first : (l : ℤ) (b : Bool) → FitsSigned w64 (l -ℤ edt.offset) → le
     → RuleAt new_york_rule (l -ℤ edt.offset) (type_when new_york b)
     → IsAskedLast (TypeFrom new_york_rule least_time) l edt.offset None (shown_if b edt)
 asked_first l true fits since at = asked_found new_york_rule least_time l edt.offset edt None fits since at refl
-asked_first l false fits since at = asked_other new_york_rule least_time l edt.offset est None at (λ e. omega (arith, e))
+asked_first l false fits since at = asked_other new_york_rule least_time l edt.offset est None at (λ e. omega (arith, ints, e))
 
 joined_none : (one : LocalResult LocalType) → joined one None ≡ one
 joined_none one = grind arith
@@ -114,7 +114,7 @@ joined_none one = grind arith
 asked_last : (l : ℤ) (one : LocalResult LocalType) (b : Bool) → FitsSigned w64 (l -ℤ est.offset) → least_time ≤ℤ (l -ℤ est.offset)
     → RuleAt new_york_rule (l -ℤ est.offset) (type_when new_york b)
     → IsAskedLast (TypeFrom new_york_rule least_time) l est.offset one (joined one (shown_if (not b) est))
-asked_last l one true fits since at = rw (joined_none one) (asked_other new_york_rule least_time l est.offset edt one at (λ e. omega (arith, e)))
+asked_last l one true fits since at = rw (joined_none one) (asked_other new_york_rule least_time l est.offset edt one at (λ e. omega (arith, ints, e)))
 asked_last l one false fits since at = asked_found new_york_rule least_time l est.offset est one fits since at refl
 
 pub wall : (l : ℤ) → pos 1_604_196_000 ≤ℤ l → l <ℤ pos 1_641_150_000
