@@ -67,7 +67,7 @@ fn place_of(a: bool, b: bool, c: bool, d: bool) -> u32
     }
 }
 
-// The kind of the years of that key: in a leap year it is the second of the four that is one.
+// The kind of the years of that key. They are leap years if the second of the four years is.
 #[tactic(auto, using(crate::proofs::YearKeys::kind_by_key))]
 fn kind_of_key(key: usize) -> usize
     requires { key < 35 }
