@@ -38,7 +38,7 @@ impl WrittenChange {
         }
     }
 
-    // That change of types that the zone holds.
+    // That change, whose types the zone holds: they are copied only here.
     #[inline(always)]
     fn held(change: HeldChange<'_>) -> WrittenChange
         ensures { result ≡ written_change (change_held change.entry) }

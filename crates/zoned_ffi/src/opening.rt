@@ -101,7 +101,7 @@ fn opened(alloc: Global, kind: u32, bytes: &[u8]) -> Result<Handle, Refusal>
     }
 }
 
-// The zone, of which there is one share.
+// The zone, of which there is one share. It is inlined, so that the zone is moved once less.
 #[inline(always)]
 fn boxed(alloc: Global, zone: TimeZone) -> Option<Handle>
     ensures { IfSome result (λ handle. IsOpen handle zone) }

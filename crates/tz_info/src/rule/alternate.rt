@@ -163,6 +163,7 @@ impl AlternateTime {
         let starts = start.seconds_by_kind(std.offset());
         let ends = end.seconds_by_kind(dst.offset());
         let margin = margin_of(&starts, &ends);
+        // Only a rule whose moments keep away from the ends of their years has such a margin.
         let changing = changing_keys(&starts, &ends, margin > 0);
         Ok(AlternateTime {
             std_type: std,

@@ -148,7 +148,7 @@ impl TimeZone {
         TimeZone::without_transitions(types, leaps, rule)
     }
 
-    // The zone of those lists and without transitions.
+    // The zone of those lists and without transitions. It is inlined, so that the zone is made in place.
     #[inline(always)]
     fn without_transitions(
         types: Vec<LocalTimeType>,

@@ -90,6 +90,7 @@ impl TimeZone {
             probes.old.rule_questions probes.new.rule_questions }
     {
         let _ = &self.changes;
+        // The search makes the first test too, so that the second costs nothing if there are entries.
         if self.changes.len() == 0 && self.has_no_transition() {
             return self.rule_or_type(unix_time, 0, probes);
         }
