@@ -76,6 +76,7 @@ impl NaiveDateTime {
     /// let leap_second = NaiveDateTime::from_timestamp_opt(1_483_228_799, 1_500_000_000); // 2016-12-31T23:59:60.500
     /// let none = NaiveDateTime::from_timestamp_opt(0, 1_000_000_000); // None
     /// ```
+    #[inline(always)]
     pub fn from_timestamp_opt(secs: i64, nsecs: u32) -> Option<NaiveDateTime>
         ensures { let r = of_secs secs nsecs in SomeIff (option_map reading result) (IsStamp r) r }
     {
@@ -86,6 +87,7 @@ impl NaiveDateTime {
     }
 
     // The local date-time at a second, if it is in range.
+    #[inline(always)]
     fn at_second(secs: i64, frac: u32) -> Option<NaiveDateTime>
         requires { frac < 2_000_000_000 }
         ensures { IsReadingOf (record { s = secs; f = frac }) result }

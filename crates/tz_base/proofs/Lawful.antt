@@ -1,13 +1,17 @@
 -- What a grammar reads is what it spells, or the error of its fault.
-use Rattle.std.proofs.Common.{Bool, List, Ok, Result, arith, drop, length, take, true, ℕ, [], ◌&&◌, ◌++◌, ◌<◌, ◌==◌, ◌∷◌, ◌≡◌, ◌≤◌, ◌⊎◌}
+use Rattle.std.proofs.Common.{Bool, List, Ok, Result, arith, drop, inl, inr, length, refl, take, true, ℕ, [], ◌&&◌, ◌++◌, ◌<◌, ◌==◌, ◌∷◌, ◌≡◌, ◌≤◌, ◌⊎◌}
 use Rattle.std.proofs.{Math.Seq.{take-append_seam}, lemmas.{Bool.Decides.{nat_tests}, List.{length-append, length-take, take-append-drop}, Int.{ints}}}
 use Rattle.std.specs.Bool.{Decides}
 use Rattle.tz_base.specs.{Errors.{error_number}, declared.error.Error.{Error}}
 use Rattle.tz_base.specs.Fronts.{AllOf, NoneFirst, after_run, exact_at, int_at, is_digit, number_within, optional_tag_at, run_of, tag_at, value_from}
-use Rattle.tz_base.specs.Grammar.{At, Byte, ByteFault, Check, Ended, Exact, Grammar, HasFault, Here, IsNumber, IsRun, Marked, Nothing, Number, NumberFault}
-use Rattle.tz_base.specs.{Grammar.{Refused, Rest, Run, Spells, Then, is_end, read}, Refusals.{Refusal, error}, declared.error.Error.TheVariants.{ParseInt}}
+use Rattle.tz_base.specs.Grammar.{At, Byte, ByteFault, Check, Ended, Exact, Grammar, HasFault, Here, Inside, IsNumber, IsRun, Marked, Nothing, Number}
+use Rattle.tz_base.specs.{
+  Grammar.{NumberFault, Refused, Rest, Run, Spells, Then, is_end, read},
+  Refusals.{Refusal, error},
+  declared.error.Error.TheVariants.{ParseInt},
+}
 use Rattle.tz_base.specs.declared.error.Expected.TheVariants.{Digit, NumberWithinItsLimit}
-use Rattle.tz_base.proofs.{Decided.{Decided, and_then, choice, like, refused}, ReadLaws.{drop_front}}
+use Rattle.tz_base.proofs.{Decided.{Decided, and_then, choice, done, like, refused}, ReadLaws.{drop_front}}
 
 -- a parser returns P, or the fault F
 abbrev Reads : {X : Type 0} → (List ℕ → Result (X × List ℕ) Error) → (List ℕ → X → List ℕ → Type 0) → (List ℕ → Error → Type 0) → Type 0
@@ -81,6 +85,15 @@ number_read : (max : ℕ) → Reads (int_at max) (IsNumber max) (NumberFault max
 unfolding int_at
 number_read max bytes = grind (arith, run_splits is_digit bytes, run_again is_digit, within_law max)
 
+-- ---- a part
+inside_read : {X : Type 0} (part from : List ℕ) (g : Grammar X) → Decided (X × List ℕ) (read g part) (λ p. Spells g part p.0 p.1) (HasFault g part)
+    → Lawful (Inside part from g)
+inside_read part from g law bytes = like (and_then law (λ x rest _. done (x, bytes)))
+    (λ y h. rw (← h.3) (h.1, h.2, refl))
+    (λ y h. (y.0, h.0, h.1, rw h.2 refl))
+    (λ err h. elim h [ inl f ↦ f | inr k ↦ absurd k.3 ])
+    (λ err h. inl h)
+
 -- ---- every grammar
 pub lawful : {X : Type 0} (g : Grammar X) → Lawful g
 lawful (Nothing v) bytes = nothing_read v bytes
@@ -96,3 +109,4 @@ lawful (Refused refusal) bytes = refused_read refusal bytes
 lawful (Check P test refusal v) bytes = check_read P test.passes test.decides refusal v bytes
 lawful (Here f) bytes = lawful (f bytes) bytes
 lawful (At place g) bytes = lawful g bytes
+lawful (Inside part from g) bytes = inside_read part from g (lawful g part) bytes

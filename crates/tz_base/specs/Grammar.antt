@@ -1,8 +1,8 @@
 -- Grammars. One value says four things of bytes: which value their front spells, with which error they are rejected if it
 -- spells none, the position of that fault, and what a reader reads. `lawful` (proofs/Lawful) proves for every grammar that what
 -- is read is what is spelled, and that an error is the one of the first fault.
-use Rattle.std.specs.Prelude.{ℕ, ◌≡◌, ◌≢◌, ◌<◌, ◌≤◌, ◌-◌, ◌⊎◌, Bool, true, false, if◌then◌else◌, List, [], ◌∷◌, ◌++◌, length, Result, Ok, Err}
-use Rattle.std.specs.Int.{w32, from_be_bytes}
+use Rattle.std.specs.Prelude.{ℕ, zero, suc, ◌≡◌, ◌≢◌, ◌<◌, ◌≤◌, ◌-◌, ◌⊎◌, Bool, true, false, if◌then◌else◌, List, [], ◌∷◌, ◌++◌, length, drop, Result}
+use Rattle.std.specs.{Prelude.{Ok, Err}, Int.{w32, from_be_bytes}}
 use Rattle.tz_base.specs.Fronts.{is_digit, value_from, AllOf, NoneFirst, AllDigits, optional_tag_at, tag_at, int_at, exact_at, run_of, after_run}
 use Rattle.tz_base.specs.{Refusals.{Refusal, error}, Tests.{Test}, declared.error.Error.{Error, TheVariants.{UnexpectedEnd, MissingTag, ParseInt}}}
 use Rattle.tz_base.specs.declared.error.Expected.TheVariants.{MoreBytes, Tag, OtherBytes, Digit, NumberWithinItsLimit}
@@ -35,6 +35,9 @@ pub data Grammar : Type 0 → Type 1 where
   Here : {X : Type 0} → (List ℕ → Grammar X) → Grammar X
   -- the grammar, with its fault where those bytes begin
   At : {X : Type 0} → List ℕ → Grammar X → Grammar X
+  -- no bytes, but what the front of that part spells; its fault is as far behind the front of the other bytes, with which the part
+  -- begins, as in the part
+  Inside : {X : Type 0} → List ℕ → List ℕ → Grammar X → Grammar X
 
 infixl 10 ◌>>=◌
 abbrev pub ◌>>=◌ : {X Y : Type 0} → Grammar X → (X → Grammar Y) → Grammar Y
@@ -54,6 +57,14 @@ Some refusal = Ended (Refused refusal) (Nothing tt)
 
 abbrev pub End : Refusal → Grammar (Unit {0})
 End refusal = Ended (Nothing tt) (Refused refusal)
+
+-- the values of the grammars of the numbers below n, one after the other
+abbrev pub Each : {X : Type 0} → ℕ → (ℕ → Grammar X) → Grammar (List X)
+Each zero g = Nothing []
+Each (suc n) g = do
+  xs ← Each n g
+  x ← g n
+  Nothing (xs ++ x ∷ [])
 
 -- ---- what is spelled: the front of the bytes spells x, and rest follows it
 -- the bytes don't begin with that byte
@@ -89,6 +100,7 @@ Spells (Refused refusal) bytes x rest = ⊥
 Spells (Check P test refusal v) bytes x rest = P × (x ≡ v) × (bytes ≡ rest)
 Spells (Here f) bytes x rest = Spells (f bytes) bytes x rest
 Spells (At place g) bytes x rest = Spells g bytes x rest
+Spells (Inside part from g) bytes x rest = (after : List ℕ) × Spells g part x after × (bytes ≡ rest)
 
 -- ---- its faults: the first parts are spelled, and the next one is rejected with the error
 abbrev pub ByteFault : ℕ → List ℕ → Error → Type 0
@@ -118,6 +130,7 @@ HasFault (Refused refusal) bytes e = e ≡ error refusal
 HasFault (Check P test refusal v) bytes e = (P → ⊥) × (e ≡ error refusal)
 HasFault (Here f) bytes e = HasFault (f bytes) bytes e
 HasFault (At place g) bytes e = HasFault g bytes e
+HasFault (Inside part from g) bytes e = HasFault g part e
 
 -- ---- what a reader reads: the value with the bytes after it, or the error
 abbrev pub is_end : List ℕ → Bool
@@ -141,9 +154,10 @@ read (Refused refusal) bytes = Err (error refusal)
 read (Check P test refusal v) bytes = fronts.◌>>=◌ (checked test.passes refusal v) (λ x. Ok (x, bytes))
 read (Here f) bytes = read (f bytes) bytes
 read (At place g) bytes = read g bytes
+read (Inside part from g) bytes = fronts.◌>>=◌ (read g part) (λ p. Ok (p.0, bytes))
 
 -- ---- the position of the fault: the bytes from it on. The fault is at the start of the rejected part, or at the end if bytes
--- are missing; `At` moves it to the field whose value is rejected
+-- are missing; `At` and `Inside` move it to the field whose value is rejected
 abbrev pub if_read : {X : Type 0} → Result (X × List ℕ) Error → (X → List ℕ → List ℕ) → List ℕ → List ℕ
 if_read (Ok p) next here = next p.0 p.1
 if_read (Err e) next here = here
@@ -155,6 +169,7 @@ from_fault (Ended g h) bytes = if is_end bytes then from_fault g bytes else from
 from_fault (Exact count) bytes = []
 from_fault (Here f) bytes = from_fault (f bytes) bytes
 from_fault (At place g) bytes = place
+from_fault (Inside part from g) bytes = drop (length part - length (from_fault g part)) from
 from_fault g bytes = bytes
 
 -- the position of the fault, as the number of bytes in front of it

@@ -10,6 +10,7 @@ pub data Refusal : Type 0 where
   TransitionRule : Expected → Refusal
   UnsupportedTzFile : Expected → Refusal
   UnsupportedTzString : Expected → Refusal
+  Utf8 : Expected → Refusal
 
 abbrev pub error : Refusal → Error
 error (LocalTimeType x) = errors.LocalTimeType x
@@ -18,3 +19,4 @@ error (InvalidTzString x) = errors.InvalidTzString x
 error (TransitionRule x) = errors.TransitionRule x
 error (UnsupportedTzFile x) = errors.UnsupportedTzFile x
 error (UnsupportedTzString x) = errors.UnsupportedTzString x
+error (Utf8 x) = errors.Utf8 x

@@ -1,2 +1,4 @@
 -- Steps of the proofs: what private functions ensure. No public contract cites a page of this folder.
 pub mod StoredNames
+pub mod Comparisons
+pub mod TextTests

@@ -41,7 +41,7 @@ module _ (a : Alternate) (s : ℤ) (d : Change) (y : ℤ) (is : IsChange (Altern
       → Precedes w (year_at w first 1) y
   beyond_only true first h none ahead =
       let (up, down) = order first h in
-      by_lt_z first y (λ l. omega linear) (λ m. let same : y ≡ first = omega linear in absurd (none d is (ahead, rw same at of_year)))
+      by_lt_z first y (λ l. omega linear) (grind linear)
   beyond_only false first h none ahead =
       let (up, down) = order first h in
       by_lt_z y first (λ l. omega linear) (λ m. let same : y ≡ first = omega linear in absurd (none d is (ahead, rw same at of_year)))
@@ -49,7 +49,7 @@ module _ (a : Alternate) (s : ℤ) (d : Change) (y : ℤ) (is : IsChange (Altern
   -- a change of a year beyond is ahead
   ahead_by_year : (w : Bool) (first : ℤ) → IsYearNear s first → Precedes w (year_at w first 1) y → IsAhead w s d.at
   ahead_by_year true first h beyond = let (up, down) = order first h in by_lt_z s d.at (λ m. m) (λ m. let l = down (omega linear) in omega linear)
-  ahead_by_year false first h beyond = let (up, down) = order first h in by_lt_z s d.at (λ m. let l = up (omega linear) in omega linear) (λ m. m)
+  ahead_by_year false first h beyond = let (up, down) = order first h in by_lt_z s d.at (grind linear) (λ m. m)
 
 -- seconds ahead of the second s, in that direction
 module _ (w : Bool) (a : Alternate) (s : ℤ) where

@@ -90,8 +90,7 @@ module _ (z : Zone) (valid : IsValid z) (limits : IsRuleOrNone z.rule) (from unt
         | inl none ↦ grind linear
         | inr one ↦ one.1 ∙ ap (λ d. d ∷ []) (apart (TypeAt z) (type_once z) one.0 c one.2 is one.3)
       ] in
-      rw split (parts (type_or_none z) from m (1 + n)
-      ∙ rw first (ap (λ cs. changes_in (type_or_none z) from m ++ cs) (parts (type_or_none z) c.at 1 n ∙ rw (at, here))))
+      rw split (grind (linear, parts))
 
 -- ---- a step of the iterator
 pub steps_first : (s t : Changes) (c : Change) → IsValid s.zone.now → IsRuleOrNone s.zone.now.rule

@@ -19,7 +19,7 @@ covers : (z w : Zone) (from until u : ℤ) (d e : Difference) → IsDifference (
     → d.old ≡ e.old → d.new ≡ e.new → IsInDifference u d → IsInDifference u e → (d.from ≤ℤ e.from) × (e.until ≤ℤ d.until)
 covers z w from until u d e h k old new i j = (
   by_lt_z e.from d.from
-      (λ less. let types = k.each (d.from -ℤ pos 1) (omega linear) (omega linear) in let b = h.begins (omega linear) in absurd (grind linear))
+      (λ less. let b = h.begins (omega linear) in absurd (grind linear))
       (λ m. m),
   by_lt_z d.until e.until
       (λ less. let types = k.each d.until (omega linear) less in let b = h.ends (omega linear) in absurd (grind linear))
@@ -85,7 +85,7 @@ listed_more z w from until at end s t ds es h pair k l listed = let reached = h.
       some = pair.later;
       high = pair.most;
       differ = differ;
-      each = λ u low high. (pair.one u low high s k, pair.other u low high t l);
+      each = grind linear;
       begins = λ less m n. h.turned less (omega linear) s t k l m n;
       ends = λ less m n. pair.turns less s t k l m n;
     }
@@ -102,8 +102,7 @@ all_listed z w _ _ at ds h over = record {
   each = λ d. (
     λ inside. (h.each d inside).0,
     λ is.
-        let some = is.some in let high = is.high in
-        let types = is.each d.from (omega linear) some in
+        let some = is.some in let types = is.each d.from (omega linear) some in
         let found = h.covered d.from d.old d.new is.low (omega linear) types.0 types.1 is.differ in
         rw (← one_difference z w _ _ _ _ d (h.each found.0 found.1).0 is found.2 (omega linear, some)) found.1,
   );

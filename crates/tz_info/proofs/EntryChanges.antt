@@ -38,9 +38,8 @@ index_there e u rising =
 pub count_here : (ts : List Transition) (u : ℤ) (n : ℕ) → AreRising ts → n ≤ length ts → (0 < n → entry_time ts (n - 1) ≤ℤ u)
     → (n < length ts → u <ℤ entry_time ts n) → n ≡ length (passed ts u)
 count_here ts u n rising within since until =
-    let most = place_most ts u rising in
     let b = come_by_time ts u (n - 1) any rising in
-    let a = come_by_time ts u n any rising in grind linear
+    let a = come_by_time ts u n any rising in grind (linear, place_most)
 
 pub begin_at : (ts : List Transition) (k : ℕ) (d : Transition) → 0 < k → k ≤ length ts → (get_or ts (k - 1) d).unix_leap_time ≡ begin_of ts k
 begin_at ts k d some within = grind (linear, begin_next)

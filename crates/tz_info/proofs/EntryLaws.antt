@@ -13,7 +13,7 @@ use Rattle.tz_info.proofs.{
 }
 use Rattle.tz_info.specs.{
   Transitions.NameTypes,
-  Steps.Entries.{AreBefore, AreEntries, EndsAt, IsAdded, IsStartIn, NeverComes, added, idle, last_index, none_there, one_there},
+  Steps.Entries.{AllChange, AreBefore, AreEntries, EndsAt, IsAdded, IsStartIn, NeverComes, added, as_listed, idle, last_index, none_there, one_there},
 }
 
 -- ---- lists with one item more
@@ -155,7 +155,7 @@ module _ (z : Zone) (old kept entries : List Transition) (k : ℕ) (s : ℤ) (t 
             rw e (record {
               rising = longer;
               indexes = All-push (λ a. a.type_index < length z.types) kept entry indexes
-                  (rw (← h.item) at (h.valid.transitions.indexes k t h.more));
+                  (grind linear);
               few = omega arith;
               named = λ u x l. by_lt_z u s
                   (λ early. grind (linear, passed_out, named_before))
@@ -211,11 +211,7 @@ module _ (z : Zone) (entries : List Transition) (k all : ℕ) (valid : IsValid z
       }
 
 -- the transitions are the entries, if there is no leap second and each but the last changes the type
-abbrev pub AreChanges : Zone → ℕ → Type 0
-AreChanges z n = (k : ℕ) → k + 1 < n → slice_get z.types (index_of z.transitions (k + 1)) ≢ slice_get z.types (index_of z.transitions k)
-
-pub own_entries : (z : Zone) → IsValid z → length z.leaps ≡ 0 → AreChanges z (length z.transitions)
-    → AreEntries z (record { items = z.transitions; all = length z.transitions; transitions = z.transitions })
+pub own_entries : (z : Zone) → IsValid z → length z.leaps ≡ 0 → AllChange z.types z.transitions (length z.transitions) → AreEntries z (as_listed z.transitions)
 own_entries z valid none differ = grind (linear, own_leap_time)
 
 -- ---- the second at which a transition comes

@@ -59,7 +59,6 @@ shown_seconds_exact a b =
 
 pub difference_exact : IsExact difference_eq.it
 difference_exact a b =
-    let from = second_exact a.from b.from in
     let until = second_exact a.until b.until in
     let old = type_exact a.old b.old in
-    let new = type_exact a.new b.new in grind arith
+    let new = type_exact a.new b.new in grind (arith, second_exact)

@@ -1,14 +1,13 @@
--- The law of the pieces of a file.
+-- The pieces of a file end it.
 use Rattle.std.proofs.lemmas.Option.{same_Some}
-use Rattle.tz_base.specs.Grammar.{At, Byte, Check, Ended, Grammar, Here, Marked, Nothing, Number, Refused, Rest, Run, Then}
+use Rattle.tz_base.specs.Grammar.{At, Byte, Check, Ended, Grammar, Here, Inside, Marked, Nothing, Number, Refused, Rest, Run, Then}
 use Rattle.tz_info.proofs.{
-  Words.{Decided, Err, Error, Exact, FileCounts, FilePieces, HasCounts, HasLengths, HasPieces, List, Ok, Parts, PieceFault, Some, Spells, Version},
-  Words.{[], after_first_block, ap, append-nil, append_assoc, block, file, first_version, inl, inr, later_version, lawful, linear, made, pieces_at},
-  Words.{refl, said, subst, sym, value_once, ℕ, ◌++◌, ◌↔◌, ◌∙◌, ◌∷◌, ◌≡◌, ◌⊎◌},
+  Words.{EndFile, Err, Error, Exact, FileCounts, FilePieces, HasCounts, HasLengths, HasPieces, List, Ok, Parts, Some, Spells, Version, [], after_first_block},
+  Words.{ap, append-nil, append_assoc, block, file, first_version, footer_bytes, from_times, inl, inr, later_version, lawful, linear, read, refl, subst},
+  Words.{sym, ℕ, ◌++◌, ◌↔◌, ◌∙◌, ◌∷◌, ◌≡◌, ◌⊎◌},
 }
 use Rattle.tz_info.specs.{
   FileHeaders.{header},
-  FilePlaces.{footer_bytes, in_order},
   declared.file.header.{Counts.{Counts}, Place.TheVariants.{First, Second}, Version.TheVariants.{One, Three, Two}},
 }
 
@@ -32,9 +31,10 @@ front (Refused _) _ _ _ h = absurd h
 front (Check P _ _ _) _ _ _ h = ([], h.2)
 front (Here f) bytes x _ h = front (f bytes) _ x _ h
 front (At _ g) bytes x rest h = front g bytes x rest h
+front (Inside _ _ _) _ _ _ h = ([], h.2)
 
 -- ---- the end of a file: the block that the pieces are of, and the footer, which no byte follows
-abbrev EndsIn : List ℕ → FilePieces → List ℕ → Type 0
+abbrev pub EndsIn : List ℕ → FilePieces → List ℕ → Type 0
 EndsIn bytes p rest = (before : List ℕ) × (start : List ℕ) × (bytes ≡ before ++ start) × ((p.time_size ≡ 4) ⊎ (p.time_size ≡ 8))
     × Spells (block p.time_size p.counts) start p.parts (footer_bytes p.footer) × (rest ≡ [])
 
@@ -57,44 +57,38 @@ after_ends One _ _ _ _ _ _ _ (_, _, inr (_, never), _) = absurd never
 after_ends Two c b _ bytes p rest h k = behind (block 4 c) _ b bytes p rest h (later_ends _ p rest k)
 after_ends Three c b _ bytes p rest h k = behind (block 4 c) _ b bytes p rest h (later_ends _ p rest k)
 
-file_ends : (bytes : List ℕ) (p : FilePieces) (rest : List ℕ) → Spells file bytes p rest → EndsIn bytes p rest
+pub file_ends : (bytes : List ℕ) (p : FilePieces) (rest : List ℕ) → Spells file bytes p rest → EndsIn bytes p rest
 unfolding file
 file_ends _ p rest (h, start, k, (_, _, m, n)) = behind (header First) _ h start p rest k (after_ends _ _ _ _ _ p rest m n)
 
-pub pieces_law : (bytes : List ℕ) → Decided FilePieces (pieces_at bytes) (HasPieces bytes) (PieceFault bytes)
-unfolding pieces_at
-pieces_law bytes = said (made (λ p. p.0) (lawful file bytes))
-    (λ p h. rw h.2 at (rw (file_ends _ _ _ h.1).5 at h.1))
-    (λ p h. ((p, []), h, refl))
-
-pub pieces_read : (bytes : List ℕ) (p : FilePieces) → pieces_at bytes ≡ Ok p → HasPieces bytes p
-pieces_read bytes = (pieces_law bytes).takes
-
-pub piece_fault : (bytes : List ℕ) (e : Error) → pieces_at bytes ≡ Err e → PieceFault bytes e
-piece_fault bytes = (pieces_law bytes).fails
+pub has_pieces : (bytes : List ℕ) (p : FilePieces) (rest : List ℕ) → read file bytes ≡ Ok (p, rest) → HasPieces bytes p
+has_pieces bytes p rest h = let s = (lawful file bytes).takes (p, rest) h in rw (file_ends _ _ _ s).5 at s
 
 -- ---- lengths, and the parts in order
 of_block : (p : FilePieces) (start rest : List ℕ) → (p.time_size ≡ 4) ⊎ (p.time_size ≡ 8) → Spells (block p.time_size p.counts) start p.parts rest
-    → HasLengths p × (start ≡ in_order p.parts rest)
+    → HasLengths p × (rest ≡ footer_bytes p.footer → start ≡ from_times p)
 unfolding block
 of_block p start rest size h = grind linear
 
-pub has_lengths : (bytes : List ℕ) (p : FilePieces) → HasPieces bytes p → HasLengths p
-has_lengths _ p h = grind (linear, file_ends, of_block)
-
 -- the last block and the footer are the end of the file
-pub whole : (bytes : List ℕ) (p : FilePieces) → HasPieces bytes p → (before : List ℕ) × (bytes ≡ before ++ in_order p.parts (footer_bytes p.footer))
-whole _ p h = grind (linear, file_ends, of_block)
+pub end_file : (bytes : List ℕ) (p : FilePieces) → HasPieces bytes p → EndFile bytes p
+end_file _ p h =
+    let (before, start, e, size, is, none) = file_ends _ _ _ h in
+    let b = of_block p start _ size is in
+    record { lengths = b.0; before = before; whole = rw (← b.1 refl) e }
+
+pub whole : (bytes : List ℕ) (p : FilePieces) → HasPieces bytes p → (before : List ℕ) × (bytes ≡ before ++ from_times p)
+whole bytes p h = let e = end_file bytes p h in (e.before, e.whole)
 
 -- ---- counts
 -- whole pieces have one pair of counts
-pub counted : (bytes : List ℕ) (p : FilePieces) (d c : FileCounts) → pieces_at bytes ≡ Ok p → d.transitions ≡ p.counts.transitions
-    → d.leap_seconds ≡ p.counts.leap_seconds → (Some d ≡ Some c) ↔ HasCounts bytes c
-counted bytes p d c read m n = (
-  λ e. subst (HasCounts bytes) (same_Some d c e) (record { pieces = p; has = (pieces_law _).takes p read; transitions_are = m; leap_seconds_are = n }),
-  λ k. let one = value_once (pieces_law _) p k.pieces ((pieces_law _).takes p read) k.has in grind linear,
+pub counted : (bytes : List ℕ) (p : FilePieces) (rest : List ℕ) (d c : FileCounts) → read file bytes ≡ Ok (p, rest)
+    → d.transitions ≡ p.counts.transitions → d.leap_seconds ≡ p.counts.leap_seconds → (Some d ≡ Some c) ↔ HasCounts bytes c
+counted bytes p rest d c is m n = (
+  λ e. subst (HasCounts bytes) (same_Some d c e) (record { pieces = p; has = has_pieces bytes p rest is; transitions_are = m; leap_seconds_are = n }),
+  λ k. let one = (lawful file bytes).again (k.pieces, []) k.has in grind linear,
 )
 
 -- bytes of which a piece is missing or has a fault have none
-pub uncounted : (bytes : List ℕ) (e : Error) (c : FileCounts) → pieces_at bytes ≡ Err e → HasCounts bytes c → ⊥
-uncounted bytes e c read k = let whole = (pieces_law _).again k.pieces k.has in cc
+pub uncounted : (bytes : List ℕ) (e : Error) (c : FileCounts) → read file bytes ≡ Err e → HasCounts bytes c → ⊥
+uncounted bytes e c is k = let whole = (lawful file bytes).again (k.pieces, []) k.has in cc

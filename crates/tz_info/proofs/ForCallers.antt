@@ -4,7 +4,6 @@ pub use Rattle.tz_info.proofs.{
   ChangeLaws.{one_nearest},
   ChangeSearch.{stays},
   Equalities.{zone_exact},
-  FilePieceLaws.{has_lengths},
   FirstItems.{le_is, le_true},
   LeapOrder.{leap_times_answer},
   PosixLaws.{fault_or_zone as text_fault_or_zone, one_place as text_fault_place_once, one_posix_fault as text_fault_once},
@@ -12,7 +11,7 @@ pub use Rattle.tz_info.proofs.{
   RuleLaws.{rule_year},
   TextFits.{offset_fits},
   TextLaws.{refused_or_spelled as string_fault_or_rule},
-  TzFileLaws.{fault_once as file_fault_once, fault_or_zone as file_fault_or_zone},
+  TzFileLaws.{fault_once as file_fault_once, fault_or_zone as file_fault_or_zone, file_pieces},
   WallTimes.{wall_decided},
   ZoneLaws.{type_decided, type_error_number, type_listed, type_not_refused, type_once},
 }

@@ -76,8 +76,7 @@ pub first_near : (z : Zone) (l low high u : ℤ) (t : LocalType) → IsValid z �
     → (low ≤ℤ u) × (u ≤ℤ high)
 first_near z l low high u t valid limits reach first =
     let (s, type) = near_type z _ valid limits reach.near_high in
-    let reached = first.shown.reached in
-    grind (linear, first.first high s, at_least_least z _ _ s reach.least type, at_most_greatest z u _ t reach.greatest first.shown.type)
+    grind (linear, first.first high s, at_least_least z _ _ s reach.least type, at_most_greatest z u _ t reach.greatest first.shown.type, first.shown.reached)
 
 pub gap_at_first : (z : Zone) (l low high u : ℤ) (t before : LocalType) → IsNever z l → IsWindowOf z l l low high → low ≤ℤ u → u ≤ℤ high
     → IsFirstAtOrAfter (TypeAt z) l u t → TypeAt z (u -ℤ pos 1) before → HasGap (TypeAt z) l before t u

@@ -105,7 +105,6 @@ hints_made times hints first span most marked ordered many shift from is long m 
       rising = grind (linear, raised_rising);
       places = λ b h.
           let (j, j_le, same) = r.some b (omega arith) in
-          let item = m.of_item j (omega arith) in
           let at = in_stretch first (item_time times (slice_index marked j)) hints.shift b in
           rw (← from, same) (record {
             within = grind linear;
@@ -118,5 +117,5 @@ hints_made times hints first span most marked ordered many shift from is long m 
                 ];
           });
       some = λ h. many;
-      narrow = grind linear;
+      narrow = grind (linear, m.of_item);
     }

@@ -18,9 +18,7 @@ said : (rule : Option TransitionRule) (types : List LocalType) (leaps : List Lea
     → IfSome rule (λ r. IfSome (last_transition ts) (Agrees types leaps r)) → last_transition ts ≡ Some last → IsUnixTime leaps last.unix_leap_time u
     → slice_get types last.type_index ≡ Some t → RuleOrElse rule u (slice_get types last.type_index ≡ Some t) t
 said None _ _ ts _ u t agrees is unix has = has
-said (Some r) types leaps ts last u t agrees is unix has =
-    let a = rw is at agrees in
-    let same = some_once _ _ t a.listed has in grind arith
+said (Some r) types leaps ts last u t agrees is unix has = grind (arith, some_once)
 
 -- if the last transition has come by its second, its type is in force there
 pub last_type : (z : Zone) (last : Transition) (u x : ℤ) (t : LocalType) → IsValid z → last_transition z.transitions ≡ Some last

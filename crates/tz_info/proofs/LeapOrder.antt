@@ -80,15 +80,12 @@ bounded p a u (e ∷ es) (suc k) f h l =
     grind (
       arith,
       ints,
-      bounded _ (a +ℤ pos 2_419_198) u es k (follow_tail p e es f) (λ g m. let w = tail_later p e es f g m in omega (
-        arith,
-        ints,
-      )) (omega arith),
+      bounded _ (a +ℤ pos 2_419_198) u es k (follow_tail p e es f) (grind (linear, tail_later)) (omega arith),
     )
 
 -- a passed entry of a valid list
 pub passed_bounded : (es : List LeapSecond) (u : ℤ) (k : ℕ) → AreLeapSeconds es → k < passed_count es u → Bounded (pos 0) (pos 0) u es k
-passed_bounded es u k valid h = bounded _ (pos 0) u es k (follow es valid) (λ d l. let f = (valid.first d l).since_epoch in omega linear) h
+passed_bounded es u k valid h = bounded _ (pos 0) u es k (follow es valid) (grind linear) h
 
 pub leap_times_answer : (es : List LeapSecond) (u : ℤ) → AreLeapSeconds es → neg_ℤ (pos 10_000_000_000_000) ≤ℤ u
     → u ≤ℤ pos 10_000_000_000_000 → IsLeapTimeRefused es u → ⊥

@@ -55,43 +55,39 @@ abbrev pub Refuses : List LeapSecond → ℕ → ℤ → Type 0
 Refuses es k u = (threshold es k ≤ℤ u) × (pos 9_223_372_036_854_775_808 ≤ℤ (u +ℤ get_or (corrections es) k (pos 0)))
 
 -- that of the entry at place k, whose time and correction are these, after an entry of that correction
-pub refuses_by_entry : (es : List LeapSecond) (k : ℕ) (d : LeapSecond) (by before u : ℤ) → k < length es → before ≡ correction_behind es k
-    → (by ≤ℤ u) ↔ ((((get_or es k d).unix_leap_time -ℤ before) ≤ℤ u) × (pos 9_223_372_036_854_775_808 ≤ℤ (u +ℤ (get_or es k d).correction)))
-    → (by ≤ℤ u) ↔ Refuses es k u
-refuses_by_entry es k d by _ u h e first =
-    let t = threshold_at (pos 0) es k d (pos 0) h in
-    rw (mapped_at (λ e. e.correction) es k d (pos 0) h, t, ← e) first
+pub refuses_by_entry : (es : List LeapSecond) (k : ℕ) (d : LeapSecond) (last before u : ℤ) → k < length es → before ≡ correction_behind es k
+    → (last <ℤ u) ↔ ((((get_or es k d).unix_leap_time -ℤ before) ≤ℤ u) × (pos 9_223_372_036_854_775_808 ≤ℤ (u +ℤ (get_or es k d).correction)))
+    → (last <ℤ u) ↔ Refuses es k u
+refuses_by_entry es k d last _ u h e first = grind (linear, threshold_at, mapped_at)
 
--- one of the first k entries refuses each second from that one on, and none an earlier one
-pub record AreRefusedFrom (es : List LeapSecond) (k : ℕ) (refused : ℤ) : Type 0 where
-  pub late : pos 4_611_686_018_427_387_904 ≤ℤ refused
-  pub most : refused ≤ℤ pos 9_223_372_036_854_775_808
-  pub some : (u : ℤ) → refused ≤ℤ u → u <ℤ pos 9_223_372_036_854_775_808 → (j : ℕ) × (j < k) × Refuses es j u
-  pub only : (u : ℤ) (j : ℕ) → j < k → Refuses es j u → refused ≤ℤ u
+-- one of the first k entries refuses each second after that one, and none an earlier one, of 64 bits
+pub record AreRefusedAfter (es : List LeapSecond) (k : ℕ) (last : ℤ) : Type 0 where
+  pub most : last ≤ℤ pos 9_223_372_036_854_775_807
+  pub some : (u : ℤ) → last <ℤ u → u ≤ℤ pos 9_223_372_036_854_775_807 → (j : ℕ) × (j < k) × Refuses es j u
+  pub only : (u : ℤ) (j : ℕ) → u ≤ℤ pos 9_223_372_036_854_775_807 → j < k → Refuses es j u → last <ℤ u
 
--- with the entry at place k, which refuses from `by` on
-pub refused_more : (es : List LeapSecond) (k : ℕ) (old by new : ℤ) → AreRefusedFrom es k old → pos 4_611_686_018_427_387_904 ≤ℤ by
-    → ((u : ℤ) → (by ≤ℤ u) ↔ Refuses es k u) → new ≡ int_min old by → AreRefusedFrom es (k + 1) new
-refused_more es k old by new r late refuses e = record {
-  late = omega (linear, clamps);
+-- with the entry at place k, which refuses each second after `by`
+pub refused_more : (es : List LeapSecond) (k : ℕ) (old by new : ℤ) → AreRefusedAfter es k old
+    → ((u : ℤ) → u ≤ℤ pos 9_223_372_036_854_775_807 → (by <ℤ u) ↔ Refuses es k u) → new ≡ int_min old by → AreRefusedAfter es (k + 1) new
+refused_more es k old by new r refuses e = record {
   most = omega (linear, clamps);
-  some = λ u h l. by_lt_z u old
-      (λ before. (k, omega arith, (refuses u).0 (omega (linear, clamps))))
-      (λ from. let (j, less, is) = r.some u from l in (j, omega arith, is));
-  only = λ u j less is. let o = r.only u j in let p = refuses u in grind (linear, clamps);
+  some = λ u h l. by_lt_z old u
+      (λ from. let (j, less, is) = r.some u from l in (j, omega arith, is))
+      (λ before. (k, omega arith, (refuses u l).0 (omega (linear, clamps))));
+  only = λ u j l less is. let o = r.only u j l in let p = refuses u l in grind (linear, clamps);
 }
 
--- and then the second before it is the last one with a leap time
-pub last_with_leap_time : (es : List LeapSecond) (refused last : ℤ) → AreLeapSeconds es → AreRefusedFrom es (length es) refused
-    → last ≡ refused -ℤ pos 1 → IsLastWithLeapTime es last
-last_with_leap_time es _ _ valid r e = record {
+-- and then that one is the last one with a leap time
+pub last_with_leap_time : (es : List LeapSecond) (last : ℤ) → AreLeapSeconds es → AreRefusedAfter es (length es) last → IsLastWithLeapTime es last
+last_with_leap_time es last valid r = record {
   has = λ u least h. record {
     sum = refl;
     fits = λ k l.
         let m = passed_at_most es u in
         let t = (split _ u es k (follow es valid) (omega arith)).0 l in
         let b = passed_bounded es u k valid l in
-        let o = r.only u k (omega arith) in grind linear;
+        let below : (u +ℤ get_or (corrections es) k (pos 0)) <ℤ pos 9_223_372_036_854_775_808 = by_lt_z _ _ (λ less. less) (λ from.
+        let late = let most = r.most in r.only u k (omega linear) (omega arith) (t, from) in omega linear) in omega linear;
   };
   refused = λ u h l.
       let (j, less, is) = r.some u (omega linear) (omega linear) in

@@ -5,7 +5,7 @@ use Rattle.tz_info.proofs.{
   LeapOrder.{split},
   Prefixes.{last_taken},
   Words.{AreLeapSeconds, HaveCome, IsLeapTime, IsNear, IsOneStep, LeapSecond, List, [], arith, cases_lt, corrections, count_by-le-length, get_or},
-  Words.{inl, inr, int_le, last_else, length, linear, passed_count, pos, saturate_signed, suc, take, thresholds, w64, zero, ℕ, ℤ, ◌+ℤ◌, ◌-ℤ◌, ◌-◌},
+  Words.{inl, inr, int_le, last_else, length, linear, passed_count, pos, saturate_signed, suc, take, w64, zero, ℕ, ℤ, ◌+ℤ◌, ◌-ℤ◌, ◌-◌},
   Words.{◌<ℤ◌, ◌<◌, ◌↔◌, ◌∷◌, ◌≡◌, ◌≤ℤ◌, ◌≤◌},
 }
 
@@ -14,7 +14,7 @@ abbrev pub correction_behind : List LeapSecond → ℕ → ℤ
 correction_behind es k = last_else (pos 0) (corrections (take k es))
 
 pub passed_at_most : (es : List LeapSecond) (u : ℤ) → passed_count es u ≤ length es
-passed_at_most es u = omega (arith, count_by-le-length (λ t. int_le t u) (thresholds (pos 0) es), threshold_count (pos 0) es)
+passed_at_most es u = grind (linear, count_by-le-length, threshold_count)
 
 no_first : {X : Type 0} (xs : List X) (n : ℕ) → n < length xs → X
 no_first [] n h = absurd (omega arith)

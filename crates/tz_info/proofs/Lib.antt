@@ -61,7 +61,6 @@ pub mod PosixZoneLaws
 pub mod FilePieceLaws
 pub mod FilePlaceOnce
 pub mod ListLaws
-pub mod ContentLaws
 pub mod TrimLaws
 pub mod TypeLaws
 pub mod FooterLaws

@@ -1,14 +1,22 @@
 -- Values by places.
-use Rattle.tz_info.proofs.Words.{Bool, Err, Error, List, Ok, Result, all_below, arith, cases_lt, false, inl, inr, suc, true, values_below, zero, ℕ, ◌<◌, ◌≡◌}
+use Rattle.tz_base.specs.Grammar.{Each, Grammar, from_fault}
+use Rattle.tz_info.proofs.Words.{Bool, Err, Error, List, Ok, Spells, all_below, arith, cases_lt, false, inl, inr, read, suc, true, zero, ℕ, ◌<◌, ◌∙◌, ◌≡◌}
 
--- the first error is that of all
-pub first_refusal : {X : Type 0} (n i : ℕ) (read : ℕ → Result X Error) (xs : List X) (e : Error) → i < n → values_below i read ≡ Ok xs
-    → read i ≡ Err e → values_below n read ≡ Err e
-first_refusal zero i _ xs e l p q = absurd (omega arith)
-first_refusal {X = X} (suc n) i read xs e l p q = elim (cases_lt i n) as (λ _. values_below (suc n) read ≡ Err e) [
-  | inl h ↦ rw (first_refusal n i _ xs e h p q)
-  | inr h ↦ let same : n ≡ i = omega arith in rw (same, p, q)
-]
+module _ {X : Type 0} (g : ℕ → Grammar X) where
+  -- the first fault is that of all
+  pub each_fails : (n i : ℕ) (bytes : List ℕ) (xs : List X) (after : List ℕ) (e : Error) → i < n → read (Each i g) bytes ≡ Ok (xs, after)
+      → read (g i) after ≡ Err e → (read (Each n g) bytes ≡ Err e) × (from_fault (Each n g) bytes ≡ from_fault (g i) after)
+  each_fails zero i bytes xs after e l p q = absurd (omega arith)
+  each_fails (suc n) i bytes xs after e l p q = elim (cases_lt i n) [
+    | inl h ↦ let r = each_fails n i bytes xs after e h p q in grind arith
+    | inr h ↦ let same : n ≡ i = omega arith in grind arith
+  ]
+
+  -- grammars of no bytes
+  pub each_keeps : ((k : ℕ) (bytes : List ℕ) (x : X) (rest : List ℕ) → Spells (g k) bytes x rest → bytes ≡ rest) → (n : ℕ) (bytes : List ℕ) (xs : List X)
+      (rest : List ℕ) → Spells (Each n g) bytes xs rest → bytes ≡ rest
+  each_keeps keeps zero bytes xs rest h = h.1
+  each_keeps keeps (suc n) bytes xs rest (ys, mid, h, (x, after, k, (value, same))) = each_keeps keeps n bytes ys mid h ∙ keeps n mid x after k ∙ same
 
 pub one_false : (n i : ℕ) (test : ℕ → Bool) → i < n → test i ≡ false → all_below n test ≡ false
 one_false zero i _ l q = absurd (omega arith)

@@ -11,11 +11,10 @@ pub without_transitions : {T : Type 0} (view : T → LocalType) (z : Zone) (u : 
     → MatchResult r (λ t. RuleOrType z u 0 (view t)) (λ e. (e ≡ FindLocalTimeType YearThatRuleAnswersIn) × IsRefusedBy z.rule u)
     → MatchResult r (λ t. TypeAt z u (view t)) (IsTypeError z u)
 without_transitions _ z u (Ok t) e k =
-    let f = no_items _ e in
     record {
       leap_time = u;
       of_second = λ p. absurd (omega arith);
-      in_force = grind arith;
+      in_force = grind (arith, no_items);
     }
 without_transitions view z u (Err x) e k =
     let f = no_items _ e in

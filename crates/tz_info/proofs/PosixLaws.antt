@@ -2,10 +2,10 @@
 use Rattle.tz_base.specs.declared.parse_error.ParseError.{ParseError}
 use Rattle.tz_info.proofs.{
   TextLaws.{spelled_law, text_low},
-  TrimLaws.{fits_behind, trim_again, trim_is},
+  TrimLaws.{trimmed_fits},
   Words.{Bool, Decided, Err, Error, IfErr, IsOutOfMemory, IsPosixFault, IsPosixZone, IsTextFault, List, Ok, Result, Some, TransitionRule, Zone, []},
   Words.{apart, arith, error_number, false, fault_low, fault_once, inl, inr, length, like, made, nil_from_length, plain_zone, pos, posix_zone, refl},
-  Words.{rule_in, sym, trimmed, true, value_once, ℕ, ◌==◌, ◌>>=◌, ◌∷◌, ◌≡◌, ◌≢◌, ◌≤◌},
+  Words.{rule_in, sym, trimmed, true, value_once, ℕ, ◌==◌, ◌>>=◌, ◌∙◌, ◌∷◌, ◌≡◌, ◌≢◌, ◌≤◌},
 }
 use Rattle.tz_info.specs.{
   PosixZones.{IsExtendedFaultPlace, IsPlaced, IsPosixFaultPlace},
@@ -21,10 +21,10 @@ pub posix_law : (text : List ℕ) → Decided Zone (zone_in text) (IsPosixZone t
 unfolding zone_in
 posix_law [] = grind arith
 posix_law (b ∷ bs) = like (made posix_zone (spelled_law _ _))
-    (λ z h. inr (record { some = λ e. cc; trimmed = _; rule = h.0; trims = trim_is _; spells = h.1; zone = sym h.2 }))
-    (λ z h. elim h [ inl a ↦ cc | inr a ↦ (a.rule, rw (trim_again _ _ a.trims) a.spells, sym a.zone) ])
-    (λ n f. record { some = λ e. cc; trimmed = _; trims = trim_is _; fault = f })
-    (λ n f. rw (trim_again _ _ f.trims) f.fault)
+    (λ z h. inr (record { some = λ e. cc; rule = h.0; spells = h.1; zone = sym h.2 }))
+    (λ z h. elim h [ inl a ↦ cc | inr a ↦ (a.rule, a.spells, sym a.zone) ])
+    (λ n f. ((λ e. cc), f))
+    (λ n f. f.1)
 
 -- ---- what a reader answers
 module _ (text : List ℕ) where
@@ -47,28 +47,21 @@ module _ (text : List ℕ) where
   is_empty b h e = nil_from_length text (grind arith)
 
   pub zone_read : (rule : TransitionRule) → text ≢ [] → rule_in false (trimmed text) ≡ Ok rule → IsPosixZone text (posix_zone rule)
-  zone_read rule some read = inr (record {
-    some = some;
-    trimmed = _;
-    rule = rule;
-    trims = trim_is _;
-    spells = (spelled_law _ _).takes rule read;
-    zone = refl;
-  })
+  zone_read rule some read = inr (record { some = some; rule = rule; spells = (spelled_law _ _).takes rule read; zone = refl })
 
   pub fault_read : (e : Error) → text ≢ [] → rule_in false (trimmed text) ≡ Err e → IsPosixFault text e
-  fault_read e some read = record { some = some; trimmed = _; trims = trim_is _; fault = (spelled_law _ _).fails e read }
+  fault_read e some read = (some, (spelled_law _ _).fails e read)
 
   -- a fault has its place
   pub fault_placed : (e : ParseError) → IsPosixFault text e.error → IsTrimmedRule text (Err e) → IsPlaced (IsPosixFaultPlace text) e
-  fault_placed e fault h = let low = posix_low _ fault in grind (arith, trim_is)
+  fault_placed e fault h = grind (arith, posix_low)
 
   -- it has one place, in the text or at its end
   pub one_place : (a b : ℕ) → IsPosixFaultPlace text a → IsPosixFaultPlace text b → a ≡ b
-  one_place a b p q = let s = trim_again _ _ p.trims in let t = trim_again _ _ q.trims in cc
+  one_place a b p q = p ∙ sym q
 
   pub place_within : (place : ℕ) → IsPosixFaultPlace text place → place ≤ length text
-  place_within _ p = omega (arith, fits_behind _ _ p.trims)
+  place_within _ p = omega (arith, trimmed_fits text)
 
 pub string_place_within : (extended : Bool) (bytes : List ℕ) → text_fault_position extended bytes ≤ length bytes
 string_place_within _ _ = omega arith

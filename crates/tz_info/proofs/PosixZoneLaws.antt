@@ -1,13 +1,37 @@
 -- The numbers of a text's or a file's rule are in their limits, and a text's zone is valid.
 use Rattle.tz_info.proofs.{
   TextFits.{text_rule_fits},
-  Words.{IsPosixZone, IsRuleOrNone, IsTzFile, IsValid, List, Zone, arith, linear, ℕ},
+  TextLaws.{text_ends},
+  Words.{Bool, IsPosixZone, IsRuleOrNone, IsTzFile, IsTzText, IsValid, List, None, Option, Some, Spells, TransitionRule, Zone, arith, inl, inr, trimmed, ℕ},
   ZoneLaws.{zone_of_rule_valid},
 }
+use Rattle.tz_info.specs.{Footers.{footer, footer_text, optional_footer}, TzFiles.{contents, tz_file}}
 
 -- types and a rule, without transitions and leap seconds, make a zone if there is a type
 pub posix_zone_valid : (text : List ℕ) (zone : Zone) → IsPosixZone text zone → IsValid zone × IsRuleOrNone zone.rule
 posix_zone_valid text zone h = grind (arith, zone_of_rule_valid, text_rule_fits)
 
+-- the rule of a footer is that of some text
+abbrev pub IsOfText : Bool → Option TransitionRule → Type 0
+IsOfText extended (Some rule) = (bytes : List ℕ) × IsTzText extended bytes rule
+IsOfText extended None = Unit {0}
+
+in_text : (extended : Bool) (bytes : List ℕ) (r : Option TransitionRule) (rest : List ℕ) → Spells (footer_text extended) bytes r rest → IsOfText extended r
+unfolding footer_text
+in_text extended bytes r rest (_, text, _, inl none) = rw none.1.0 tt
+in_text extended bytes r rest (_, text, _, inr (_, (rule, after, spelled, (is, _)))) =
+    rw is (text, rw (text_ends extended text rule after spelled) at spelled)
+
+pub in_footer : (extended : Bool) (footer : Option (List ℕ)) (bytes : List ℕ) (r : Option TransitionRule) (rest : List ℕ)
+    → Spells (optional_footer extended footer) bytes r rest → IsOfText extended r
+unfolding optional_footer footer
+in_footer extended None bytes r rest h = rw h.0 tt
+in_footer extended (Some bytes) _ r rest (_, (_, _, _, (_, _, _, (_, _, _, (_, text, _)))), _) = in_text extended (trimmed bytes) r _ text
+
+rule_fits : (extended : Bool) (r : Option TransitionRule) → IsOfText extended r → IsRuleOrNone r
+rule_fits extended None h = tt
+rule_fits extended (Some rule) h = text_rule_fits extended h.0 rule h.1
+
 pub file_rule_fits : (bytes : List ℕ) (zone : Zone) → IsTzFile bytes zone → IsRuleOrNone zone.rule
-file_rule_fits bytes zone file = grind (linear, text_rule_fits)
+unfolding tz_file contents
+file_rule_fits bytes zone (p, _, _, (_, _, _, (_, _, _, (r, _, k, (value, _))))) = rw value (rule_fits p.extended r (in_footer p.extended p.footer _ r _ k))

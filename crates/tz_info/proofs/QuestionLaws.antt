@@ -1,5 +1,5 @@
 -- Questions to a zone's rule: at which seconds it is asked, and how often for a local time.
-use Rattle.std.proofs.lemmas.List.Elements.{Contains-append_cases, Contains-get_or}
+use Rattle.std.proofs.lemmas.List.Elements.{Contains-get_or}
 use Rattle.tz_info.proofs.{
   ListFaults.{equal_known},
   PassedTransitions.{no_items},
@@ -82,7 +82,7 @@ asked_more _ c p q r (inl (k, e)) others = record {
   seconds = c ∷ others.seconds;
   once = AllPairs-cons (λ u v. u ≢ v) c others.seconds (λ i d h g. ((others.each _).0 (Contains-get_or others.seconds i d h)).1 (sym g)) others.once;
   each = λ u. (
-    (λ i. ⊎_elim (λ g. rw (in_one c u g) k) (λ g. ((others.each u).0 g).0) (Contains-append_cases (c ∷ []) others.seconds u i)),
+    (grind (linear, in_one)),
     (λ i. ⊎_elim (λ g. (0, omega arith, sym g)) (λ other. Contains-append_right (c ∷ []) others.seconds u ((others.each u).1 (i, other))) (equal_known u c)),
   );
   count = omega arith;
@@ -97,7 +97,7 @@ two_seconds : (asks : ℤ → Type 0) (c d : ℤ) (p q r : ℕ) → c ≢ d → 
     → IsAskedIf asks d q r → IsAskedAtEach asks p r
 two_seconds asks c d p q r other both j k = asked_more _ c p q r j (one_second (λ u. asks u × (u ≢ c)) d q r
     (grind linear)
-    (⊎_elim (λ h. inl ((h.0, λ e. other (sym e)), h.1)) (λ h. inr (λ i. h.0 i.0, h.1)) k))
+    (grind linear))
 
 -- ---- those of a rule
 asked_since : (rule : TransitionRule) (from l o : ℤ) (p q : ℕ) → Contains (rule_offsets (Some rule)) o → IsAskedSince from (l -ℤ o) p q

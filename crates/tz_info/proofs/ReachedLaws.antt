@@ -8,12 +8,12 @@ use Rattle.tz_info.proofs.{
   TableLaws.{table_of, top_least},
   WallSegments.{type_there},
   Words.{HasType, IsFirstAtOrAfter, IsGreatest, IsNear, IsUtOffset, IsValid, IsWide, LocalType, SFits, Shows, TypeAt, Zone, ap, arith, begin_of},
-  Words.{by_lt_z, cases_lt, index_of, inl, inr, least_time, length, linear, offsets, place_at, pos, refl, suc, top_of, w32, w64, zero, ℕ, ℤ, ◌+ℤ◌},
+  Words.{by_lt_z, cases_lt, index_of, inl, inr, length, linear, offsets, place_at, pos, refl, suc, top_of, w32, w64, zero, ℕ, ℤ, ◌+ℤ◌},
   Words.{◌-ℤ◌, ◌<ℤ◌, ◌<◌, ◌↔◌, ◌≡◌, ◌≤ℤ◌, ◌≤◌},
   ZoneLaws.{inside_listed},
 }
 use Rattle.tz_info.specs.{
-  Reached.{IsLastReached},
+  ShownSeconds.{IsLastReached},
   Steps.{Entries.{AreEntries, Entries}, SegmentEnds.{IsLatestEnd, IsReached, end_of}, Since.{IsReachedSince}},
 }
 

@@ -145,7 +145,7 @@ change_near a year d rule is before = elim (decided _ (is_member int_eq (moments
           absurd (is.differ (alternate_once a d.at d.before d.after (record {
             year = year;
             of_second = here;
-            inside = subst IsRuleYear same b.inside;
+            inside = grind linear;
             dst = b.dst;
             when = dst_alike _ _ year year _ d.at _ refl on off (subst (λ (y : ℤ). IsDstAt (start_in a) (end_in a) y (d.at -ℤ pos 1) b.dst) same b.when);
             shown = b.shown;

@@ -2,10 +2,10 @@
 use Rattle.tz_info.proofs.{
   SegmentEndLaws.{begun_by, come_by, shows_less},
   SegmentLaws.{segment_at, segment_most, type_from, type_in_from},
-  TableLaws.{same_table, table_of, time_then, top_least},
+  TableLaws.{same_table, table_of, time_then},
   WallSegments.{leap_time_of, near_wide},
   Words.{IsFirstAtOrAfter, IsLeapTime, IsNear, IsValid, IsWide, LocalType, RuleAt, SFits, Some, TransitionRule, TypeAt, Zone, arith, begin_of, cases_lt, inl},
-  Words.{inr, length, linear, place_at, segment_of, table_count, top_of, w64, ℕ, ℤ, ◌<◌, ◌≡◌, ◌≤ℤ◌, ◌≤◌},
+  Words.{inr, length, linear, place_at, segment_of, top_of, w64, ℕ, ℤ, ◌<◌, ◌≡◌, ◌≤ℤ◌, ◌≤◌},
 }
 use Rattle.tz_info.specs.Steps.{Entries.{AreEntries, Entries}, SegmentEnds.IsFirstSegment, Since.{IsFirstSince, IsReachedSince}}
 
@@ -15,10 +15,9 @@ module _ (z : Zone) (e : Entries) (rule : TransitionRule) (k : ℕ) (valid : IsV
   all_come : (u : ℤ) → begin_of e.items k ≤ℤ u → SFits w64 u → (0 < length z.transitions → (x : ℤ) × IsLeapTime z.leaps u x)
       → segment_of z u ≡ length z.transitions
   all_come u from fits time =
-      let come = come_by e.items k u made.rising within from in
       let most = segment_most z u valid.transitions.rising in
       let same = same_table z e valid made u fits time in
-      grind arith
+      grind (arith, come_by)
 
   to_rule : (u : ℤ) (t : LocalType) → begin_of e.items k ≤ℤ u → SFits w64 u → TypeAt z u t → RuleAt rule u t
   to_rule u t from fits here =

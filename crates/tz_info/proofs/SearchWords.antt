@@ -11,12 +11,12 @@ pub use Rattle.std.proofs.{
 pub use Rattle.std.specs.{List.{count_by, filter}, Ordering.{nat_cmp, ord_max}, Prelude.{slice_index}}
 pub use Rattle.tz_info.specs.{
   Counts.{Counts},
-  Digits.{digits_within},
+  Looks.{digits_within},
   Steps.Hints.{AreHints, AreMarked, AreNonDecreasing, AreRaised, AreRaisedUntil, AreStepsUntil, IsHinted, IsLastBefore, RiseFromZero, stretch_of},
   Steps.Search.{AreEnds, AreOrdered, ArePassed, IsLastOf, IsLeft, IsNarrowedTo, item_time},
   declared.timeline.{Ends.{Ends}, hints.{Hints.{Hints}, Near.{Near}}},
 }
-unfoldable pub use Rattle.tz_info.specs.Digits.{digits}
+unfoldable pub use Rattle.tz_info.specs.Looks.{digits}
 
 -- linear arithmetic on numbers with and without a sign
 pub ruleset linear = (arith, ints)

@@ -22,7 +22,14 @@ pub within : (a : AlternateRule) (s : Season) (from l : ℤ) (dst : Bool) → Is
     → IsSeasonFor a from l s
 within a s from l dst season is since begun goes = let g = greater a dst is in grind linear
 
--- both seconds come too early
+-- both seconds come too early if the later one does
+pub too_early : (a : AlternateRule) (from l : ℤ) (dst : Bool) → dst ≡ int_lt a.std.offset a.dst.offset → (l -ℤ (type_when a (not dst)).offset) <ℤ from
+    → ((l -ℤ a.std.offset) <ℤ from) × ((l -ℤ a.dst.offset) <ℤ from)
+too_early a from l dst e last = grind linear
+
+pub same_offset : (a : AlternateRule) (dst : Bool) → (type_when a dst).offset ≡ (type_when a (not dst)).offset → a.std.offset ≡ a.dst.offset
+same_offset a dst e = grind linear
+
 pub found_none : (a : AlternateRule) (from l : ℤ) → (l -ℤ a.std.offset) <ℤ from → (l -ℤ a.dst.offset) <ℤ from
     → IsWallAnswer (Shows (TypeFrom (Alternate a) from) l) None
 found_none a from l first last = grind (linear, std_or_dst)

@@ -128,16 +128,14 @@ module _ (z : Zone) (u : ℤ) (t : LocalType) (r : AreRising z.transitions) wher
 pub type_in_before : (z : Zone) (i : ℕ) (u x : ℤ) (t : LocalType) → IsLeapTime z.leaps u x → Between z.transitions x i i → i < length z.transitions
     → HasType z (index_of z.transitions i) t → TypeIn z i u t
 type_in_before z i u x t l b h k =
-    let e = search_found _ x i i (omega arith) b in
     let c = split_count _ x i b in
-    record { type = grind linear; segment = segment_is z u i (rw l.sum at b) }
+    record { type = grind (linear, search_found); segment = segment_is z u i (rw l.sum at b) }
 
 pub type_in_from : (z : Zone) (u x : ℤ) (t : LocalType) → IsLeapTime z.leaps u x → Between z.transitions x (length z.transitions) (length z.transitions)
     → RuleOrType z u (index_of z.transitions (length z.transitions)) t → TypeIn z (length z.transitions) u t
 type_in_from z u x t l b k =
-    let e = search_found _ x _ _ (omega arith) b in
     let c = split_count _ x _ b in
-    record { type = grind linear; segment = segment_is z u _ (rw l.sum at b) }
+    record { type = grind (linear, search_found); segment = segment_is z u _ (rw l.sum at b) }
 
 -- ---- how many have come by a second
 pub place_most : (ts : List Transition) (u : ℤ) → AreRising ts → length (passed ts u) ≤ length ts

@@ -3,6 +3,7 @@ use Rattle.tz_info.proofs.{
   EntryChanges.{index_there, looks_most},
   ExtremeLaws.window_made,
   GapLaws.{IsNever, gap_found, not_less},
+  LeapSearch.own_leap_time,
   PassedTransitions.no_items,
   SegmentLaws.{come_at_time, come_from, place_before, place_begin, place_most, segment_here, segment_most},
   TableSearch.search_found,
@@ -10,14 +11,14 @@ use Rattle.tz_info.proofs.{
   Words.{AreBelow, AreExtremes, AreLess, AreListed, Change, Counts, Extremes, HasGap, HasReach, IsBegin, IsBegun, IsBegunNear, IsIndex, IsJump},
   Words.{IsLeapTime, IsRuleOrNone, IsShownAmong, IsStart, IsTable, IsTableAnswer, IsTableLess, IsValid, IsWallAnswer, IsWide, IsWindowOf},
   Words.{LocalResult, LocalType, MatchOption, None, Option, RoseWithin, SFits, Shown, ShownAmong, Some, TransitionRule, TypeAt, WallIndex, Zone, []},
-  Words.{arith, begin_of, cases_lt, index_of, inl, inr, least_time, length, linear, offsets, place_at, pos, refl, segment_of, shown_indexes},
+  Words.{ap, arith, begin_of, cases_lt, index_of, inl, inr, least_time, length, linear, offsets, passed, place_at, pos, refl, segment_of, shown_indexes},
   Words.{slice_get, suc, sym, table_count, top_of, w32, w64, zero, ℕ, ℤ, ◌*◌, ◌-ℤ◌, ◌<ℤ◌, ◌<◌, ◌↔◌, ◌∙◌, ◌≡◌, ◌≤ℤ◌, ◌≤◌, IsSegment, Segment},
   ZoneChanges.time_of,
 }
 use Rattle.tz_info.specs.{
   Counts.RoseByPieces,
   Looks.RoseByWallClock,
-  Steps.Entries.{AreEntries, Entries, most_looks},
+  Steps.Entries.{AreEntries, Entries, as_listed, most_looks},
   declared.zone.made.shown.Shown.TheVariants.{Less, Once, Skipped},
 }
 
@@ -66,6 +67,25 @@ module _ (z : Zone) (e : Entries) (valid : IsValid z) (made : AreEntries z e) wh
         (type_of_table z (segment_of z u) u x t inside l (rw (← l.sum) at (segment_here z u valid.transitions.rising))
         (named_there u (near_fits u near) (λ _. (x, l)) ∙ has)).type;
   }
+
+-- without leap seconds the transitions as listed have that table
+own_place : (z : Zone) (u : ℤ) → length z.leaps ≡ 0 → place_at z.transitions u ≡ segment_of z u
+unfolding segment_of
+own_place z u none = ap (λ x. length (passed z.transitions x)) (own_leap_time z.leaps u none).sum
+
+pub table_listed : (z : Zone) → IsValid z → length z.leaps ≡ 0 → IsTable z z.transitions (top_of z.rule (as_listed z.transitions))
+table_listed z valid none = record {
+  rising = valid.transitions.rising;
+  some = valid.some;
+  indexes = valid.transitions.indexes;
+  within = grind arith;
+  listed = λ u t fits below k. rw (own_place z u none) (type_in_table z _ u t valid.transitions.rising (grind (arith, own_place))
+      (record { type = k; segment = refl }));
+  in_force = λ u t near below has.
+      let (x, l) = leap_time_of z u valid near in
+      (type_of_table z (segment_of z u) u x t (grind (arith, own_place)) l (rw (← l.sum) at (segment_here z u valid.transitions.rising))
+      (rw (own_place z u none) at has)).type;
+}
 
 -- ---- the answers of the table
 pub table_below : (z : Zone) (l : ℤ) (s : Shown) → IsTableAnswer z l s → AreBelow (length z.types) (shown_indexes s)

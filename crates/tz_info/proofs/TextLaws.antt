@@ -6,7 +6,7 @@ use Rattle.tz_info.proofs.{
 }
 use Rattle.tz_info.specs.Steps.Spelled.{IsParsed}
 
-text_ends : (extended : Bool) (bytes : List ℕ) (r : TransitionRule) (rest : List ℕ) → Spells (text extended) bytes r rest → rest ≡ []
+pub text_ends : (extended : Bool) (bytes : List ℕ) (r : TransitionRule) (rest : List ℕ) → Spells (text extended) bytes r rest → rest ≡ []
 unfolding text rule fixed alternate named end
 text_ends extended bytes r rest h = grind linear
 

@@ -1,21 +1,34 @@
 -- The seconds at which a zone has a type.
+use Rattle.std.{proofs.lemmas.Int.clamps, specs.Int.{int_max, int_min}}
 use Rattle.tz_info.proofs.{
   EntryChanges.{near_time},
+  LeapOrder.leap_times_answer,
   RuleChanges.{rule_second},
   SegmentLaws.{segment_most, segments_rise},
-  SpanLaws.{all_come, out_of_years, typed_between},
-  Words.{AreLeapSeconds, IsFirstTyped, IsFromLast, IsLastTyped, IsLeapTime, IsLeapTimeRefused, IsRefusedBy, IsRuleOrNone, IsSearched},
+  SpanLaws.{all_come, out_of_years},
+  Words.{Alternate as AlternateRule, AreLeapSeconds, IsBegin, IsFirstTyped, IsFromLast, IsLastTimed, IsLastTyped, IsLeapTime, IsLeapTimeRefused, IsRefusedBy},
+  Words.{IsRuleOrNone, IsTyped, SFits, by_lt_z, cases_lt, ints, segment_of, w64},
   Words.{IsTypeRefused, IsValid, LeapSecond, List, None, Option, Some, TransitionRule, Zone, arith, by_leap_time, by_rule, inl, inr, least_time, length},
-  Words.{linear, neg_ℤ, pos, refl, ℤ, ◌+ℤ◌, ◌-ℤ◌, ◌<ℤ◌, ◌<◌, ◌≡◌, ◌≤ℤ◌},
-  ZoneChanges.{refused_on, to_rule},
+  Words.{linear, neg_ℤ, pos, refl, ℤ, ◌-ℤ◌, ◌<ℤ◌, ◌<◌, ◌≡◌, ◌≤ℤ◌},
+  ZoneChanges.{refused_on, time_of, to_rule},
   ZoneLaws.{type_decided},
 }
-use Rattle.tz_info.specs.declared.rule.transition_rule.TransitionRule.TheVariants.{Alternate, Fixed}
+use Rattle.tz_info.specs.{Steps.Starts.IsLastWithLeapTime, declared.rule.transition_rule.TransitionRule.TheVariants.{Alternate, Fixed}}
 
 -- before 1970 each second has a leap time
 early_time : (es : List LeapSecond) (u : ℤ) → AreLeapSeconds es → u <ℤ pos 0 → IsLeapTimeRefused es u → ⊥
 early_time es u valid before refused =
     refused_on es u _ _ valid (omega linear) refused (near_time es (pos 0) valid (omega arith, omega arith))
+
+-- near seconds have a leap time, so that the last second that has one is far from now
+pub timed : (z : Zone) (last : ℤ) → 0 < length z.transitions → AreLeapSeconds z.leaps → SFits w64 last → IsLastWithLeapTime z.leaps last → IsLastTimed z last
+timed z last some valid fits h = record {
+  fits = fits;
+  has = λ v in_64 most _. (_, h.has v (omega (arith, ints)) most);
+  none = λ v in_64 later. (some, h.refused v later (omega (arith, ints)));
+  far = by_lt_z last (pos 10_000_000_000_000) (λ less. absurd (leap_times_answer z.leaps (pos 10_000_000_000_000) valid (omega arith) (omega arith)
+      (h.refused _ less (omega arith)))) (λ from. from);
+}
 
 -- a valid zone whose rule is in limits
 module _ (z : Zone) (valid : IsValid z) (limits : IsRuleOrNone z.rule) where
@@ -45,10 +58,52 @@ module _ (z : Zone) (valid : IsValid z) (limits : IsRuleOrNone z.rule) where
   first_typed (by_rule x l last refused) = first_by _ x refl l last refused
 
   -- ---- the last one
-  pub last_typed : (known end : ℤ) → IsSearched z known end → end ≤ℤ (known +ℤ pos 1) → IsLastTyped z known
-  last_typed _ end h most = record {
-    typed = h.typed;
-    none = λ v fits later there.
-        h.not (typed_between z _ v end _ _ valid (omega linear) (omega linear) h.typed.1 there.1 limits);
-    far = h.far;
-  }
+  module _ (l : ℤ) (timed : IsLastTimed z l) where
+    -- a second up to the last one with a leap time has a type, unless the rule refuses it
+    typed_by : (u : ℤ) → SFits w64 u → u ≤ℤ l → ((x : ℤ) → (0 < length z.transitions → IsLeapTime z.leaps u x) → IsFromLast z x → IsRefusedBy z.rule u → ⊥)
+        → IsTyped z u
+    typed_by u fits most not = elim (type_decided z u valid limits) [ inl typed ↦ typed | inr refused ↦ absurd (answers refused) ] where
+      answers : IsTypeRefused z u → ⊥
+      answers (by_leap_time some r) = refused_on z.leaps u u _ valid.leaps (omega linear) r (timed.has u fits most some).1
+      answers (by_rule x of_second last r) = not x of_second last r
+
+    beyond : (v : ℤ) → SFits w64 v → l <ℤ v → IsTyped z v → ⊥
+    beyond v fits later there = grind (linear, refused_on, time_of)
+
+    never_refused : (u : ℤ) (rule : Option TransitionRule) → ((a : AlternateRule) → rule ≡ Some (Alternate a) → ⊥) → IsRefusedBy rule u → ⊥
+    never_refused u None not refused = refused
+    never_refused u (Some (Fixed _)) not refused = refused
+    never_refused u (Some (Alternate a)) not refused = not a refl
+
+    pub last_without_turns : ((a : AlternateRule) → z.rule ≡ Some (Alternate a) → ⊥) → IsLastTyped z l
+    last_without_turns not = record {
+      typed = typed_by l timed.fits (omega linear) (λ _ _ _ refused. never_refused l _ not refused);
+      none = beyond;
+      far = timed.far;
+    }
+
+    -- a rule of two types answers from its begin on, up to the end of its years
+    pub last_with_turns : (a : AlternateRule) (begin r : ℤ) → z.rule ≡ Some (Alternate a) → IsBegin z begin
+        → r ≡ int_min l (int_max begin (pos 67_767_976_170_460_800) -ℤ pos 1) → IsLastTyped z r
+    last_with_turns a begin r rule is e =
+        let far = timed.far in
+        let fits = timed.fits in
+        let least : (pos 10_000_000_000_000 ≤ℤ r) × (r ≤ℤ l) = omega (linear, clamps) in record {
+          typed = typed_by r (omega linear) least.1 (λ x of_second last refused. elim (out_of_years r (rw rule at refused)) [
+            | inl early ↦ omega linear
+            | inr late ↦ elim (cases_lt 0 _) [
+              | inl some ↦ let b = (is.comes r x (omega linear) (of_second some)).0 last in omega (linear, clamps)
+              | inr none ↦ let b = is.alone (omega arith) in omega (linear, clamps)
+            ]
+          ]);
+          none = λ v fits later there. by_lt_z l v (λ after. beyond v fits after there) (λ most.
+              let all : segment_of z v ≡ length z.transitions = elim (cases_lt 0 _) [
+                | inl some ↦
+                    let time = time_of z v _ some there.1 in
+                    all_come z v _ valid (λ _. time) ((is.comes v _ fits time).1 (omega (linear, clamps)))
+                | inr none ↦ let m = segment_most z v valid.transitions.rising in omega arith
+              ] in
+              let within = rule_second a v _ (to_rule z a v _ rule valid all there.1) in
+              omega (linear, clamps));
+          far = least.0;
+        }

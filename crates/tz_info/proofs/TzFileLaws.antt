@@ -1,143 +1,152 @@
--- The law of a whole file, and what it says of a reader: a file is a zone's or has one first fault.
-use Rattle.tz_base.specs.declared.error.{Error.TheVariants.{InvalidTzFile, OutOfMemory}, Expected.TheVariants.{StandardTimeWhereTimeIsUt}}
+-- The laws of a whole file, and what they say of a reader: a file is a zone's or has one first fault.
+use Rattle.tz_base.specs.declared.error.{Error.TheVariants.{InvalidTzFile, OutOfMemory}, Expected.TheVariants.{TZifAtFrontOfHeader}}
 use Rattle.tz_info.proofs.{
-  ContentLaws.{indicators_law, leap_seconds_law, transitions_law},
-  FilePieceLaws.{has_lengths, pieces_law},
-  FooterLaws.{footer_law as footer_bytes_law},
+  FilePieceLaws.{file_ends, has_pieces},
   ListFaults.{has_list_fault, list_fault_low, list_fault_once, list_fault_or_valid},
-  TypeLaws.{types_law},
-  Words.{Bool, ContentFault, Decided, Err, Error, FilePieces, FooterFault, GivesInMemory, HasLengths, HasPieces, HasRule, HasTypeFault, IfErr, IfOk},
-  Words.{In_contents, In_file, In_footer, In_indicators, In_piece, In_type, IndicatorsAgree, IsErrAnd, IsFileFault, IsOutOfMemory, IsTzFile, IsValid},
-  Words.{IsZoneFault, List, ListFault, Lists, LocalType, MatchResult, No_memory, None, Not_valid, Ok, Option, PieceFault, Reads, Result, SayZone},
-  Words.{Some, SpellTransitions, SpellTypes, TimeZone, Transition, TransitionRule, Zone, ap, apart, arith, bind, either, error_number},
-  Words.{fault_low as low, fault_once as one_fault, file_at, footer_of, inl, inr, like, linear, lists_in, made, pieces_at, refl, value_once},
-  Words.{zone_of_lists, ℕ, ◌≡◌, ◌≤◌, ◌⊎◌},
+  ListLaws.{each_keeps},
+  Words.{Bool, Err, Error, FilePieces, HasPieces, IfErr, IfOk, In_file, IsFaultAt, IsFileFault, MatchResult, Result, TimeZone, IsErrAnd, IsOutOfMemory},
+  Words.{IsTzFile, IsValid, IsZoneFault, List, ListFault},
+  Words.{No_memory, None, Not_spelled, Not_valid, Ok, Option, Some, Spells, TransitionRule, Zone, ap, apart, arith, drop, either, error_number},
+  Words.{fault_low as low, fault_once as one_fault, file, inl, inr, lawful, length-take, linear, read, refl, sym, take, take-append-drop, value_once},
+  Words.{ℕ, ◌∙◌, ◌≡◌, ◌≤◌, ◌⊎◌, []},
+}
+use Rattle.tz_base.specs.Grammar.{HasFault, from_fault}
+use Rattle.tz_info.specs.{
+  FileContents.{indicators, pair_at, type_at},
+  FileHeaders.{HasOtherMagic, header, tzif},
+  FilePlaces.{In_lists, In_spelling, IsListPlace},
+  Footers.{optional_footer},
+  TzFiles.{contents, tz_file},
 }
 
--- ---- what whole pieces say
-abbrev RuleFault : Bool → Option (List ℕ) → Error → Type 0
-RuleFault extended footer e = (bytes : List ℕ) × (footer ≡ Some bytes) × FooterFault extended bytes e
+-- ---- what pieces say takes no bytes
+footer_keeps : (extended : Bool) (footer : Option (List ℕ)) (bytes : List ℕ) (r : Option TransitionRule) (rest : List ℕ)
+    → Spells (optional_footer extended footer) bytes r rest → bytes ≡ rest
+unfolding optional_footer
+footer_keeps extended None bytes r rest h = h.1
+footer_keeps extended (Some footer) bytes r rest h = h.2
 
-footer_law : (extended : Bool) (footer : Option (List ℕ))
-    → Decided (Option TransitionRule) (footer_of extended footer) (HasRule extended footer) (RuleFault extended footer)
-footer_law _ None = grind arith
-footer_law extended (Some bytes) = grind (arith, footer_bytes_law extended bytes)
+contents_keep : (p : FilePieces) (bytes : List ℕ) (z : Zone) (rest : List ℕ) → Spells (contents p) bytes z rest → bytes ≡ rest
+unfolding contents indicators type_at pair_at
+contents_keep p bytes z rest (types, a, h, (_, b, (_, c, i, (_, d)), (r, e, k, (_, same)))) =
+    each_keeps (type_at p) (λ k bytes x rest h. h.2) _ bytes types a h ∙ each_keeps (pair_at p) (λ k bytes x rest h. h.2) _ a _ c i ∙ d
+    ∙ footer_keeps p.extended p.footer b r e k ∙ same
 
-abbrev ReadFault : FilePieces → Error → Type 0
-ReadFault p n =
-    HasTypeFault p.parts.designations p.parts.types n
-    ⊎ ((types : List LocalType) × SpellTypes p.parts.designations p.parts.types types
-    × ((¬ (IndicatorsAgree p.parts.standard_wall p.parts.ut_local) × (n ≡ InvalidTzFile StandardTimeWhereTimeIsUt))
-    ⊎ ((u : Unit {0}) × IndicatorsAgree p.parts.standard_wall p.parts.ut_local × (RuleFault p.extended p.footer n
-    ⊎ ((rule : Option TransitionRule) × HasRule p.extended p.footer rule × (⊥
-    ⊎ ((ts : List Transition) × SpellTransitions p.time_size p.parts.times p.parts.type_indexes ts × ⊥)))))))
+zone_ends : (bytes : List ℕ) (z : Zone) (rest : List ℕ) → Spells tz_file bytes z rest → rest ≡ []
+unfolding tz_file
+zone_ends bytes z rest (p, after, h, k) = sym (contents_keep p after z rest k) ∙ (file_ends bytes p after h).5
 
-fault_again : (p : FilePieces) (n : Error) → ContentFault p n → ReadFault p n
-fault_again p n f = grind arith
-
-say_law : (p : FilePieces) → HasLengths p → Decided Zone (lists_in p) (SayZone p) (ContentFault p)
-unfolding lists_in
-say_law p l = like
-    (bind (types_law _ _ _ l.types) (λ types _.
-    bind (indicators_law _ _) (λ _ _.
-    bind (footer_law _ _) (λ rule _.
-    bind (transitions_law _ _ _ _ l.times l.type_indexes) (λ transitions _.
-    made (λ leaps. record { transitions = transitions; types = types; leaps = leaps; rule = rule })
-    (leap_seconds_law _ _ _ l.leap_seconds))))))
-    (λ z h. grind arith)
-    (λ z s. grind arith)
-    (λ n f. grind (arith, In_type, In_indicators, In_footer))
-    (fault_again p)
-
--- ---- the whole
--- a fault of a piece, or of what whole pieces say
-abbrev SpellingFault : List ℕ → Error → Type 0
-SpellingFault bytes n = PieceFault bytes n ⊎ ((p : FilePieces) × HasPieces bytes p × ContentFault p n)
-
-pub file_law : (bytes : List ℕ) → Decided Zone (file_at bytes) (IsTzFile bytes) (SpellingFault bytes)
-unfolding file_at
-file_law _ = bind (pieces_law _) (λ p whole. say_law p (has_lengths _ p whole))
-
--- no bytes spell two zones
+-- no bytes spell two zones, or have two pieces
 pub one_zone : (bytes : List ℕ) (y z : Zone) → IsTzFile bytes y → IsTzFile bytes z → y ≡ z
-one_zone _ = value_once (file_law _)
+one_zone bytes y z f g = ap (λ (p : Zone × List ℕ). p.0) (value_once (lawful tz_file bytes) (y, []) (z, []) f g)
+
+pub one_pieces : (bytes : List ℕ) (p q : FilePieces) → HasPieces bytes p → HasPieces bytes q → p ≡ q
+one_pieces bytes p q f g = ap (λ (p : FilePieces × List ℕ). p.0) (value_once (lawful file bytes) (p, []) (q, []) f g)
+
+pub file_pieces : (bytes : List ℕ) (z : Zone) → IsTzFile bytes z → (p : FilePieces) × HasPieces bytes p
+unfolding tz_file
+file_pieces bytes z (p, after, h, k) = (p, rw (file_ends bytes p after h).5 at h)
 
 -- ---- the first fault
-spelling_fault : (bytes : List ℕ) (n : Error) → SpellingFault bytes n → IsFileFault bytes n
-spelling_fault bytes n f = grind (arith, In_piece, In_contents)
-
-kind_of : (bytes : List ℕ) (e : Error) → IsFileFault bytes e → SpellingFault bytes e ⊎ ((z : Zone) × IsTzFile bytes z × ListFault z e)
-kind_of bytes e f = grind arith
-
 pub fault_once : (bytes : List ℕ) (d e : Error) → IsFileFault bytes d → IsFileFault bytes e → d ≡ e
-fault_once bytes d e f g = elim (kind_of _ d f) [
-  | inl a ↦ elim (kind_of _ e g) [ inl b ↦ one_fault (file_law bytes) d e a b | inr b ↦ absurd (apart (file_law _) b.0 d b.1 a) ]
-  | inr a ↦ elim (kind_of _ e g) [
-    | inl b ↦ absurd (apart (file_law bytes) a.0 e a.1 b)
-    | inr b ↦ list_fault_once b.0 d e (rw (one_zone bytes a.0 b.0 a.1 b.1) at a.2) b.2
-  ]
-]
+fault_once bytes d e (Not_spelled _ f) (Not_spelled _ g) = one_fault (lawful tz_file bytes) d e f g
+fault_once bytes d e (Not_spelled _ f) (Not_valid z _ file _) = absurd (apart (lawful tz_file bytes) (z, []) d file f)
+fault_once bytes d e (Not_valid z _ file _) (Not_spelled _ g) = absurd (apart (lawful tz_file bytes) (z, []) e file g)
+fault_once bytes d e (Not_valid y _ of f) (Not_valid z _ file g) = list_fault_once z d e (rw (one_zone bytes y z of file) at f) g
 
 pub fault_or_zone : (bytes : List ℕ) (e : Error) (z : Zone) → IsFileFault bytes e → IsTzFile bytes z → IsValid z → ⊥
-fault_or_zone bytes e z f file valid = elim (kind_of _ e f) [
-  | inl a ↦ apart (file_law _) z e file a
-  | inr (y, of, bad) ↦ list_fault_or_valid y e bad (rw (one_zone _ z y file of) at valid)
-]
+fault_or_zone bytes e z (Not_spelled _ f) file valid = apart (lawful tz_file bytes) (z, []) e file f
+fault_or_zone bytes e z (Not_valid y _ of bad) file valid = list_fault_or_valid y e bad (rw (one_zone bytes z y file of) at valid)
 
 pub has_fault : (bytes : List ℕ) → ((z : Zone) → IsTzFile bytes z → ¬ (IsValid z)) → (e : Error) × IsFileFault bytes e
-has_fault bytes none = elim (either (file_law bytes)) [
-  | inl z ↦ let f = has_list_fault z.0 (none z.0 z.1) in (_, Not_valid z.0 _ z.1 f.1)
-  | inr f ↦ (_, spelling_fault _ _ f.1)
+has_fault bytes none = elim (either (lawful tz_file bytes)) [
+  | inl s ↦
+      let file : IsTzFile bytes s.0.0 = rw (zone_ends bytes s.0.0 s.0.1 s.1) at s.1 in
+      let f = has_list_fault s.0.0 (none s.0.0 file) in (_, Not_valid s.0.0 _ file f.1)
+  | inr f ↦ (f.0, Not_spelled f.0 f.1)
 ]
 
 -- it is not running out of memory
 pub fault_low : (bytes : List ℕ) (e : Error) → IsFileFault bytes e → error_number e ≤ 16
-fault_low bytes e f = grind (arith, low (file_law bytes), list_fault_low)
+fault_low bytes e (Not_spelled _ f) = low (lawful tz_file bytes) e f
+fault_low bytes e (Not_valid z _ _ f) = list_fault_low z e f
 
--- ---- what the reader of the lists answers
-pub reads : (bytes : List ℕ) (p : FilePieces) (r : Result Lists Error) → pieces_at bytes ≡ Ok p → GivesInMemory zone_of_lists r (lists_in p) → Reads r bytes
-reads bytes p (Ok lists) h g =
-    let has = (pieces_law bytes).takes p h in (p, has, (say_law p (has_lengths bytes p has)).takes (zone_of_lists lists) g)
-reads bytes p (Err e) h g =
-    let has = (pieces_law bytes).takes p h in
-    elim g [
-      | inl is ↦ rw is (No_memory p has)
-      | inr fails ↦ In_file e (In_contents e p has ((say_law p (has_lengths bytes p has)).fails e fails))
-    ]
+-- bytes that do not begin with the magic
+magic_fault : (bytes : List ℕ) → HasOtherMagic bytes → HasFault file bytes (InvalidTzFile TZifAtFrontOfHeader)
+unfolding file header tzif
+magic_fault bytes h = inl (inl (inr (take 4 bytes, drop 4 bytes, (sym (take-append-drop 4 bytes), omega (arith, length-take 4 bytes, h.0)), (h.1, refl))))
 
-pub no_pieces : (bytes : List ℕ) (e : Error) → pieces_at bytes ≡ Err e → IsZoneFault bytes e
-no_pieces bytes e h = In_file e (In_piece e ((pieces_law bytes).fails e h))
+-- ---- what the reader of zones answers
+pub fault_at : (bytes : List ℕ) (e : Error) (left : List ℕ) → read tz_file bytes ≡ Err e → left ≡ from_fault tz_file bytes → IsFaultAt bytes e left
+fault_at bytes e left fails at = let f = (lawful tz_file bytes).fails e fails in rw at (inl (Not_spelled e f, In_spelling e f))
 
--- ---- what is made of the lists of a file
-abbrev Makes : Zone → Result TimeZone Error → Type 0
-Makes lists r = MatchResult r (λ z. IsValid lists × (z ≡ lists)) (λ e. (ListFault lists e × ¬ (IsValid lists)) ⊎ ((e ≡ OutOfMemory) × IsValid lists))
+pub pieces_fault : (bytes : List ℕ) (e : Error) (left : List ℕ) → read file bytes ≡ Err e → left ≡ from_fault file bytes → IsFaultAt bytes e left
+unfolding tz_file
+pieces_fault bytes e left fails at = fault_at bytes e left (rw fails refl) (rw (fails, at) refl)
 
-pub made_found : (bytes : List ℕ) (lists : Zone) (r : Result TimeZone Error) → IsTzFile bytes lists → Makes lists r
-    → IfOk r (λ z. IsTzFile bytes z × IsValid z)
-made_found bytes lists r f m = grind arith
+-- whole pieces, and what they say
+module _ (bytes : List ℕ) (p : FilePieces) (after : List ℕ) (is : read file bytes ≡ Ok (p, after)) where
+  pub contents_fault : (e : Error) (left : List ℕ) → (e ≡ OutOfMemory) ⊎ ((read (contents p) after ≡ Err e) × (left ≡ from_fault (contents p) after))
+      → IsFaultAt bytes e left
+  unfolding tz_file
+  contents_fault e left (inl memory) = inr (memory, (p, has_pieces bytes p after is))
+  contents_fault e left (inr (fails, at)) = fault_at bytes e left (rw (is, fails) refl) (rw (is, at) refl)
 
-pub made_fault : (bytes : List ℕ) (lists : Zone) (r : Result TimeZone Error) → IsTzFile bytes lists → Makes lists r
-    → IfErr r (λ e. IsZoneFault bytes e)
-made_fault bytes lists r f m = grind (linear, In_file, Not_valid, No_memory)
+  contents_file : (z : Zone) (rest : List ℕ) → read (contents p) after ≡ Ok (z, rest) → IsTzFile bytes z
+  unfolding tz_file
+  contents_file z rest says =
+      let s = (lawful tz_file bytes).takes (z, rest) (rw (is, says) refl) in rw (zone_ends bytes z rest s) at s
 
--- ---- what a reader of zones answers
--- why there is no zone: the file's fault, or too little memory
-zone_fault : (bytes : List ℕ) (e : Error) → IsZoneFault bytes e → IsFileFault bytes e ⊎ (e ≡ OutOfMemory)
-zone_fault bytes e (In_file _ f) = inl f
-zone_fault bytes _ (No_memory _ _) = inr refl
+  -- what is made of the lists
+  module _ (lists : Zone) (rest : List ℕ) (says : read (contents p) after ≡ Ok (lists, rest)) (r : Result TimeZone Error)
+      (made : MatchResult r (λ z. IsValid lists × (z ≡ lists)) (λ e. (ListFault lists e × ¬ (IsValid lists)) ⊎ ((e ≡ OutOfMemory) × IsValid lists))) where
+    pub made_found : IfOk r (λ z. IsTzFile bytes z × IsValid z)
+    made_found = let file = contents_file lists rest says in grind arith
 
-pub only : (bytes : List ℕ) (r : Result TimeZone Error) → IfOk r (λ z. IsTzFile bytes z × IsValid z) → IfErr r (λ e. IsZoneFault bytes e) → (z : Zone)
-    → IsTzFile bytes z → IsValid z → MatchResult r (λ y. y ≡ z) (λ e. e ≡ OutOfMemory)
-only bytes (Ok y) found _ z file _ = one_zone bytes y z found.0 file
-only bytes (Err e) _ fault z file valid =
-    elim (zone_fault bytes e fault) [ inl f ↦ absurd (fault_or_zone bytes e z f file valid) | inr is ↦ is ]
+    pub made_fault : (left : List ℕ) → IsListPlace p left → IfErr r (λ e. IsFaultAt bytes e left)
+    made_fault left place =
+        let file = contents_file lists rest says in let has = has_pieces bytes p after is in grind (linear, Not_valid, In_lists)
 
--- of a file with a fault that one is named, unless memory ran out
-pub named : (bytes : List ℕ) (r : Result TimeZone Error) → IfOk r (λ z. IsTzFile bytes z × IsValid z) → IfErr r (λ e. IsZoneFault bytes e)
-    → (e : Error) → IsFileFault bytes e → IsErrAnd r (λ d. (d ≡ e) ⊎ IsOutOfMemory d)
-named bytes (Ok y) found _ e f = absurd (fault_or_zone bytes e y f found.0 found.1)
-named bytes (Err d) _ fault e f = elim (zone_fault bytes d fault) [ inl g ↦ inl (fault_once bytes d e g f) | inr is ↦ inr (ap error_number is) ]
+-- the bytes of a reader that returned an error
+module _ (bytes : List ℕ) (e : Error) (left : List ℕ) (fault : IsFaultAt bytes e left) where
+  pub zone_fault : IsZoneFault bytes e
+  zone_fault = elim fault [ inl f ↦ In_file e f.0 | inr m ↦ rw m.0 (No_memory m.1.0 m.1.1) ]
 
-pub memory : (bytes : List ℕ) (r : Result TimeZone Error) → IfErr r (λ e. IsZoneFault bytes e)
-    → IfErr r (λ e. e ≡ OutOfMemory → (p : FilePieces) × HasPieces bytes p)
-memory bytes r fault = grind (arith, fault_low)
+  -- of a file of a zone, or with a fault
+  pub no_memory : (z : Zone) → IsTzFile bytes z → IsValid z → e ≡ OutOfMemory
+  no_memory z file valid = elim fault [ inl f ↦ absurd (fault_or_zone bytes e z f.0 file valid) | inr m ↦ m.0 ]
+
+  pub named : (d : Error) → IsFileFault bytes d → (e ≡ d) ⊎ IsOutOfMemory e
+  named d f = elim fault [ inl g ↦ inl (fault_once bytes e d g.0 f) | inr m ↦ inr (ap error_number m.0) ]
+
+  pub memory : e ≡ OutOfMemory → (p : FilePieces) × HasPieces bytes p
+  memory is = elim fault [ inl f ↦ let low = fault_low bytes e f.0 in absurd (omega (arith, ap error_number is)) | inr m ↦ m.1 ]
+
+-- what callers are told of it
+module _ (bytes : List ℕ) (r : Result TimeZone Error) (left : List ℕ) (found : IfOk r (λ z. IsTzFile bytes z × IsValid z))
+    (fault : IfErr r (λ e. IsFaultAt bytes e left)) where
+  pub only : (z : Zone) → IsTzFile bytes z → IsValid z → MatchResult r (λ y. y ≡ z) (λ e. e ≡ OutOfMemory)
+  only z file valid = grind (arith, one_zone, no_memory)
+
+  pub no_room : IfErr r (λ e. e ≡ OutOfMemory → (p : FilePieces) × HasPieces bytes p)
+  no_room = grind (arith, memory)
+
+  pub first : (e : Error) → IsFileFault bytes e → IsErrAnd r (λ d. (d ≡ e) ⊎ IsOutOfMemory d)
+  first e f = grind (arith, fault_or_zone, named)
+
+module _ (bytes : List ℕ) where
+  pub fault_of : (r : Result TimeZone Error) (left : List ℕ) → IfErr r (λ e. IsFaultAt bytes e left) → IfErr r (λ e. IsZoneFault bytes e)
+  fault_of (Ok z) left fault = tt
+  fault_of (Err e) left fault = zone_fault bytes e left fault
+
+  pub other_magic : (r : Result TimeZone Error) (left : List ℕ) → IfOk r (λ z. IsTzFile bytes z × IsValid z) → IfErr r (λ e. IsFaultAt bytes e left)
+      → HasOtherMagic bytes → IsErrAnd r (λ e. e ≡ InvalidTzFile TZifAtFrontOfHeader)
+  unfolding tz_file
+  other_magic (Ok z) left found fault other = absurd (fault_or_zone bytes _ z (Not_spelled _ (inl (magic_fault bytes other))) found.0 found.1)
+  other_magic (Err e) left found fault other = elim fault [
+    | inl f ↦ fault_once bytes e _ f.0 (Not_spelled _ (inl (magic_fault bytes other)))
+    | inr m ↦ absurd (apart (lawful file bytes) (m.1.0, []) _ m.1.1 (magic_fault bytes other))
+  ]
+
+-- what a reader that reports the position needs
+pub ruleset reader = (fault_or_zone, memory, named, no_memory, one_zone, zone_fault)

@@ -4,13 +4,13 @@ use Rattle.tz_info.proofs.{
   AnswerLaws.{Parts, behind_answer, same_answer},
   Candidates.offset_of_rule,
   ExtremeLaws.{at_least_least, at_most_greatest},
-  SegmentLaws.{between_of, later_segment, segment_at, segment_here, segment_is, segments_rise, type_from, type_in_from, within_of},
+  SegmentLaws.{between_of, later_segment, segment_at, segment_here, segment_is, segments_rise, type_from, within_of},
   TableSearch.Between,
   WallSegments.{leap_time_of, near_of, offset_in_table, rule_begun, type_of_table},
-  Words.{AreUtOffsets, Bool, Counts, IsNear, IsShownIn, IsStart, IsTried, IsValid, IsWallAnswer, IsWide, IsWindow, List, LocalResult, LocalType},
-  Words.{None, Option, RoseByWalk, RoseWithin, RuleAt, Shows, Some, Transition, TransitionRule, TypeAt, TypeFrom, Zone, [], arith, begin_of, cases_lt},
-  Words.{come_between, digits, digits-le, filter, get_or, get_or_default, index_of, inl, inr, length, linear, reads_more, segment_of, suc, sym},
-  Words.{table_count, true, zero, ℕ, ℤ, ⊎_elim, ◌+ℤ◌, ◌+◌, ◌-ℤ◌, ◌<ℤ◌, ◌<◌, ◌∷◌, ◌≡◌, ◌≤ℤ◌, ◌≤◌, ◌⊎◌},
+  Words.{AreUtOffsets, Bool, Counts, IsNear, IsShownIn, IsStart, IsTried, IsValid, IsWallAnswer, IsWide, IsWindow, List, LocalResult, LocalType, None, Option},
+  Words.{RoseByWalk, RoseWithin, RuleAt, Shows, Some, Transition, TransitionRule, TypeAt, TypeFrom, Zone, [], arith, begin_of, cases_lt, come_between, digits},
+  Words.{digits-le, filter, get_or, get_or_default, index_of, inl, inr, length, linear, reads_more, segment_of, suc, sym, table_count, true, zero, ℕ, ℤ},
+  Words.{⊎_elim, ◌+ℤ◌, ◌+◌, ◌-ℤ◌, ◌<ℤ◌, ◌<◌, ◌∷◌, ◌≡◌, ◌≤ℤ◌, ◌≤◌, ◌⊎◌},
 }
 
 -- a number has fewer digits than a list can have items
@@ -45,7 +45,7 @@ tried_segment z l i valid inside own begin next k s =
     (λ u f m. later_segment z u c valid (omega arith)) s))
     (λ h. rw h.1 (same_answer _ _ _ (λ u f m. grind arith) (λ u f m. ⊎_elim (λ a. a)
     (λ a. let w = within_of _ _ _ k.candidate.leap_fits (rw (sym k.candidate.of_second.sum) at (segment_at z c i rising (rw a.0 at a.1))) in
-    absurd (h.0 (grind (linear, get_or_default z.transitions i)))) (only u f m)) s))
+    absurd (grind linear)) (only u f m)) s))
     k.tried
 
 -- ---- the rule after the last transition
@@ -60,7 +60,6 @@ with_rule z rule start l valid is begun wide offsets = record {
       let there = (rule_begun z u _ valid near begun).1 k.type.since in
       let time = leap_time_of z u valid near in
       let b = rw (sym time.1.sum) at (segment_at z u _ valid.transitions.rising there) in
-      let type = type_in_from z u _ t time.1 b (rw is k.type.type) in
       grind linear;
   all = λ u t k. elim (cases_lt (segment_of z u) (length z.transitions)) [
     | inl h ↦ inl (grind arith)

@@ -74,7 +74,7 @@ module _ {join : Join} {bx : Shown} {xs : List Piece} {by : Shown} {ys out : Lis
         ordered = all_pairs_push (λ (a b : Piece). a.start ≤ℤ b.start) out p m.ordered (grind linear);
         count = grind (arith, length_push);
         ahead_x = λ d l. grind (linear, start_by_push out p, m.ahead_x d inside, order i (i + 1) d, starts d);
-        ahead_y = λ d l. grind (linear, start_by_push out p, m.ahead_y d, starts d, next.least d);
+        ahead_y = grind (linear, start_by_push);
         started = λ l h. let s = start_by_pushed out p l h in rw more (grind (linear, m.started l s.0, start_by_push (take i xs) x l));
         answers = λ l. by_lt_z l p.start
             (λ before. let a = m.answers l in rw more (grind (linear, at_earlier)))

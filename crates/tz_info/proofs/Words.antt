@@ -4,7 +4,7 @@ pub use mir.Syntax.{w128}
 pub use Rattle.naive_base.proofs.{
   ForCallers.{date_lies, days_at_most, leap_at_most, months_all, months_step, own_start_in_range},
   Words.{FitsSigned, IsWide, LiesIn, MatchOption, append_assoc, by_lt_z, day_of, day_of_year_is, days_at_least, days_in_month, days_in_year, floor_div},
-  Words.{floor_mod, floor_mod_parts, floors, is_leap, length-append, lies_in, min, nat_tests, neg_ℤ, one_year, starts_rise, subst, to_z, unsigned_abs},
+  Words.{floor_mod, floor_mod_parts, floors, is_leap, length-append, lies_in, nat_tests, neg_ℤ, one_year, starts_rise, subst, to_z, unsigned_abs},
   Words.{w32, weekday_below, weekday_later, weekday_of, year_step, ◌%◌, ◌*ℤ◌, ◌++◌},
 }
 pub use Rattle.naive_base.specs.Year.{IsDay}
@@ -19,7 +19,7 @@ pub use Rattle.std.proofs.{
   Common.{All, AllPairs, Contains, Err, IfErr, IfOk, IfSome, IsTrue, MatchResult, None, Ok, Option, Result, Some, add-one, length-take, nat_le, nat_lt},
   Common.{not, slice_get, vec_capacity, vec_len, ⊎_elim, ◌&&◌, ◌==◌, ◌↔◌},
   Math.{ListN.{get_or-eq_default}, Seq.{take-append_seam, take-suc}},
-  lemmas.Bool.{and_parts, false≢true, not-false, true≢false, Decides.{Decides-and, Decides-eqb, Decides-ltb, Decides-or}},
+  lemmas.Bool.{and_parts, false≢true, Decides.{Decides-and, Decides-eqb, Decides-ltb, Decides-or}},
   lemmas.List.{append-nil, drop-drop, get_or-map, get_or-map as mapped_at, get_or_append_left, get_or_default, get_or_push, length-drop, length_push},
   lemmas.List.{nil_from_length, take-append-drop, take_all, take_more},
   lemmas.List.Elements.{All-append, All-contains, All-push, Contains-append_left, Contains-append_right, Contains-get_or, Contains-push, Contains-push_cases},
@@ -32,22 +32,22 @@ pub use Rattle.std.specs.{
   Borrow.Bor,
   Char.is_ascii_whitespace,
   Int.saturate_signed,
-  List.{AllAdjacentBelow, ends_with, list_all, list_any, position_from, starts_with},
+  List.{AllAdjacentBelow, list_all, list_any, position_from, starts_with},
   Option.option_eq,
-  Prelude.unwrap_or,
   Result.{IsErrAnd, IsOkAnd},
   Str.{IsAsciiWhitespaceBelow, IsAsciiWhitespaceFrom, IsTrimAscii, IsTrimAsciiStart, IsUtf8},
 }
 pub use Rattle.tz_base.proofs.{
-  ForCallers.{Decided, IsExact, and_both, and_left, and_right, apart, bind, bind_err, by_error, choice, done, drop_front, either, exact_cut, false_unless},
+  ForCallers.{Decided, IsExact, apart, bind, by_error, choice, done, drop_front, either, exact_cut, false_unless},
   ForCallers.{fault_low, fault_once, guard, lawful, like, made, refused, runs_are, said, tested, type_exact, value_once},
 }
 pub use Rattle.tz_base.specs.{
   Errors.{IsOutOfMemory, error_number},
-  Fronts.{Gives, ◌>>=◌},
+  Fronts.{Gives, after_run, ◌>>=◌},
   Grammar.{Exact, Spells, checked, read},
   LocalTypes.{IsUtOffset, LocalType, expected_of_type},
-  Names.{IsNameOrNone, expected_of_name, is_name, name_test},
+  Names.{IsNameOrNone, expected_of_name},
+  Steps.TextTests.{is_name, is_name_or_none, name_or_none_decided, name_test},
   Refusals.LocalTimeType,
   declared.{change.Change.Change, error.Error.Error, span.Span.Span},
 }
@@ -63,16 +63,15 @@ pub use Rattle.tz_info.proofs.{
 pub use Rattle.tz_info.specs.{
   Around.AreTypesAround,
   Changes.{AreChanges, HasNoChange, IsChange, IsFirst, IsFirstChange, IsFromUntil, IsLast, IsLastChange, IsNearest, IsNearestChange, Precedes},
-  Counts.{RoseWithin, reads_more},
+  Counts.{RoseWithin},
+  Steps.RisingCounts.{reads_more},
   Differences.{AreDifferences, IsDifference, IsInDifference},
   FileBlocks.Parts,
-  FileContents.{AreRecords, HasNoZero, HasRecordFault, HasTypeFault, IndicatorsAgree, IsMark, No_text, Other_mark, Other_type, SpellLeapSeconds},
-  FileContents.{SpellTransitions, SpellTypes, SpellsLeapSecond, SpellsType, StandsAt, TypeFault, designation_of, expected_of_place, file_time, least_offset},
-  FileContents.{mark_in, offset_in, place_in},
+  FileContents.{designation_of, file_time, is_not_zero, leap_at, leap_second_of, least_offset, pair_test, record_at},
+  FileContents.{transition_at, values_below},
   FileHeaders.{magic},
-  FilePieces.{FilePieces, HasCounts, HasPieces, PieceFault},
+  FilePieces.{FilePieces, HasCounts, HasPieces, PieceFault, footer_bytes, from_leap_seconds, from_times, from_type_indexes, from_types, from_ut_local},
   Folds.HasFold,
-  Footers.{Colon, FooterFault, HasText, In_text, IsBetweenNewlines, IsFooter, No_newlines, Not_utf8, SaysRule, Zero},
   Gaps.{HasGap, IsTypeBeforeGap},
   Leaps.{AreCounted, AreLeapSeconds, IsLeapTime, IsLeapTimeRefused, IsNear, IsNextLeap, IsOneStep, IsUnixTime, IsUnixTimeRefused, correction_at},
   Leaps.{correction_before, corrections, least_time, passed_count, thresholds},
@@ -82,7 +81,6 @@ pub use Rattle.tz_info.specs.{
   OffsetChanges.{IsNearestOffsetChange, IsOffsetChange, KeepsOffset},
   PosixZones.{IsPosixFault, IsPosixZone, posix_zone},
   Questions.{IsAskedAt, IsAskedAtEach, IsAskedFor, IsByRuleFor},
-  RuleDayOf.rule_day_with,
   RuleDays.{IsDayOf, IsRuleDay, IsWeekdayInWeek},
   RuleTypes.{IsRule, IsRuleRefused, RuleAt},
   Rules.{Alternate, IsAlternateRule, IsWithinWeek},
@@ -95,11 +93,8 @@ pub use Rattle.tz_info.specs.{
   Steps.ChangeLists.type_at_leap_time,
   Steps.Changes.{IsAhead, IsBegin, IsChangeByRule, IsEarlierOf, IsIdle, IsInStretch, IsInTable, IsLaterOf, IsOfYear, IsOneOf, IsStretchAhead},
   Steps.Changes.{near_end, nearer_one, new_year, year_at},
-  Steps.ContentReading.{GivesInMemory, front_of, is_name_or_none, is_zero, leap_second_in, leap_second_of, mark_of, pair_agrees, record_at, transition_in},
-  Steps.ContentReading.{type_in, values_below},
   Steps.{Differences.{AreListedTo, IsListedIf, IsPairUntil}, Extremes.{AreExtremes, AreJoined, AreJoinedByRule, offsets_of}},
-  Steps.FileLists.{HasLengths, Reads, pieces_of, zone_of_lists},
-  Steps.FooterReading.{footer_of, is_between_newlines, is_no_text, rule_or_none, trimmed_back, trimmed_front, unless_space},
+  Steps.FileLists.{AreFromParts, EndFile, HasLengths, IsFaultAt, IsReadInMemory, pieces_of, zone_of_lists},
   Steps.{Gaps.{AreLess, HasReach, IsNeverFrom, IsRuleGap}, Kinds.{day_time_second, is_calm, is_calm_kind, kind_place, second_in}},
   Steps.{LastSpans.IsLastSpan, Merging.{IsMerged, IsNext, IsStep}},
   Steps.Pieces.{AreBelow, AreCutsCrossed, AreListed, ArePieces, ArePiecesAt, IsCutAt, IsJump, IsSegment, cut_of, zone_in},
@@ -108,14 +103,13 @@ pub use Rattle.tz_info.specs.{
   Steps.Runs.{AreWithin, HaveOneTypeFrom, IsEnd, IsEndWithin, IsNextRun, IsRunUntil, IsWindowOf, IsWithinRun},
   Steps.{Seasons.{IsAmidFrom, IsDecidedIn, IsSeason, IsSeasonFor, IsSeasonIn, IsSeasonOf}, Segments.{begin_of, index_of, table_count, table_count_by}},
   Steps.{Shown.together, Starts.{HaveCome, leap_time_at}, Turns.{is_between, is_dst_by_one, is_in_three}},
-  Steps.{Typed.{IsAfterTyped, IsBeginBy, IsEndBy, IsFirstTyped, IsLastTyped, IsSearched, IsTyped}, Validity.Stands},
+  Steps.{Typed.{IsBeginBy, IsEndBy, IsFirstTyped, IsLastTimed, IsLastTyped, IsTyped}, Validity.Stands},
   Steps.Walk.{IsAskedLast, IsShownIn, IsTried, TypeIn},
   Steps.WallPieces.{AreInOrder, IsBegun, IsBegunNear, IsIndex, IsShownAmong, IsSideAmong, IsStart, IsTable, IsTableAnswer, IsTableLess},
   Steps.WallPieces.{ListedAmong, ShownAmong, WallIndex, answer_at, answer_before, place_at, shown_indexes, top_of},
   Transitions.{AreRising, AreTransitions, passed},
-  Trims.{BeginsBare, EndsBare, IsSpace, IsTrimmed},
-  TzFiles.{ContentFault, HasRule, In_contents, In_file, In_footer, In_indicators, In_piece, In_type, IsFileFault, IsTzFile, IsZoneFault, No_memory, Not_valid},
-  TzFiles.SayZone,
+  Trims.without_end,
+  TzFiles.{In_file, IsFileFault, IsTzFile, IsZoneFault, No_memory, Not_spelled, Not_valid},
   TzGrammar.{IsTextFault, IsTzText, is_letter, is_not_greater, named_type},
   WallClocks.{AreShown, IsAmongShown, Shows},
   Windows.{IsGreatest, IsLeast, IsWindow, IsWindowCount, come_between, offsets, rule_offsets},
@@ -130,7 +124,6 @@ pub use Rattle.tz_info.specs.{
   declared.zone.{made.{last_span.LastSpan.LastSpan, pieces.Piece.Piece, segments.Segment.Segment, shown.Shown.Shown}, time_zone.TimeZone.TimeZone},
 }
 unfoldable pub use Rattle.naive_base.proofs.Words.{day_number, days_of_months, year_of, year_start}
-unfoldable pub use Rattle.std.specs.Str.{is_utf8}
 unfoldable pub use Rattle.tz_base.specs.Fronts.{exact_at}
 unfoldable pub use Rattle.tz_info.proofs.SearchWords.{digits}
 unfoldable pub use Rattle.tz_info.specs.{
@@ -140,9 +133,9 @@ unfoldable pub use Rattle.tz_info.specs.{
   Moments.moment,
   RuleDayOf.rule_day,
   Steps.{ChangeLists.{changes_of, seconds_between, type_or_none}, Changes.moments_near, ChangingYears.{changing_keys, key_years}},
-  Steps.ContentReading.{designation_at, indicators_of, type_of, type_of_record},
-  Steps.{FileLists.{file_at, lists_in, pieces_at}, FooterReading.{footer_at, rule_in, trimmed}, KindPlaces.{place_by, places_by_kind}},
+  Steps.{KindPlaces.{place_by, places_by_kind}, Spelled.rule_in},
   Steps.{Kinds.{are_calm, margin_of, seconds_by_kind}, RuleDays.closed_day, Segments.segment_of},
   TzGrammar.{alternate, date, day, days, dst_offset, duration, end, fixed, given_offset, julian_date, month_date, named, next_hour, offset, optional_time},
   TzGrammar.{rule, text, time},
+  Trims.trimmed,
 }

@@ -1,5 +1,5 @@
 -- Years of one key have changes at the same places.
-use Rattle.std.{proofs.{Math.Dec.eqb, lemmas.Bool.eqb-true}, specs.Prelude.{◌+◌, ◌/◌, ◌%◌, if◌then◌else◌}}
+use Rattle.std.{proofs.{Math.Dec.eqb, lemmas.Bool.eqb-true}}
 use Rattle.tz_info.proofs.{
   ListLaws.one_true,
   Words.{Bool, IsRuleYear, List, SFits, all_below, ap, arith, false, floor_div, floor_mod, floor_mod_parts, floors, get_or, int_le, int_lt, is_leap},
@@ -77,17 +77,6 @@ leaps_alike x y e =
 
 leap_places : (x y : ℤ) → year_key x ≡ year_key y → (leap_place x ≡ leap_place y) × (weekday_of (year_start x) ≡ weekday_of (year_start y))
 leap_places x y e = grind arith
-
-second_place : (b : Bool) (p : ℕ) → b ≡ eqb 1 p → eqb p 1 ≡ b
-second_place b p e = grind arith
-
-pub kind_by_key : (year : ℤ) (key : ℕ) → year_key year ≡ key → (if eqb (key / 7) 1 then 7 else 0) + key % 7 ≡ kind_place year
-kind_by_key year key e =
-    let leap = second_place _ _ (solo_at _ _ _ _ (leaps_solo year)).1 in
-    let below = weekday_below (year_start year) in
-    let place : key / 7 ≡ leap_place year = omega (arith, e, below) in
-    let weekday : key % 7 ≡ weekday_of (year_start year) = omega (arith, e, below) in
-    rw (place, weekday, leap) refl
 
 -- the one year's days are those of the other one, whole weeks later
 weeks : (s t : ℤ) → weekday_of s ≡ weekday_of t → (q : ℤ) × (t ≡ s +ℤ pos 7 *ℤ q)

@@ -1,9 +1,15 @@
--- What the parts of a data block say (RFC 8536 section 3.2).
-use Rattle.std.specs.Prelude.{ℕ, ℤ, pos, neg_ℤ, ◌<ℤ◌, ◌≡◌, ◌≢◌, ◌==◌, ◌+◌, nat_lt, Bool, true, false, if◌then◌else◌, List, [], ◌∷◌, ◌++◌, length, take}
-use Rattle.std.specs.{Prelude.{slice_index, map, Option, Some, None}, Int.{Width, w32, w64, from_be_bytes, cast_signed}}
-use Rattle.tz_base.specs.{LocalTypes.{LocalType, expected_of_type}, declared.error.Error.{Error, TheVariants.{InvalidTzFile, LocalTimeType}}}
-use Rattle.tz_base.specs.{declared.error.Expected.{Expected, TheVariants.{ZeroOrOneAsIsDst, NameWithinDesignations, ZeroByteAfterName}}, Names.{IsNameOrNone}}
+-- What the parts of the last data block say (RFC 8536 section 3.2).
+use Rattle.std.specs.Prelude.{ℕ, zero, suc, ℤ, pos, neg_ℤ, ◌<ℤ◌, ◌≡◌, ◌≢◌, ◌==◌, ◌+◌, ◌*◌, int_lt, not, Bool, true, false, if◌then◌else◌, List, []}
+use Rattle.std.specs.Prelude.{◌∷◌, ◌++◌, length, slice_index, take, drop, Option, Some, None}
+use Rattle.std.specs.Int.{Width, w32, w64, from_be_bytes, cast_signed}
+use Rattle.tz_base.specs.{LocalTypes.{LocalType, expected_of_type}, Names.{IsNameOrNone}, Tests.{Test}}
+use Rattle.tz_base.specs.Steps.{Comparisons.{both, equal, less, never_both}, TextTests.{name_or_none_test}}
+use Rattle.tz_base.specs.Grammar.{Grammar, Nothing, Marked, Run, Exact, Refused, Check, Here, At, Inside, Each, ◌>>=◌, ◌>>◌}
+use Rattle.tz_info.specs.FilePieces.{FilePieces, from_types, from_ut_local}
 use Rattle.tz_info.specs.declared.zone.lists.{transition.Transition.{Transition}, leap_second.LeapSecond.{LeapSecond}}
+use Rattle.tz_base.specs.Grammar as grammar
+use Rattle.tz_base.specs.Refusals as refused
+use Rattle.tz_base.specs.declared.error.Expected.TheVariants as expected
 
 -- a number in two's complement, the highest byte first
 unfoldable pub signed : Width → List ℕ → ℤ
@@ -13,107 +19,92 @@ signed w bytes = cast_signed w (from_be_bytes w bytes)
 abbrev pub file_time : ℕ → List ℕ → ℤ
 file_time size bytes = if size == 4 then signed w32 bytes else signed w64 bytes
 
--- records of one size laid end to end, and what each of them spells
-abbrev pub AreRecords : {X : Type 0} → ℕ → (List ℕ → X → Type 0) → List ℕ → List X → Type 0
-AreRecords size Spells bytes [] = bytes ≡ []
-AreRecords size Spells bytes (x ∷ xs) =
-    (first : List ℕ) × (rest : List ℕ) × (bytes ≡ first ++ rest) × (length first ≡ size) × Spells first x × AreRecords size Spells rest xs
+-- of records of one size, laid end to end, that one
+abbrev pub record_at : ℕ → List ℕ → ℕ → List ℕ
+record_at size part k = take size (drop (k * size) part)
 
--- the first record that spells nothing has that fault
-pub record HasRecordFault {X : Type 0} (size : ℕ) (Spells : List ℕ → X → Type 0) (Fault : List ℕ → Error → Type 0) (bytes : List ℕ) (e : Error) : Type 0 where
-  pub before : List ℕ
-  pub faulty : List ℕ
-  pub after : List ℕ
-  pub whole : bytes ≡ before ++ (faulty ++ after)
-  pub earlier : List X
-  pub spelled : AreRecords size Spells before earlier
-  pub size_is : length faulty ≡ size
-  pub fault : Fault faulty e
+-- the values of the numbers below n, in order
+abbrev pub values_below : {X : Type 0} → ℕ → (ℕ → X) → List X
+values_below zero f = []
+values_below (suc n) f = values_below n f ++ f n ∷ []
 
 -- ---- transitions and leap seconds
--- the times in one part, in the other a byte for each type index
-pub record SpellTransitions (time_size : ℕ) (times type_indexes : List ℕ) (ts : List Transition) : Type 0 where
-  pub times_are : AreRecords time_size (λ bytes t. file_time time_size bytes ≡ t.unix_leap_time) times ts
-  pub indexes_are : type_indexes ≡ map (λ t. t.type_index) ts
+-- a transition's time is in one part, and in another the byte of its type index
+abbrev pub time_at : FilePieces → ℕ → ℤ
+time_at p k = file_time p.time_size (record_at p.time_size p.parts.times k)
 
--- a time, and a correction of four bytes
-pub record SpellsLeapSecond (time_size : ℕ) (bytes : List ℕ) (leap : LeapSecond) : Type 0 where
-  pub time : List ℕ
-  pub correction : List ℕ
-  pub whole : bytes ≡ time ++ correction
-  pub size : length time ≡ time_size
-  pub time_is : file_time time_size time ≡ leap.unix_leap_time
-  pub correction_is : signed w32 correction ≡ leap.correction
+abbrev pub transition_at : FilePieces → ℕ → Transition
+transition_at p k = record { unix_leap_time = time_at p k; type_index = slice_index p.parts.type_indexes k }
 
-abbrev pub SpellLeapSeconds : ℕ → List ℕ → List LeapSecond → Type 0
-SpellLeapSeconds time_size bytes leaps = AreRecords (time_size + 4) (SpellsLeapSecond time_size) bytes leaps
+-- a leap second: a time, and a correction of four bytes
+abbrev pub leap_second_of : ℕ → List ℕ → LeapSecond
+leap_second_of time_size bytes = record { unix_leap_time = file_time time_size (take time_size bytes); correction = signed w32 (drop time_size bytes) }
+
+abbrev pub leap_at : FilePieces → ℕ → LeapSecond
+leap_at p k = leap_second_of p.time_size (record_at (p.time_size + 4) p.parts.leap_seconds k)
 
 -- ---- local time types
-abbrev pub HasNoZero : List ℕ → Type 0
-HasNoZero [] = Unit {0}
-HasNoZero (b ∷ bs) = (b ≢ 0) × HasNoZero bs
+-- whether it is daylight saving time
+unfoldable pub mark : Grammar Bool
+mark = Marked 0 (Nothing false) (Marked 1 (Nothing true) (Refused (refused.InvalidTzFile expected.ZeroOrOneAsIsDst)))
 
--- the text that begins at that place of the designations and ends before the next 0 byte
-pub record StandsAt (designations : List ℕ) (place : ℕ) (text : List ℕ) : Type 0 where
-  pub before : List ℕ
-  pub after : List ℕ
-  pub whole : designations ≡ before ++ (text ++ (0 ∷ after))
-  pub at : length before ≡ place
-  pub ends : HasNoZero text
+abbrev pub is_not_zero : ℕ → Bool
+is_not_zero byte = not (byte == 0)
+
+-- at its place in the designations: the text up to the next 0 byte
+unfoldable pub designation : Grammar (List ℕ)
+designation = do
+  grammar.Some (refused.InvalidTzFile expected.NameWithinDesignations)
+  text ← Run is_not_zero
+  Marked 0 (Nothing text) (Refused (refused.InvalidTzFile expected.ZeroByteAfterName))
 
 -- an empty text is no name
 abbrev pub designation_of : List ℕ → Option (List ℕ)
 designation_of [] = None
 designation_of (b ∷ bs) = Some (b ∷ bs)
 
--- the mark of daylight saving time
-abbrev pub IsMark : ℕ → Bool → Type 0
-IsMark byte true = byte ≡ 1
-IsMark byte false = byte ≡ 0
-
--- the parts of a type's record: four bytes of the offset, the DST flag, and the place at which its designation begins
-abbrev pub offset_in : List ℕ → ℤ
-offset_in bytes = signed w32 (take 4 bytes)
-
-abbrev pub mark_in : List ℕ → ℕ
-mark_in bytes = slice_index bytes 4
-
-abbrev pub place_in : List ℕ → ℕ
-place_in bytes = slice_index bytes 5
-
 abbrev pub least_offset : ℤ
 least_offset = neg_ℤ (pos 2_147_483_648)
 
-pub record SpellsType (designations bytes : List ℕ) (t : LocalType) : Type 0 where
-  pub text : List ℕ
-  pub offset : offset_in bytes ≡ t.offset
-  pub above_least : least_offset <ℤ t.offset
-  pub mark : IsMark (mark_in bytes) t.dst
-  pub stands : StandsAt designations (place_in bytes) text
-  pub name : designation_of text ≡ t.name
-  pub name_fits : IsNameOrNone t.name
+-- an offset of 32 bits but the least one, and a name or none
+abbrev pub CanBeType : LocalType → Type 0
+CanBeType t = (least_offset <ℤ t.offset) × IsNameOrNone t.name
 
-abbrev pub SpellTypes : List ℕ → List ℕ → List LocalType → Type 0
-SpellTypes designations bytes types = AreRecords 6 (SpellsType designations) bytes types
+abbrev pub type_test : (t : LocalType) → Test (CanBeType t)
+type_test t = both (less least_offset t.offset) (name_or_none_test t.name)
 
--- what is expected of a place at which no text begins: a place within the designations, or else a 0 byte from it on
-abbrev pub expected_of_place : List ℕ → ℕ → Expected
-expected_of_place designations place = if nat_lt place (length designations) then ZeroByteAfterName else NameWithinDesignations
+unfoldable pub typed : List ℕ → List ℕ → LocalType → Grammar LocalType
+typed at_offset at_place t = At (if int_lt least_offset t.offset then at_place else at_offset)
+    (Check (CanBeType t) (type_test t) (refused.LocalTimeType (expected_of_type t.offset t.name)) t)
 
--- what is wrong with a type's record: its mark; else the place of its text, from which on no 0 byte comes; else its offset or
--- its name
-pub data TypeFault (designations bytes : List ℕ) : Error → Type 0 where
-  Other_mark : ((dst : Bool) → ¬ (IsMark (mark_in bytes) dst)) → TypeFault designations bytes (InvalidTzFile ZeroOrOneAsIsDst)
-  No_text : (dst : Bool) → IsMark (mark_in bytes) dst → ((text : List ℕ) → ¬ (StandsAt designations (place_in bytes) text))
-      → TypeFault designations bytes (InvalidTzFile (expected_of_place designations (place_in bytes)))
-  Other_type : (dst : Bool) (text : List ℕ) → IsMark (mark_in bytes) dst → StandsAt designations (place_in bytes) text
-      → ¬ ((least_offset <ℤ offset_in bytes) × IsNameOrNone (designation_of text))
-      → TypeFault designations bytes (LocalTimeType (expected_of_type (offset_in bytes) (designation_of text)))
+-- a type's record: four bytes of the offset, the DST flag, and where the designation begins. These are judged first; then the
+-- offset, and last the name, which is rejected where it is named
+unfoldable pub local_type : List ℕ → Grammar LocalType
+local_type designations = Here λ at_offset. do
+  offset ← Exact 4
+  dst ← mark
+  Here λ at_place. do
+    place ← Exact 1
+    text ← At at_place (Inside (drop (slice_index place 0) designations) [] designation)
+    typed at_offset at_place (record { offset = signed w32 offset; dst = dst; name = designation_of text })
 
-abbrev pub HasTypeFault : List ℕ → List ℕ → Error → Type 0
-HasTypeFault designations bytes e = HasRecordFault 6 (SpellsType designations) (TypeFault designations) bytes e
+unfoldable pub type_at : FilePieces → ℕ → Grammar LocalType
+type_at p k = Inside (record_at 6 p.parts.types k) (drop (k * 6) (from_types p)) (local_type p.parts.designations)
 
 -- ---- indicators
--- a type whose time is given in UT is also given in standard time; a missing indicator is 0
-abbrev pub IndicatorsAgree : List ℕ → List ℕ → Type 0
-IndicatorsAgree standard_wall ut_local = (k : ℕ) → slice_index standard_wall k ≡ 0 → slice_index ut_local k ≢ 1
+-- time that is given in UT is also given in standard time; a missing indicator is 0
+abbrev pub PairAgrees : List ℕ → List ℕ → ℕ → Type 0
+PairAgrees standard_wall ut_local k = slice_index standard_wall k ≡ 0 → slice_index ut_local k ≢ 1
+
+abbrev pub pair_test : (s u : List ℕ) (k : ℕ) → Test (PairAgrees s u k)
+pair_test s u k = never_both (equal (slice_index s k) 0) (equal (slice_index u k) 1)
+
+-- another pair is rejected at the UT/local indicator
+unfoldable pub pair_at : FilePieces → ℕ → Grammar (Unit {0})
+pair_at p k = At (drop k (from_ut_local p)) (Check (PairAgrees p.parts.standard_wall p.parts.ut_local k)
+    (pair_test p.parts.standard_wall p.parts.ut_local k) (refused.InvalidTzFile expected.StandardTimeWhereTimeIsUt) tt)
+
+unfoldable pub indicators : FilePieces → Grammar (Unit {0})
+indicators p = do
+  Each (length p.parts.ut_local) (pair_at p)
+  Nothing tt

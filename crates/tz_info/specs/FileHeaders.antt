@@ -1,8 +1,9 @@
 -- The headers of a TZif file (RFC 8536 section 3.1). The lines are the fields, in order.
-use Rattle.std.specs.Prelude.{ℕ, ◌≡◌, ◌≢◌, ◌≤◌, ◌==◌, ◌⊎◌, not, ◌&&◌, ◌||◌, Bool, true, false, List, [], ◌∷◌, length, take, drop, if◌then◌else◌}
+use Rattle.std.specs.Prelude.{ℕ, ◌≡◌, ◌≢◌, ◌≤◌, ◌==◌, ◌⊎◌, List, [], ◌∷◌, length, take, drop, if◌then◌else◌}
 use Rattle.std.specs.{Bool.{nat_eq}, Cmp.Lexicographic.{pointwise}}
-use Rattle.std.proofs.{Common.{arith, refl, inl, inr}, lemmas.{Bool.Decides.{Decides-eqb, nat_tests}, Slice.Eq.{slice_eq-Decides}}}
-use Rattle.tz_base.specs.{Grammar.{Grammar, Nothing, Marked, Exact, Refused, Check, Here, At, be_u32, ◌>>=◌, ◌>>◌}, Tests.{Test}}
+use Rattle.std.proofs.{Common.{refl}, lemmas.{Bool.Decides.{Decides-eqb}, Slice.Eq.{slice_eq-Decides}}}
+use Rattle.tz_base.specs.Grammar.{Grammar, Nothing, Marked, Exact, Refused, Check, Here, At, be_u32, ◌>>=◌, ◌>>◌}
+use Rattle.tz_base.specs.{Steps.Comparisons.{alike, both, equal, one_of, unlike}, Tests.{Test}}
 use Rattle.tz_info.specs.declared.file.header.{Place.{Place, TheVariants.{First, Second}}, Version.{Version, TheVariants.{One, Two, Three}}, Counts.{Counts}}
 use Rattle.tz_info.specs.declared.file.header.Header.{Header}
 use Rattle.tz_base.specs.Refusals as refused
@@ -12,11 +13,8 @@ use Rattle.tz_base.specs.declared.error.Expected.TheVariants as expected
 abbrev pub magic : List ℕ
 magic = 84 ∷ 90 ∷ 105 ∷ 102 ∷ []
 
-abbrev pub is_magic : List ℕ → Bool
-is_magic s = pointwise nat_eq s magic
-
 abbrev pub magic_test : (four : List ℕ) → Test (four ≡ magic)
-magic_test four = record { passes = is_magic four; decides = slice_eq-Decides Decides-eqb four magic (is_magic four) refl }
+magic_test four = record { passes = pointwise nat_eq four magic; decides = slice_eq-Decides Decides-eqb four magic _ refl }
 
 -- the first four bytes are not the magic
 abbrev pub HasOtherMagic : List ℕ → Type 0
@@ -59,8 +57,8 @@ six_counts = do
 abbrev pub IsNoneOrAll : ℕ → ℕ → Type 0
 IsNoneOrAll types n = (n ≡ 0) ⊎ (n ≡ types)
 
-abbrev pub is_none_or_all : ℕ → ℕ → Bool
-is_none_or_all types n = (n == 0) || (n == types)
+abbrev pub none_or_all : (types n : ℕ) → Test (IsNoneOrAll types n)
+none_or_all types n = one_of (equal n 0) (equal n types)
 
 -- there is a type and a byte of designations, and indicators are given for no type or for each
 pub record CountsAgree (c : Counts) : Type 0 where
@@ -69,42 +67,20 @@ pub record CountsAgree (c : Counts) : Type 0 where
   pub ut_local : IsNoneOrAll c.types c.ut_local
   pub standard_wall : IsNoneOrAll c.types c.standard_wall
 
--- the test of them
-abbrev pub counts_agree : Counts → Bool
-counts_agree c = not (c.types == 0) && not (c.designations == 0) && is_none_or_all c.types c.ut_local && is_none_or_all c.types c.standard_wall
-
-none_or_all : (types n : ℕ) → is_none_or_all types n ≡ true → IsNoneOrAll types n
-none_or_all types n t = elim (n == 0) as (λ b. n == 0 ≡ b → IsNoneOrAll types n) [
-  | true ↦ λ e. inl (grind (arith, nat_tests))
-  | false ↦ λ e. inr (grind (arith, nat_tests))
-] refl
-
-is_either : (types n : ℕ) → IsNoneOrAll types n → is_none_or_all types n ≡ true
-is_either types n (inl e) = grind (arith, nat_tests)
-is_either types n (inr e) = grind (arith, nat_tests)
-
-pub agree_from : (c : Counts) → counts_agree c ≡ true → CountsAgree c
-agree_from c t = record {
-  types = λ e. grind (arith, nat_tests);
-  designations = λ e. grind (arith, nat_tests);
-  ut_local = none_or_all c.types c.ut_local (grind (arith, nat_tests));
-  standard_wall = none_or_all c.types c.standard_wall (grind (arith, nat_tests));
-}
-
-pub agree_to : (c : Counts) → CountsAgree c → counts_agree c ≡ true
-agree_to c a =
-    let some : not (c.types == 0) ≡ true = let n = a.types in grind (arith, nat_tests) in
-    let texts : not (c.designations == 0) ≡ true = let n = a.designations in grind (arith, nat_tests) in
-    rw (some, texts, is_either c.types c.ut_local a.ut_local, is_either c.types c.standard_wall a.standard_wall) refl
-
 abbrev pub counts_test : (c : Counts) → Test (CountsAgree c)
-counts_test c = record { passes = counts_agree c; decides = (agree_from c, agree_to c) }
+counts_test c = alike (λ ((some_types, some_designations), (ut_local, standard_wall)). record {
+  types = some_types;
+  designations = some_designations;
+  ut_local = ut_local;
+  standard_wall = standard_wall;
+}) (λ a. ((a.types, a.designations), (a.ut_local, a.standard_wall)))
+    (both (both (unlike c.types 0) (unlike c.designations 0)) (both (none_or_all c.types c.ut_local) (none_or_all c.types c.standard_wall)))
 
 -- of counts that don't agree, how many bytes of the six are in front of the one that is rejected: that of types or of designations
 -- if it is 0, or else that of UT/local or of standard/wall indicators
 abbrev pub before_count : Counts → ℕ
 before_count c =
-    if c.types == 0 then 16 else (if c.designations == 0 then 20 else (if is_none_or_all c.types c.ut_local then 4 else 0))
+    if c.types == 0 then 16 else (if c.designations == 0 then 20 else (if (none_or_all c.types c.ut_local).passes then 4 else 0))
 
 -- `TZif`, a version, fifteen bytes of any value, six counts
 unfoldable pub header : Place → Grammar Header

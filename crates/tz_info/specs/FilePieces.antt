@@ -1,5 +1,5 @@
 -- The pieces of a TZif file (RFC 8536 section 3).
-use Rattle.std.specs.Prelude.{ℕ, ◌≡◌, Bool, true, false, List, [], Option, Some, None}
+use Rattle.std.specs.Prelude.{ℕ, ◌≡◌, Bool, true, false, List, [], ◌++◌, Option, Some, None}
 use Rattle.tz_base.specs.{Grammar.{Grammar, Nothing, End, Rest, Spells, HasFault, ◌>>=◌, ◌>>◌}, declared.error.Error.{Error}}
 use Rattle.tz_info.specs.{FileHeaders.{header}, FileBlocks.{Parts, block}, declared.file.counts.FileCounts.{FileCounts}}
 use Rattle.tz_info.specs.declared.file.header.{Place.TheVariants.{First, Second}, Version.{Version, TheVariants.{One, Two, Three}}, Counts.{Counts}}
@@ -15,6 +15,27 @@ pub record FilePieces : Type 0 where
   pub counts : Counts
   pub parts : Parts
   pub footer : Option (List ℕ)
+
+-- the bytes of the footer: none without a footer
+abbrev pub footer_bytes : Option (List ℕ) → List ℕ
+footer_bytes (Some footer) = footer
+footer_bytes None = []
+
+-- the bytes from a part on: the later parts, in order, and the footer
+abbrev pub from_ut_local : FilePieces → List ℕ
+from_ut_local p = p.parts.ut_local ++ footer_bytes p.footer
+
+abbrev pub from_leap_seconds : FilePieces → List ℕ
+from_leap_seconds p = p.parts.leap_seconds ++ (p.parts.standard_wall ++ from_ut_local p)
+
+abbrev pub from_types : FilePieces → List ℕ
+from_types p = p.parts.types ++ (p.parts.designations ++ from_leap_seconds p)
+
+abbrev pub from_type_indexes : FilePieces → List ℕ
+from_type_indexes p = p.parts.type_indexes ++ from_types p
+
+abbrev pub from_times : FilePieces → List ℕ
+from_times p = p.parts.times ++ from_type_indexes p
 
 abbrev pub is_extended : Version → Bool
 is_extended Three = true

@@ -1,40 +1,36 @@
 -- The footer of a TZif file (RFC 8536 section 3.3).
-use Rattle.std.specs.{Prelude.{ℕ, ◌≡◌, ◌≢◌, Bool, List, [], ◌∷◌, ◌++◌, slice_index, Option, Some, None}, Str.{IsUtf8}}
-use Rattle.tz_base.specs.declared.error.Error.{Error, TheVariants.{InvalidTzFile, Utf8}}
-use Rattle.tz_base.specs.declared.error.Expected.TheVariants.{FooterInUtf8, FooterBetweenNewlines, TzTextInFooter}
-use Rattle.tz_info.specs.{FileContents.{HasNoZero}, Trims.{IsTrimmed}, TzGrammar.{IsTzText, IsTextFault}}
+use Rattle.std.specs.{Prelude.{ℕ, ◌≡◌, ◌-◌, Bool, List, [], length, drop, slice_index, Option, Some, None}, Char.{is_ascii_whitespace}}
+use Rattle.std.specs.Str.{IsUtf8, Lossy.{utf8_valid_len}}
+use Rattle.tz_base.specs.{Fronts.{after_run}, Steps.{Comparisons.{equal}, TextTests.{utf8_test}}}
+use Rattle.tz_base.specs.Grammar.{Grammar, Nothing, Marked, Ended, End, Run, Refused, Check, Here, At, Inside, ◌>>=◌, ◌>>◌}
+use Rattle.tz_info.specs.{FileContents.{is_not_zero}, Trims.{trimmed}, TzGrammar.{colon, text}}
 use Rattle.tz_info.specs.declared.rule.transition_rule.TransitionRule.{TransitionRule}
+use Rattle.tz_base.specs.Refusals as refused
+use Rattle.tz_base.specs.declared.error.Expected.TheVariants as expected
 
--- a newline in front and a newline at the end; one alone is both
-pub record IsBetweenNewlines (bytes : List ℕ) : Type 0 where
-  pub after_first : List ℕ
-  pub before_last : List ℕ
-  pub starts : bytes ≡ 10 ∷ after_first
-  pub ends : bytes ≡ before_last ++ (10 ∷ [])
+-- a colon in front would name a file, and a 0 byte is in no TZ string; no text is no rule
+unfoldable pub footer_text : Bool → Grammar (Option TransitionRule)
+footer_text extended = Here λ bytes. do
+  Marked colon (At bytes (Refused (refused.InvalidTzFile expected.TzTextInFooter)))
+      (Inside bytes bytes (do Run is_not_zero; End (refused.InvalidTzFile expected.TzTextInFooter)))
+  Ended (Nothing None) (do rule ← text extended; Nothing (Some rule))
 
--- no text is no rule
-abbrev pub SaysRule : Bool → List ℕ → Option TransitionRule → Type 0
-SaysRule extended text None = text ≡ []
-SaysRule extended text (Some rule) = (text ≢ []) × IsTzText extended text rule
+-- the first byte that isn't UTF-8 is rejected
+unfoldable pub utf8 : Grammar (Unit {0})
+utf8 = Here λ bytes. At (drop (utf8_valid_len bytes) bytes) (Check (IsUtf8 bytes) (utf8_test bytes) (refused.Utf8 expected.FooterInUtf8) tt)
 
--- UTF-8 between newlines, and its text without the white space at its ends
-pub record HasText (bytes text : List ℕ) : Type 0 where
-  pub utf8 : IsUtf8 bytes
-  pub newlines : IsBetweenNewlines bytes
-  pub trimmed : IsTrimmed bytes text
+unfoldable pub newline : ℕ → Grammar (Unit {0})
+newline byte = Check (byte ≡ 10) (equal byte 10) (refused.InvalidTzFile expected.FooterBetweenNewlines) tt
 
-pub record IsFooter (extended : Bool) (bytes : List ℕ) (rule : Option TransitionRule) : Type 0 where
-  pub text : List ℕ
-  pub has_text : HasText bytes text
-  pub no_colon : slice_index text 0 ≢ 58
-  pub no_zero : HasNoZero text
-  pub says : SaysRule extended text rule
+-- UTF-8 with a newline in front and a newline at the end, where one alone is both, and the text without the white space at its ends
+unfoldable pub footer : Bool → Grammar (Option TransitionRule)
+footer extended = Here λ bytes. do
+  utf8
+  newline (slice_index bytes 0)
+  At [] (newline (slice_index bytes (length bytes - 1)))
+  Inside (trimmed bytes) (after_run is_ascii_whitespace bytes) (footer_text extended)
 
--- what is wrong with a footer
-pub data FooterFault (extended : Bool) (bytes : List ℕ) : Error → Type 0 where
-  Not_utf8 : ¬ (IsUtf8 bytes) → FooterFault extended bytes (Utf8 FooterInUtf8)
-  No_newlines : IsUtf8 bytes → ¬ (IsBetweenNewlines bytes) → FooterFault extended bytes (InvalidTzFile FooterBetweenNewlines)
-  Colon : (text : List ℕ) → HasText bytes text → slice_index text 0 ≡ 58 → FooterFault extended bytes (InvalidTzFile TzTextInFooter)
-  Zero : (text : List ℕ) → HasText bytes text → ¬ (HasNoZero text) → FooterFault extended bytes (InvalidTzFile TzTextInFooter)
-  In_text : (text : List ℕ) (e : Error) → HasText bytes text → slice_index text 0 ≢ 58 → HasNoZero text → text ≢ [] → IsTextFault extended text e
-      → FooterFault extended bytes e
+-- without a footer there is no rule
+unfoldable pub optional_footer : Bool → Option (List ℕ) → Grammar (Option TransitionRule)
+optional_footer extended None = Nothing None
+optional_footer extended (Some bytes) = Inside bytes bytes (footer extended)

@@ -1,11 +1,9 @@
 pub mod Counts
-pub mod Digits
 pub mod RuleDays
 pub mod RuleDayOf
 pub mod Rules
 pub mod Moments
 pub mod RuleTypes
-pub mod RuleEquality
 pub mod Lists
 pub mod Leaps
 pub mod Transitions
@@ -21,7 +19,6 @@ pub mod ChangesLeft
 pub mod Spans
 pub mod SpanSteps
 pub mod ShownSeconds
-pub mod Reached
 pub mod Differences
 pub mod Windows
 pub mod Looks

@@ -1,7 +1,7 @@
 -- The zones of TZ strings (POSIX.1 section 8.3, "TZ").
 use Rattle.std.specs.{Prelude.{ℕ, pos, ◌≡◌, ◌≢◌, ◌⊎◌, ◌+◌, false, true, List, [], ◌∷◌, Some, MatchOption}, Char.{is_ascii_whitespace}, List.{prefix_len}}
 use Rattle.tz_base.specs.{Errors.{IsOutOfMemory}, LocalTypes.{LocalType}, declared.{error.Error.{Error}, parse_error.ParseError.{ParseError}}}
-use Rattle.tz_info.specs.{Zones.{Zone, plain_zone, zone_of_rule}, Trims.{IsTrimmed}, TzGrammar.{IsTzText, IsTextFault, text_fault_position}}
+use Rattle.tz_info.specs.{Zones.{Zone, plain_zone, zone_of_rule}, Trims.{trimmed}, TzGrammar.{IsTzText, IsTextFault, text_fault_position}}
 use Rattle.tz_info.specs.declared.rule.transition_rule.TransitionRule.{TransitionRule}
 use Rattle.tz_info.specs.declared.rule.transition_rule.TransitionRule.TheVariants as rules
 
@@ -18,10 +18,8 @@ posix_zone rule = zone_of_rule (types_of rule) (Some rule)
 -- zone's rule
 pub record IsZoneOfText (text : List ℕ) (z : Zone) : Type 0 where
   pub some : text ≢ []
-  pub trimmed : List ℕ
   pub rule : TransitionRule
-  pub trims : IsTrimmed text trimmed
-  pub spells : IsTzText false trimmed rule
+  pub spells : IsTzText false (trimmed text) rule
   pub zone : z ≡ posix_zone rule
 
 -- an empty text is the zone of UTC, another the zone of its rule
@@ -29,11 +27,8 @@ abbrev pub IsPosixZone : List ℕ → Zone → Type 0
 IsPosixZone text z = ((text ≡ []) × (z ≡ plain_zone (pos 0))) ⊎ IsZoneOfText text z
 
 -- what is wrong with a text
-pub record IsPosixFault (text : List ℕ) (e : Error) : Type 0 where
-  pub some : text ≢ []
-  pub trimmed : List ℕ
-  pub trims : IsTrimmed text trimmed
-  pub fault : IsTextFault false trimmed e
+abbrev pub IsPosixFault : List ℕ → Error → Type 0
+IsPosixFault text e = (text ≢ []) × IsTextFault false (trimmed text) e
 
 -- the text spells, with the extensions of RFC 8536, section 3.3.1, the rule that the zone has at every instant
 abbrev pub IsExtendedZone : List ℕ → Zone → Type 0
@@ -45,10 +40,8 @@ abbrev pub IsPlaced : (ℕ → Type 0) → ParseError → Type 0
 IsPlaced IsPlace e = MatchOption e.position (IsOutOfMemory e.error) (λ place. ¬ (IsOutOfMemory e.error) × IsPlace place)
 
 -- the white space in front is counted
-pub record IsPosixFaultPlace (text : List ℕ) (place : ℕ) : Type 0 where
-  pub trimmed : List ℕ
-  pub trims : IsTrimmed text trimmed
-  pub counted : place ≡ prefix_len is_ascii_whitespace text + text_fault_position false trimmed
+abbrev pub IsPosixFaultPlace : List ℕ → ℕ → Type 0
+IsPosixFaultPlace text place = place ≡ prefix_len is_ascii_whitespace text + text_fault_position false (trimmed text)
 
 -- nothing is trimmed
 abbrev pub IsExtendedFaultPlace : List ℕ → ℕ → Type 0

@@ -1,7 +1,6 @@
 -- The days on which a rule changes the clock (POSIX.1 section 8.3, the forms `Jn`, `n` and `Mm.w.d` of a date).
-use Rattle.std.specs.Prelude.{ℕ, ◌≡◌, ◌≤◌, ◌<◌, ◌+◌, ◌-◌, ◌*◌, nat_le, Bool, ◌&&◌, if◌then◌else◌, true, false, ℤ, pos, ◌+ℤ◌, ◌⊎◌}
-use Rattle.std.proofs.{Common.{arith}, lemmas.Bool.Decides.{nat_tests}}
-use Rattle.tz_base.specs.{Tests.{Test}, declared.error.Expected.{Expected}}
+use Rattle.std.specs.Prelude.{ℕ, ◌≡◌, ◌≤◌, ◌<◌, ◌+◌, ◌-◌, ◌*◌, nat_le, ◌&&◌, if◌then◌else◌, false, ℤ, pos, ◌+ℤ◌, ◌⊎◌}
+use Rattle.tz_base.specs.{Tests.{Test}, Steps.Comparisons.{alike, at_most, between, three}, declared.error.Expected.{Expected}}
 use Rattle.tz_base.specs.declared.error.Expected.TheVariants.{DayFromJ1ToJ365, DayFrom0To365, MonthFrom1To12, WeekFrom1To5, WeekdayFrom0To6}
 use Rattle.naive_base.specs.{Month.{days_in_month, days_of_months}, Date.{IsDate, day_number}, Weekday.{weekday_of}}
 use Rattle.tz_info.specs.declared.rule.day.DayForm.{DayForm, TheVariants.{Julian1, Julian0, MonthWeekday}}
@@ -12,24 +11,11 @@ IsRuleDay (Julian1 n) = (1 ≤ n) × (n ≤ 365)
 IsRuleDay (Julian0 n) = n ≤ 365
 IsRuleDay (MonthWeekday month week weekday) = (1 ≤ month) × (month ≤ 12) × (1 ≤ week) × (week ≤ 5) × (weekday ≤ 6)
 
--- the test of them
-abbrev pub is_rule_day : DayForm → Bool
-is_rule_day (Julian1 n) = nat_le 1 n && nat_le n 365
-is_rule_day (Julian0 n) = nat_le n 365
-is_rule_day (MonthWeekday month week weekday) = nat_le 1 month && nat_le month 12 && nat_le 1 week && nat_le week 5 && nat_le weekday 6
-
-pub rule_day_from : (form : DayForm) → is_rule_day form ≡ true → IsRuleDay form
-rule_day_from (Julian1 n) h = grind (arith, nat_tests)
-rule_day_from (Julian0 n) h = grind (arith, nat_tests)
-rule_day_from (MonthWeekday m w d) h = grind (arith, nat_tests)
-
-pub rule_day_to : (form : DayForm) → IsRuleDay form → is_rule_day form ≡ true
-rule_day_to (Julian1 n) h = grind (arith, nat_tests)
-rule_day_to (Julian0 n) h = grind (arith, nat_tests)
-rule_day_to (MonthWeekday m w d) h = grind (arith, nat_tests)
-
 abbrev pub rule_day_test : (form : DayForm) → Test (IsRuleDay form)
-rule_day_test form = record { passes = is_rule_day form; decides = (rule_day_from form, rule_day_to form) }
+rule_day_test (Julian1 n) = between 1 n 365
+rule_day_test (Julian0 n) = at_most n 365
+rule_day_test (MonthWeekday month week weekday) = alike (λ ((a, b), (c, d), e). (a, b, c, d, e)) (λ (a, b, c, d, e). ((a, b), (c, d), e))
+    (three (between 1 month 12) (between 1 week 5) (at_most weekday 6))
 
 -- what is expected of numbers that no date may have: of a month, a week and a weekday the first that is out of its limits
 abbrev pub expected_of_day : DayForm → Expected

@@ -3,7 +3,7 @@
 use Rattle.std.specs.{Prelude.{ℤ, ◌+ℤ◌, ◌≤ℤ◌, ◌<ℤ◌, FitsSigned, Option, MatchOption}, Int.{w64}}
 use Rattle.offset_core.specs.WallAnswer.{IsNeverShown}
 use Rattle.tz_base.specs.LocalTypes.{LocalType}
-use Rattle.tz_info.specs.declared.zone.ask.shown_seconds.ShownSeconds.{ShownSeconds}
+use Rattle.tz_info.specs.{declared.zone.ask.shown_seconds.ShownSeconds.{ShownSeconds}, WallClocks.{Shows}}
 
 -- at the Unix time u, one of 64 bits, the type t is in force, and a clock of that type shows the local time `from`, or a later one that
 -- comes before `until`
@@ -46,3 +46,11 @@ pub record ShowsAtOrAfter (in_force : ℤ → LocalType → Type 0) (local u : �
 pub record IsFirstAtOrAfter (in_force : ℤ → LocalType → Type 0) (local u : ℤ) (t : LocalType) : Type 0 where
   pub shown : ShowsAtOrAfter in_force local u t
   pub first : (v : ℤ) (s : LocalType) → ShowsAtOrAfter in_force local v s → u ≤ℤ v
+
+-- at a Unix time of 64 bits at or before t a clock of the type in force shows the local time l, and at none of them a later one
+pub record IsLastReached (in_force : ℤ → LocalType → Type 0) (t l : ℤ) : Type 0 where
+  pub at : ℤ
+  pub local_type : LocalType
+  pub not_after : at ≤ℤ t
+  pub shown : Shows in_force l at local_type
+  pub last : (m u : ℤ) (s : LocalType) → u ≤ℤ t → Shows in_force m u s → m ≤ℤ l

@@ -1,6 +1,8 @@
 -- Steps of the proofs: what private functions ensure, and what private fields keep. No contract of a public function cites a
 -- page of this folder.
 pub mod Search
+pub mod RisingCounts
+pub mod Equivalences
 pub mod Hints
 pub mod Extremes
 pub mod Below
@@ -20,8 +22,6 @@ pub mod Since
 pub mod Prepared
 pub mod Spelled
 pub mod RuleSeconds
-pub mod ContentReading
-pub mod FooterReading
 pub mod FileLists
 pub mod Places
 pub mod Gaps

@@ -1,27 +1,12 @@
--- White space at both ends.
-use Rattle.std.specs.{Prelude.{◌≡◌, ℕ, List, [], ◌∷◌, ◌++◌, true, false}, Char.{is_ascii_whitespace}}
+-- White space of ASCII at both ends: spaces, tabs, line feeds, form feeds and carriage returns.
+use Rattle.std.specs.{Prelude.{ℕ, List, [], ◌∷◌, ◌&&◌, if◌then◌else◌}, Char.{is_ascii_whitespace}, List.{list_all}}
+use Rattle.tz_base.specs.Fronts.{after_run}
 
--- spaces, tabs, line feeds, form feeds and carriage returns alone
-abbrev pub IsSpace : List ℕ → Type 0
-IsSpace [] = Unit {0}
-IsSpace (b ∷ bs) = (is_ascii_whitespace b ≡ true) × IsSpace bs
+-- the bytes without that at their end
+abbrev pub without_end : List ℕ → List ℕ
+without_end [] = []
+without_end (b ∷ bs) = if list_all is_ascii_whitespace (b ∷ bs) then [] else b ∷ without_end bs
 
--- no white space in front, and none at the end
-abbrev pub BeginsBare : List ℕ → Type 0
-BeginsBare [] = Unit {0}
-BeginsBare (b ∷ bs) = is_ascii_whitespace b ≡ false
-
-abbrev pub EndsBare : List ℕ → Type 0
-EndsBare [] = Unit {0}
-EndsBare (b ∷ []) = is_ascii_whitespace b ≡ false
-EndsBare (b ∷ c ∷ cs) = EndsBare (c ∷ cs)
-
--- the text between the white space at both ends
-pub record IsTrimmed (bytes text : List ℕ) : Type 0 where
-  pub before : List ℕ
-  pub after : List ℕ
-  pub whole : bytes ≡ before ++ (text ++ after)
-  pub space_before : IsSpace before
-  pub space_after : IsSpace after
-  pub first : BeginsBare text
-  pub last : EndsBare text
+-- the bytes without that at both ends
+unfoldable pub trimmed : List ℕ → List ℕ
+trimmed bytes = without_end (after_run is_ascii_whitespace bytes)

@@ -1,9 +1,9 @@
 -- TZ strings, stdoffset[dst[offset],start[/time],end[/time]] (POSIX.1 section 8.3, "TZ"), with the extensions of RFC 8536
 -- section 3.3.1 if `extended` is true. The lines of a definition are the parts of the string, in order.
-use Rattle.std.specs.Prelude.{ℕ, ℤ, pos, neg_ℤ, ◌+ℤ◌, ◌+◌, ◌*◌, ◌≡◌, ◌≤◌, ◌≤ℤ◌, ◌==◌, nat_le, int_le, Bool, true, false, not, ◌&&◌, ◌||◌, if◌then◌else◌, List}
+use Rattle.std.specs.Prelude.{ℕ, ℤ, pos, neg_ℤ, ◌+ℤ◌, ◌+◌, ◌*◌, ◌≡◌, ◌≤◌, ◌≤ℤ◌, ◌==◌, nat_le, Bool, true, false, not, ◌&&◌, ◌||◌, if◌then◌else◌, List}
 use Rattle.std.specs.Prelude.{[], Some}
-use Rattle.std.proofs.{Common.{arith}, lemmas.{Bool.Decides.{nat_tests}, Int.{ints}}}
-use Rattle.tz_base.specs.{Names.{IsName, name_test, expected_of_name}, Tests.{Test}, LocalTypes.{LocalType}}
+use Rattle.tz_base.specs.{Names.{IsName, expected_of_name}, LocalTypes.{LocalType}}
+use Rattle.tz_base.specs.{Steps.{Comparisons.{at_most, no_greater, three}, TextTests.{name_test}}, Tests.{Test}}
 use Rattle.tz_base.specs.Grammar.{Grammar, Nothing, Marked, Optional, Ended, End, Byte, Run, Number, Check, Here, At, ◌>>=◌, ◌>>◌, Spells, HasFault}
 use Rattle.tz_base.specs.{Grammar.{fault_position}, declared.error.Error.{Error}}
 use Rattle.tz_info.specs.{RuleDays.{IsRuleDay, rule_day_test, expected_of_day}, declared.rule.day.DayForm.{DayForm}}
@@ -92,17 +92,8 @@ signed_seconds negative h m s = if negative then neg_ℤ (pos (3600 * h + 60 * m
 abbrev pub AreWithin : ℕ → ℕ → ℕ → ℕ → Type 0
 AreWithin limit h m s = (h ≤ limit) × (m ≤ 59) × (s ≤ 59)
 
-abbrev pub are_within : ℕ → ℕ → ℕ → ℕ → Bool
-are_within limit h m s = nat_le h limit && nat_le m 59 && nat_le s 59
-
-pub within_from : (limit h m s : ℕ) → are_within limit h m s ≡ true → AreWithin limit h m s
-within_from limit h m s t = (grind (arith, nat_tests), grind (arith, nat_tests), grind (arith, nat_tests))
-
-pub within_to : (limit h m s : ℕ) → AreWithin limit h m s → are_within limit h m s ≡ true
-within_to limit h m s (a, b, c) = grind (arith, nat_tests)
-
 abbrev pub within_test : (limit h m s : ℕ) → Test (AreWithin limit h m s)
-within_test limit h m s = record { passes = are_within limit h m s; decides = (within_from limit h m s, within_to limit h m s) }
+within_test limit h m s = three (at_most h limit) (at_most m 59) (at_most s 59)
 
 abbrev pub checked_seconds : ℕ → Bool → ℕ → ℕ → ℕ → Grammar ℤ
 checked_seconds limit negative h m s =
@@ -205,21 +196,9 @@ days extended = do
 abbrev pub IsHourMoreWithinDay : ℤ → Type 0
 IsHourMoreWithinDay std = (std +ℤ pos 3_600) ≤ℤ pos 86_399
 
-abbrev pub is_hour_more_within_day : ℤ → Bool
-is_hour_more_within_day std = int_le (std +ℤ pos 3_600) (pos 86_399)
-
-pub hour_more_from : (std : ℤ) → is_hour_more_within_day std ≡ true → IsHourMoreWithinDay std
-hour_more_from std t = grind (arith, ints)
-
-pub hour_more_to : (std : ℤ) → IsHourMoreWithinDay std → is_hour_more_within_day std ≡ true
-hour_more_to std l = grind (arith, ints)
-
-abbrev pub hour_more_test : (std : ℤ) → Test (IsHourMoreWithinDay std)
-hour_more_test std = record { passes = is_hour_more_within_day std; decides = (hour_more_from std, hour_more_to std) }
-
 -- left out, the offset is an hour more than that of standard time
 unfoldable pub next_hour : ℤ → Grammar ℤ
-next_hour std = Check (IsHourMoreWithinDay std) (hour_more_test std) (refused.InvalidTzString expected.OffsetOfDaylightSavingTimeWithinDay) (std +ℤ pos 3_600)
+next_hour std = Check (IsHourMoreWithinDay std) (no_greater _ _) (refused.InvalidTzString expected.OffsetOfDaylightSavingTimeWithinDay) (std +ℤ pos 3_600)
 
 -- a string that ends before the days is not supported
 unfoldable pub more : Grammar (Unit {0})

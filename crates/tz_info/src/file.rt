@@ -4,7 +4,8 @@ ghost use Rattle.std.specs.{Prelude.{◌≡◌, ◌⊎◌, IfErr, IfOk, MatchRes
 ghost use Rattle.{
   tz_base.specs.Errors.{IsOutOfMemory},
   tz_info.specs.{FileHeaders.{HasOtherMagic}, FilePlaces.{IsFilePlace}, PosixZones.{IsPlaced}},
-  tz_info.specs.{FilePieces.{FilePieces, HasPieces}, TzFiles.{IsFileFault, IsTzFile, IsZoneFault}},
+  tz_info.specs.{FilePieces.{FilePieces, HasPieces}, Steps.FileLists.{IsFaultAt}},
+  tz_info.specs.TzFiles.{IsFileFault, IsTzFile, IsZoneFault},
   tz_info.specs.Zones.{IsValid, Zone},
 };
 
@@ -14,15 +15,15 @@ pub(crate) mod counts;
 mod footer;
 mod header;
 mod numbers;
+mod pieces;
 mod place;
 mod reader;
 mod types;
 
 use crate::zone::TimeZone;
-use place::place_of_fault;
-use reader::read_lists;
+use reader::read_zone;
 use std::alloc::Global;
-use tz_base::{Error, Expected, ParseError};
+use tz_base::{Cursor, Error, Expected, ParseError};
 
 impl TimeZone {
     /// Returns the zone of a TZif file of version 1, 2 or 3 (RFC 8536 section 3). In version 1 the only
@@ -68,8 +69,8 @@ impl TimeZone {
         ensures magic { HasOtherMagic bytes.now
             → IsErrAnd result (λ e. e ≡ Error.InvalidTzFile Expected.TZifAtFrontOfHeader) }
     {
-        let lists = read_lists(alloc, bytes)?;
-        lists.into_zone(alloc)
+        let mut cursor = Cursor::new(bytes);
+        read_zone(alloc, &mut cursor)
     }
 
     /// Returns the zone of [`TimeZone::from_tz_data`], or its error with the position of the fault: the
@@ -97,6 +98,7 @@ impl TimeZone {
     /// | a footer | the first byte that isn't UTF-8 or a newline, the end if a newline is missing there, or the byte of the TZ string |
     /// | the lists | the type index, the time, or the entry of the leap second |
     /// | a rule that doesn't agree with the last transition | the TZ string |
+    #[tactic(auto, using(crate::proofs::TzFileLaws::reader))]
     pub fn parse_tz_data(alloc: Global, bytes: &[u8]) -> Result<TimeZone, ParseError>
         // The zone is the file's, and valid.
         ensures found { IfOk result (λ z. IsTzFile bytes.now z × IsValid z) }
@@ -114,21 +116,23 @@ impl TimeZone {
         ensures memory { IfErr result
             (λ e. e.error ≡ Error.OutOfMemory → (p : FilePieces) × HasPieces bytes.now p) }
     {
-        match TimeZone::from_tz_data(alloc, bytes) {
+        let mut cursor = Cursor::new(bytes);
+        match read_zone(alloc, &mut cursor) {
             Ok(zone) => Ok(zone),
-            Err(error) => Err(placed(bytes, error)),
+            Err(error) => Err(placed(bytes, cursor.remaining(), error)),
         }
     }
 }
 
-// The error with its position, of bytes that have that fault.
-fn placed(bytes: &[u8], error: Error) -> ParseError
+// The error with its position, which is that of the bytes that are left.
+fn placed(bytes: &[u8], left: &[u8], error: Error) -> ParseError
+    requires { IsFaultAt bytes.now error left.now }
     ensures error { result.error ≡ error }
     ensures place { IsPlaced (IsFilePlace bytes.now) result }
 {
     let position = match error {
         Error::OutOfMemory => None,
-        _ => Some(place_of_fault(bytes)),
+        _ => Some(bytes.len().saturating_sub(left.len())),
     };
     ParseError { error, position }
 }

@@ -8,7 +8,7 @@
 
 ghost use Rattle.std.specs.Prelude.{◌≡◌, ◌<◌, ◌≤◌, ◌+◌, ◌-◌, ◌*◌, ◌/◌, [], length, map, option_map, slice_index_or, ⊤, MatchResult};
 ghost use Rattle.{
-  tz_info.specs.{Counts.{HasRoomFor}, Digits.{digits}},
+  tz_info.specs.{Steps.RisingCounts.{HasRoomFor}, Looks.{digits}},
   tz_info.specs.Steps.Search.{IsNarrowedTo, AreEnds, AreOrdered, ArePassed, AreProbesCounted, IsLastOf, IsLeft},
 };
 

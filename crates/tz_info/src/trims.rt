@@ -1,7 +1,7 @@
 //! White space of ASCII at both ends of bytes.
 
 ghost use Rattle.std.specs.{Char.{is_ascii_whitespace}, List.{prefix_len}, Prelude.{◌≡◌, ◌≤◌, ◌+◌, length}};
-ghost use Rattle.tz_info.specs.Steps.FooterReading.{trimmed};
+ghost use Rattle.{tz_base.specs.Fronts.{after_run}, tz_info.specs.Trims.{trimmed}};
 
 /// Returns the bytes between it.
 pub fn trimmed(bytes: &[u8]) -> &[u8]
@@ -10,6 +10,13 @@ pub fn trimmed(bytes: &[u8]) -> &[u8]
         ≤ length bytes.now }
 {
     bytes.trim_ascii()
+}
+
+/// Returns the bytes after the white space in front.
+pub fn after_space(bytes: &[u8]) -> &[u8]
+    ensures { result.now ≡ after_run is_ascii_whitespace bytes.now }
+{
+    bytes.trim_ascii_start()
 }
 
 /// Returns how many bytes of it are in front.

@@ -12,7 +12,7 @@ use Rattle.tz_info.specs.{
   Steps.{Segments.{begin_of, index_of}, Starts.{leap_time_at}},
   Transitions.{AreRising, NameTypes, passed},
   Zones.{Zone, IsFromLast, index_at},
-  Digits.{digits},
+  Looks.{digits},
   declared.zone.made.change_table.{Between.{Between}, Come.{Come}},
   declared.zone.lists.{leap_second.LeapSecond.{LeapSecond}, table.Entry.{Entry}, transition.Transition.{Transition}},
 }
@@ -52,6 +52,19 @@ pub record AreEntries (z : Zone) (e : Entries) : Type 0 where
   pub come : (u x : ℤ) → FitsSigned w64 u → IsLeapTime z.leaps u x → IsFromLast z x ↔ (length (passed e.items u) ≡ e.all)
   pub leap_time : (k : ℕ) → k < length e.items → (x : ℤ) × IsLeapTime z.leaps (entry_time e.items k) x
   pub differ : (k : ℕ) → k < length e.items → k + 1 < e.all → slice_get z.types (index_of e.items (k + 1)) ≢ slice_get z.types (index_of e.items k)
+
+-- the first n entries change the type, except perhaps the last of all
+abbrev pub AllChange : List LocalType → List Transition → ℕ → Type 0
+AllChange types entries n =
+    (k : ℕ) → k < n → k + 1 < length entries → slice_get types (index_of entries (k + 1)) ≢ slice_get types (index_of entries k)
+
+-- one before the last doesn't
+abbrev pub IsSomeIdle : List LocalType → List Transition → Type 0
+IsSomeIdle types entries = (k : ℕ) × (k + 1 < length entries) × (slice_get types (index_of entries (k + 1)) ≡ slice_get types (index_of entries k))
+
+-- the transitions as listed are the entries, and all of them come
+abbrev pub as_listed : List Transition → Entries
+as_listed transitions = record { items = transitions; all = length transitions; transitions = transitions }
 
 -- the second s has a leap time, and is the first at which the leap time x has come
 pub record IsStartIn (leaps : List LeapSecond) (x s : ℤ) : Type 0 where

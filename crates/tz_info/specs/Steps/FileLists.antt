@@ -1,13 +1,13 @@
--- How the lists of a TZif file are parsed, and what its parser returns.
-use Rattle.std.specs.Prelude.{ℕ, ◌≡◌, ◌⊎◌, ◌*◌, ◌+◌, Result, Ok, Err, List, length, option_map}
-use Rattle.tz_base.specs.{Fronts.{◌>>=◌}, declared.error.Error.{Error}, Grammar.{read}}
+-- What the readers of a TZif file hand from one to the next, and what they return.
+use Rattle.std.specs.Prelude.{ℕ, ◌≡◌, ◌⊎◌, ◌*◌, ◌+◌, ◌-◌, ◌++◌, Result, Ok, Err, List, length, option_map}
+use Rattle.tz_base.specs.{Grammar.{Grammar, read, from_fault}, declared.error.Error.{Error, TheVariants.{OutOfMemory}}}
 use Rattle.tz_info.specs.{
   Zones.{Zone},
   FileBlocks.{parts_of},
-  FilePieces.{FilePieces, file},
-  TzFiles.{IsTzFile, IsZoneFault},
-  Steps.{ContentReading.{values_below, transition_in, leap_second_in, type_in, indicators_of}, FooterReading.{footer_of}},
-  declared.file.reader.{Pieces.{Pieces}, Lists.{Lists}},
+  FilePieces.{FilePieces, HasPieces, from_times, from_type_indexes, from_types, from_leap_seconds, from_ut_local},
+  FilePlaces.{IsFilePlace},
+  TzFiles.{IsFileFault},
+  declared.file.{pieces.Pieces.{Pieces}, place.FromParts.{FromParts}, reader.Lists.{Lists}},
 }
 
 abbrev pub pieces_of : Pieces → FilePieces
@@ -30,23 +30,26 @@ pub record HasLengths (p : FilePieces) : Type 0 where
   pub types : length p.parts.types ≡ p.counts.types * 6
   pub leap_seconds : length p.parts.leap_seconds ≡ p.counts.leap_seconds * (p.time_size + 4)
 
-unfoldable pub lists_in : FilePieces → Result Zone Error
-lists_in p = do
-  types ← values_below p.counts.types (type_in p.parts.designations p.parts.types)
-  agree ← indicators_of p.parts.standard_wall p.parts.ut_local
-  rule ← footer_of p.extended p.footer
-  transitions ← values_below p.counts.transitions (transition_in p.time_size p.parts.times p.parts.type_indexes)
-  leaps ← values_below p.counts.leap_seconds (leap_second_in p.time_size p.parts.leap_seconds)
-  Ok (record { transitions = transitions; types = types; leaps = leaps; rule = rule })
+-- and they end the file
+pub record EndFile (bytes : List ℕ) (p : FilePieces) : Type 0 where
+  pub lengths : HasLengths p
+  pub before : List ℕ
+  pub whole : bytes ≡ before ++ from_times p
 
--- the pieces of a file, and its lists
-unfoldable pub pieces_at : List ℕ → Result FilePieces Error
-pieces_at bytes = read file bytes >>= λ p. Ok p.0
+-- the bytes from each part on
+pub record AreFromParts (p : FilePieces) (from : FromParts) : Type 0 where
+  pub times : from.times.now ≡ from_times p
+  pub type_indexes : from.type_indexes.now ≡ from_type_indexes p
+  pub types : from.types.now ≡ from_types p
+  pub leap_seconds : from.leap_seconds.now ≡ from_leap_seconds p
+  pub ut_local : from.ut_local.now ≡ from_ut_local p
 
-unfoldable pub file_at : List ℕ → Result Zone Error
-file_at bytes = pieces_at bytes >>= lists_in
+-- `IsRead` of a call that may run out of memory
+abbrev pub IsReadInMemory : {X Y : Type 0} → Grammar Y → List ℕ → (X → Y) → Result X Error → List ℕ → Type 0
+IsReadInMemory g bytes view (Ok x) left = read g bytes ≡ Ok (view x, left)
+IsReadInMemory g bytes view (Err e) left = (e ≡ OutOfMemory) ⊎ ((read g bytes ≡ Err e) × (left ≡ from_fault g bytes))
 
--- the lists that the file spells, or why it gives no zone
-abbrev pub Reads : Result Lists Error → List ℕ → Type 0
-Reads (Ok lists) bytes = IsTzFile bytes (zone_of_lists lists)
-Reads (Err e) bytes = IsZoneFault bytes e
+-- why there is no zone: the fault of the file, from which on bytes are left, or too little memory
+abbrev pub IsFaultAt : List ℕ → Error → List ℕ → Type 0
+IsFaultAt bytes e left =
+    (IsFileFault bytes e × IsFilePlace bytes (length bytes - length left)) ⊎ ((e ≡ OutOfMemory) × ((p : FilePieces) × HasPieces bytes p))

@@ -12,12 +12,16 @@ use Rattle.tz_info.specs.{
   Zones.{Zone},
   declared.zone.made.{segments.{Segment.{Segment}, ZoneLists.{ZoneLists}}, pieces.Piece.{Piece}},
   declared.zone.made.shown.Shown.{Shown, TheVariants.{Skipped, Once, Several}},
-  declared.zone.lists.transition.Transition.{Transition},
+  declared.{rule.transition_rule.TransitionRule.{TransitionRule}, zone.lists.{leap_second.LeapSecond.{LeapSecond}, transition.Transition.{Transition}}},
 }
+
+-- the zone of those lists
+abbrev pub zone_of : List Transition → List LocalType → List LeapSecond → Option TransitionRule → Zone
+zone_of transitions types leaps rule = record { transitions = transitions; types = types; leaps = leaps; rule = rule }
 
 -- the zone of lists that are lent
 abbrev pub zone_in : ZoneLists → Zone
-zone_in l = record { transitions = l.transitions.now; types = l.types.now; leaps = l.leaps.now; rule = l.rule.now }
+zone_in l = zone_of l.transitions.now l.types.now l.leaps.now l.rule.now
 
 -- the answer's indexes are less than n
 abbrev pub AreBelow : ℕ → LocalResult ℕ → Type 0

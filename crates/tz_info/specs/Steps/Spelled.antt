@@ -1,11 +1,11 @@
 -- What the reader of a TZ string hands from one function to the next: the rule of it, and its limits.
 use Rattle.offset_core.specs.Offset.{IsWithinDay}
 use Rattle.std.specs.{Prelude.{ℕ, ℤ, ◌≡◌, ◌+◌, Bool, false, List, Result, Ok, Err, Some}, Char.{is_ascii_whitespace}, List.{prefix_len}}
-use Rattle.tz_base.specs.{LocalTypes.{LocalType}, declared.parse_error.ParseError.{ParseError}}
+use Rattle.tz_base.specs.{Fronts.{◌>>=◌}, Grammar.{read}, LocalTypes.{LocalType}, declared.{error.Error.{Error}, parse_error.ParseError.{ParseError}}}
 use Rattle.tz_info.specs.{
   Rules.{Alternate, IsWithinWeek},
-  Steps.FooterReading.{rule_in, trimmed},
-  TzGrammar.{text_fault_position},
+  Trims.{trimmed},
+  TzGrammar.{text, text_fault_position},
   declared.rule.{day.{DayForm.{DayForm}, DayTime.{DayTime}}, reader.text.Spelled.{Spelled}, transition_rule.TransitionRule.{TransitionRule}},
 }
 use Rattle.tz_info.specs.declared.rule.reader.text.Spelled.TheVariants as spelled
@@ -27,6 +27,10 @@ rule_of (spelled.Alternate std dst start end) = rules.Alternate (alternate_of st
 abbrev pub IsSpelled : Spelled → Type 0
 IsSpelled (spelled.Fixed t) = Unit {0}
 IsSpelled (spelled.Alternate std dst start end) = IsWithinDay std.offset × IsWithinDay dst.offset × IsWithinWeek start.1 × IsWithinWeek end.1
+
+-- the rule of a TZ string, which goes to the end
+unfoldable pub rule_in : Bool → List ℕ → Result TransitionRule Error
+rule_in extended bytes = read (text extended) bytes >>= λ p. Ok p.0
 
 -- what all bytes of a string were read as: the rule, or the error and its place
 abbrev pub IsParsed : Bool → List ℕ → Result TransitionRule ParseError → Type 0

@@ -1,8 +1,8 @@
 -- From which second on, and up to which one, a zone has a type.
-use Rattle.std.specs.{Prelude.{ℤ, pos, ◌≡◌, ◌-ℤ◌, ◌≤ℤ◌, ◌<ℤ◌, FitsSigned, Option, Some, MatchOption}, Int.{w64}}
+use Rattle.std.specs.{Prelude.{ℤ, pos, ◌<◌, length, ◌≡◌, ◌-ℤ◌, ◌≤ℤ◌, ◌<ℤ◌, FitsSigned, Option, Some, MatchOption}, Int.{w64}}
 use Rattle.{
   tz_base.specs.{LocalTypes.{LocalType}, declared.change.Change.{Change}},
-  tz_info.specs.{Leaps.{least_time}, Zones.{Zone, TypeAt}},
+  tz_info.specs.{Leaps.{IsLeapTime, IsLeapTimeRefused, least_time}, Zones.{Zone, TypeAt}},
 }
 
 -- the zone has a type at the second u
@@ -27,12 +27,12 @@ pub record IsLastTyped (z : Zone) (u : ℤ) : Type 0 where
   pub none : (v : ℤ) → FitsSigned w64 v → u <ℤ v → ¬ (IsTyped z v)
   pub far : pos 10_000_000_000_000 ≤ℤ u
 
--- a known second that has a type, far from now, and a later one that has none
-pub record IsSearched (z : Zone) (known end : ℤ) : Type 0 where
-  pub typed : IsTyped z known
-  pub not : ¬ (IsTyped z end)
-  pub far : pos 10_000_000_000_000 ≤ℤ known
-  pub less : known <ℤ end
+-- each second up to u has a leap time, if there is a transition, and no later one; u is far from now
+pub record IsLastTimed (z : Zone) (u : ℤ) : Type 0 where
+  pub fits : FitsSigned w64 u
+  pub has : (v : ℤ) → FitsSigned w64 v → v ≤ℤ u → 0 < length z.transitions → (x : ℤ) × IsLeapTime z.leaps v x
+  pub none : (v : ℤ) → FitsSigned w64 v → u <ℤ v → (0 < length z.transitions) × IsLeapTimeRefused z.leaps v
+  pub far : pos 10_000_000_000_000 ≤ℤ u
 
 -- the first second that has a type, or nothing if the first one of 64 bits has one
 abbrev pub IsTypedFrom : Zone → Option ℤ → Type 0

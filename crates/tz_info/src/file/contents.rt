@@ -1,31 +1,31 @@
 //! What the records of a data block say (RFC 8536 section 3.2).
 
-ghost use Rattle.std.specs.Prelude.{◌≡◌, ◌⊎◌, ◌+◌, ◌*◌, length, slice_index};
+ghost use Rattle.std.specs.Prelude.{◌≡◌, ◌⊎◌, ◌+◌, length, slice_index, MatchResult};
 ghost use Rattle.{
-  tz_base.specs.Fronts.{Gives},
-  tz_info.specs.Steps.ContentReading.{transition_in, values_below, GivesInMemory, indicators_of, leap_second_in},
-  tz_info.specs.Steps.ContentReading.{leap_second_of, pair_agrees},
+  tz_base.specs.Grammar.{IsRead},
+  tz_info.specs.FileContents.{indicators, leap_at, leap_second_of, pair_test, transition_at, values_below},
+  tz_info.specs.Steps.FileLists.{pieces_of, EndFile, HasLengths},
 };
 
+use crate::file::header::after;
 use crate::file::numbers::{record_at, signed_32, time_of};
+use crate::file::pieces::Pieces;
+use crate::file::place::from_parts;
 use crate::zone::LeapSecond;
 use crate::zone::lists::kept::Kept;
 use std::alloc::Global;
-use tz_base::{Error, Expected};
+use tz_base::{Cursor, Error, Expected};
 
-/// The transitions of a block: a time and a type index for each.
-pub fn read_transitions(
-    alloc: Global,
-    time_size: usize,
-    times: &[u8],
-    type_indexes: &[u8],
-) -> Result<Vec<Kept>, Error>
-    requires size { (time_size ≡ 4) ⊎ (time_size ≡ 8) }
-    requires room { length times.now ≡ length type_indexes.now * time_size }
-    ensures { GivesInMemory (λ v. v.items) result
-        (values_below (length type_indexes.now)
-        (transition_in time_size times.now type_indexes.now)) }
+/// The transitions: a time and a type index for each.
+pub fn read_transitions(alloc: Global, pieces: &Pieces<'_>) -> Result<Vec<Kept>, Error>
+    requires { HasLengths (pieces_of pieces.now) }
+    ensures { MatchResult result
+        (λ v. v.items ≡ values_below pieces.now.counts.transitions (transition_at (pieces_of pieces.now)))
+        (λ e. e ≡ Error.OutOfMemory) }
 {
+    let time_size = pieces.time_size;
+    let times = pieces.block.times;
+    let type_indexes = pieces.block.type_indexes;
     let mut transitions = Vec::with_capacity(alloc, type_indexes.len())?;
     for k in 0..type_indexes.len() {
         transitions.push_reserved(Kept::of(
@@ -36,18 +36,16 @@ pub fn read_transitions(
     Ok(transitions)
 }
 
-/// The leap seconds of a block: each a time and a correction of four bytes.
-pub fn read_leap_seconds(
-    alloc: Global,
-    time_size: usize,
-    count: usize,
-    part: &[u8],
-) -> Result<Vec<LeapSecond>, Error>
-    requires size { (time_size ≡ 4) ⊎ (time_size ≡ 8) }
-    requires room { length part.now ≡ count * (time_size + 4) }
-    ensures { GivesInMemory (λ v. v.items) result
-        (values_below count (leap_second_in time_size part.now)) }
+/// The leap seconds: each a time and a correction of four bytes.
+pub fn read_leap_seconds(alloc: Global, pieces: &Pieces<'_>) -> Result<Vec<LeapSecond>, Error>
+    requires { HasLengths (pieces_of pieces.now) }
+    ensures { MatchResult result
+        (λ v. v.items ≡ values_below pieces.now.counts.leap_seconds (leap_at (pieces_of pieces.now)))
+        (λ e. e ≡ Error.OutOfMemory) }
 {
+    let time_size = pieces.time_size;
+    let part = pieces.block.leap_seconds;
+    let count = pieces.counts.leap_seconds as usize;
     let mut leap_seconds = Vec::with_capacity(alloc, count)?;
     for k in 0..count {
         leap_seconds.push_reserved(leap_second_of(time_size, record_at(part, time_size + 4, k)));
@@ -68,12 +66,20 @@ pub fn leap_second_of(time_size: usize, bytes: &[u8]) -> LeapSecond
 }
 
 /// No type is given in UT and not in standard time. An indicator that the file leaves out is 0.
-#[tactic(auto, unfolding(crate::specs::Steps::ContentReading::indicators_of))]
-pub fn check_indicators(standard_wall: &[u8], ut_local: &[u8]) -> Result<(), Error>
-    ensures { Gives (λ _. tt) result (indicators_of standard_wall.now ut_local.now) }
+#[tactic(auto, unfolding(crate::specs::FileContents::indicators, crate::specs::FileContents::pair_at))]
+pub fn check_indicators<'a>(
+    bytes: &'a [u8],
+    pieces: &Pieces<'_>,
+    cursor: &mut Cursor<'a>,
+) -> Result<(), Error>
+    requires { EndFile bytes.now (pieces_of pieces.now) }
+    ensures { IsRead (indicators (pieces_of pieces.now)) cursor.old (λ unit. unit) result cursor.new }
 {
+    let standard_wall = pieces.block.standard_wall;
+    let ut_local = pieces.block.ut_local;
     for k in 0..ut_local.len() {
         if !pair_agrees(standard_wall, ut_local, k) {
+            *cursor = Cursor::new(after(from_parts(bytes, pieces).ut_local, k));
             return Err(Error::InvalidTzFile(Expected::StandardTimeWhereTimeIsUt));
         }
     }
@@ -81,7 +87,7 @@ pub fn check_indicators(standard_wall: &[u8], ut_local: &[u8]) -> Result<(), Err
 }
 
 fn pair_agrees(standard_wall: &[u8], ut_local: &[u8], k: usize) -> bool
-    ensures { result ≡ pair_agrees standard_wall.now ut_local.now k }
+    ensures { result ≡ (pair_test standard_wall.now ut_local.now k).passes }
 {
     !(byte_or_zero(standard_wall, k) == 0 && byte_or_zero(ut_local, k) == 1)
 }

@@ -3,7 +3,7 @@
 ghost use Rattle.std.specs.Prelude.{◌≡◌, ◌↔◌};
 ghost use Rattle.tz_info.specs.FilePieces.{HasCounts};
 
-use crate::file::reader::read_pieces;
+use crate::file::pieces::read_pieces;
 use crate::zone::TimeZone;
 use tz_base::Cursor;
 

@@ -1,64 +1,107 @@
 //! The footer of a file (RFC 8536 section 3.3).
 
-ghost use Rattle.std.specs.{List.{list_any}, Prelude.{◌≡◌}, Str.{is_utf8}};
+ghost use Rattle.std.specs.Prelude.{◌≡◌, option_map};
 ghost use Rattle.{
-  tz_base.specs.Fronts.{Gives},
-  tz_info.specs.Steps.{ContentReading.{is_zero}, FooterReading.{footer_at, is_between_newlines, is_no_text}},
+  tz_base.specs.Grammar.{IsRead},
+  tz_info.specs.Footers.{footer, footer_text, optional_footer, utf8},
 };
 
 use crate::file::contents::byte_or_zero;
+use crate::file::header::after;
+use crate::file::pieces::Pieces;
+use crate::file::place::fault_inside;
+use crate::file::types::read_to_zero;
 use crate::rule::TransitionRule;
-use crate::rule::reader::read_all;
-use crate::trims::trimmed;
-use tz_base::{Error, Expected};
+use crate::rule::reader::read_some_rule;
+use crate::trims::{after_space, trimmed};
+use std::str;
+use tz_base::{Cursor, Error, Expected};
 
-/// Returns the rule of a footer, the TZ string between two newlines, or `None` if that is empty.
-#[tactic(auto, unfolding(crate::specs::Steps::FooterReading::footer_at, crate::specs::Steps::FooterReading::rule_in))]
-pub fn read_footer(extended: bool, bytes: &[u8]) -> Result<Option<TransitionRule>, Error>
-    ensures { Gives (λ r. r) result (footer_at extended bytes.now) }
+/// The rule of the footer, if there is one.
+#[tactic(auto, unfolding(crate::specs::Footers::optional_footer))]
+pub fn read_footer_rule<'a>(
+    pieces: &Pieces<'a>,
+    cursor: &mut Cursor<'a>,
+) -> Result<Option<TransitionRule>, Error>
+    ensures { IsRead (optional_footer pieces.now.extended (option_map (λ f. f.now) pieces.now.footer))
+        cursor.old (λ r. r) result cursor.new }
 {
-    if !is_utf8(bytes) {
-        return Err(Error::Utf8(Expected::FooterInUtf8));
+    match pieces.footer {
+        Some(bytes) => {
+            let mut inside = Cursor::new(bytes);
+            match read_footer(pieces.extended, &mut inside) {
+                Ok(rule) => Ok(rule),
+                Err(error) => {
+                    *cursor = fault_inside(bytes, &inside, bytes);
+                    Err(error)
+                }
+            }
+        }
+        None => Ok(None),
     }
-    if !is_between_newlines(bytes) {
+}
+
+// The TZ string between two newlines, or `None` if that is empty. One newline alone begins and ends
+// the footer.
+#[tactic(auto, unfolding(crate::specs::Footers::footer, crate::specs::Footers::newline))]
+fn read_footer(extended: bool, cursor: &mut Cursor<'_>) -> Result<Option<TransitionRule>, Error>
+    ensures { IsRead (footer extended) cursor.old (λ r. r) result cursor.new }
+{
+    let bytes = cursor.remaining();
+    check_utf8(cursor)?;
+    if byte_or_zero(bytes, 0) != b'\n' {
+        return Err(Error::InvalidTzFile(Expected::FooterBetweenNewlines));
+    }
+    if byte_or_zero(bytes, bytes.len().saturating_sub(1)) != b'\n' {
+        *cursor = Cursor::new(&[]);
         return Err(Error::InvalidTzFile(Expected::FooterBetweenNewlines));
     }
     let text = trimmed(bytes);
-    if is_no_text(text) {
-        return Err(Error::InvalidTzFile(Expected::TzTextInFooter));
-    }
-    if text.is_empty() {
-        return Ok(None);
-    }
-    Ok(Some(read_all(text, extended)?))
-}
-
-#[tactic(auto, using(crate::proofs::FooterLaws::utf8_tests))]
-fn is_utf8(bytes: &[u8]) -> bool
-    ensures { result ≡ is_utf8 bytes.now }
-{
-    match std::str::from_utf8(bytes) {
-        Ok(_) => true,
-        Err(_) => false,
+    let mut inside = Cursor::new(text);
+    match read_footer_text(extended, &mut inside) {
+        Ok(rule) => Ok(rule),
+        Err(error) => {
+            *cursor = fault_inside(text, &inside, after_space(bytes));
+            Err(error)
+        }
     }
 }
 
-// One newline alone begins and ends the footer.
-pub fn is_between_newlines(bytes: &[u8]) -> bool
-    ensures { result ≡ is_between_newlines bytes.now }
+#[tactic(auto, using(crate::proofs::FooterLaws::utf8_tests), unfolding(crate::specs::Footers::utf8))]
+fn check_utf8(cursor: &mut Cursor<'_>) -> Result<(), Error>
+    ensures { IsRead utf8 cursor.old (λ unit. unit) result cursor.new }
 {
-    bytes.starts_with(b"\n") && bytes.ends_with(b"\n")
+    let bytes = cursor.remaining();
+    match str::from_utf8(bytes) {
+        Ok(_) => Ok(()),
+        Err(error) => {
+            *cursor = Cursor::new(after(bytes, error.valid_up_to()));
+            Err(Error::Utf8(Expected::FooterInUtf8))
+        }
+    }
 }
 
 // A colon in front would name a file, and a 0 byte is in no TZ string.
-fn is_no_text(text: &[u8]) -> bool
-    ensures { result ≡ is_no_text text.now }
+#[tactic(auto, unfolding(crate::specs::Footers::footer_text))]
+fn read_footer_text(
+    extended: bool,
+    cursor: &mut Cursor<'_>,
+) -> Result<Option<TransitionRule>, Error>
+    ensures { IsRead (footer_text extended) cursor.old (λ r. r) result cursor.new }
 {
-    byte_or_zero(text, 0) == b':' || has_zero(text)
-}
-
-fn has_zero(bytes: &[u8]) -> bool
-    ensures { result ≡ list_any is_zero bytes.now }
-{
-    bytes.iter().any(|byte| *byte == 0)
+    let bytes = cursor.remaining();
+    if cursor.read_optional_tag(b":") {
+        *cursor = Cursor::new(bytes);
+        return Err(Error::InvalidTzFile(Expected::TzTextInFooter));
+    }
+    let mut inside = Cursor::new(bytes);
+    let _front = read_to_zero(&mut inside);
+    if !inside.is_empty() {
+        *cursor = fault_inside(bytes, &inside, bytes);
+        return Err(Error::InvalidTzFile(Expected::TzTextInFooter));
+    }
+    if cursor.is_empty() {
+        return Ok(None);
+    }
+    read_some_rule(extended, cursor)
 }

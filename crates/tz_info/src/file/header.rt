@@ -1,9 +1,9 @@
 //! The headers of a file (RFC 8536 section 3.1).
 
-ghost use Rattle.std.specs.{Prelude.{◌≡◌, drop}, Result.{IsErrAnd}};
+ghost use Rattle.std.specs.Prelude.{◌≡◌, drop, length, IfOk};
 ghost use Rattle.{
   tz_base.specs.Grammar.{be_u32, Exact, IsRead},
-  tz_info.specs.FileHeaders.{before_count, counts_agree, header, six_counts, tzif, version, HasOtherMagic},
+  tz_info.specs.FileHeaders.{before_count, counts_test, header, six_counts, tzif, version},
 };
 
 use crate::rule::reader::place::checked_at;
@@ -47,9 +47,7 @@ pub struct Header {
 
 #[tactic(auto, unfolding(crate::specs::FileHeaders::header))]
 pub fn read_header(cursor: &mut Cursor<'_>, place: Place) -> Result<Header, Error>
-    ensures header { IsRead (header place) cursor.old (λ h. h) result cursor.new }
-    ensures magic { HasOtherMagic cursor.old
-        → IsErrAnd result (λ e. e ≡ Error.InvalidTzFile Expected.TZifAtFrontOfHeader) }
+    ensures { IsRead (header place) cursor.old (λ h. h) result cursor.new }
 {
     read_magic(cursor)?;
     let version = read_version(cursor, place)?;
@@ -63,11 +61,9 @@ pub fn read_header(cursor: &mut Cursor<'_>, place: Place) -> Result<Header, Erro
     Ok(Header { version, counts })
 }
 
-#[tactic(auto, using(crate::specs::FileHeaders::magic_test), unfolding(crate::specs::FileHeaders::tzif, tz_base::specs::Fronts::exact_at),)]
+#[tactic(auto, using(crate::specs::FileHeaders::magic_test), unfolding(crate::specs::FileHeaders::tzif))]
 fn read_magic(cursor: &mut Cursor<'_>) -> Result<(), Error>
-    ensures rest { IsRead tzif cursor.old (λ unit. unit) result cursor.new }
-    ensures magic { HasOtherMagic cursor.old
-        → IsErrAnd result (λ e. e ≡ Error.InvalidTzFile Expected.TZifAtFrontOfHeader) }
+    ensures { IsRead tzif cursor.old (λ unit. unit) result cursor.new }
 {
     let at_magic = cursor.remaining();
     let front = read_exact(cursor, 4)?;
@@ -127,13 +123,15 @@ fn read_be_u32(cursor: &mut Cursor<'_>) -> Result<u32, Error>
 
 /// The next `count` bytes. If fewer are left, the cursor goes to their end, where the fault is.
 pub fn read_exact<'a>(cursor: &mut Cursor<'a>, count: usize) -> Result<&'a [u8], Error>
-    ensures { IsRead (Exact count) cursor.old (λ bytes. bytes.now) result cursor.new }
+    ensures bytes { IsRead (Exact count) cursor.old (λ bytes. bytes.now) result cursor.new }
+    ensures len { IfOk result (λ bytes. length bytes.now ≡ count) }
 {
     let bytes = cursor.read_exact(count);
     checked_at(&[], cursor, bytes)
 }
 
-fn after(bytes: &[u8], count: usize) -> &[u8]
+/// The bytes after the first `count`.
+pub fn after(bytes: &[u8], count: usize) -> &[u8]
     ensures { result.now ≡ drop count bytes.now }
 {
     if count < bytes.len() {
@@ -146,7 +144,7 @@ fn after(bytes: &[u8], count: usize) -> &[u8]
 impl Counts {
     // There is a type and a byte of names, and indicators are given for no type or for each.
     fn agree(&self) -> bool
-        ensures { result ≡ counts_agree self.now }
+        ensures { result ≡ (counts_test self.now).passes }
     {
         self.types != 0
             && self.designations != 0

@@ -1,7 +1,7 @@
 //! Signed numbers in a file, the highest byte first, and the records of a part.
 
 ghost use Rattle.std.specs.{Int.{w32, w64}, Prelude.{◌≡◌, ◌⊎◌, ◌≤◌, ◌+◌, ◌*◌, length}};
-ghost use Rattle.tz_info.specs.{FileContents.{file_time, signed}, Steps.ContentReading.{record_at}};
+ghost use Rattle.tz_info.specs.FileContents.{file_time, record_at, signed};
 
 /// Returns the record at that place, if each has that size.
 pub fn record_at(part: &[u8], size: usize, place: usize) -> &[u8]

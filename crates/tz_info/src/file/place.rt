@@ -1,70 +1,54 @@
-//! Where a file is at fault, as the number of bytes in front of the fault.
+//! The bytes of a file from a fault on.
 
-ghost use Rattle.std.specs.Prelude.{◌≡◌, length, option_map};
+ghost use Rattle.std.specs.Prelude.{◌≡◌, ◌-◌, drop, length, option_map};
 ghost use Rattle.{
-  tz_info.specs.{FilePieces.{HasPieces}, FilePlaces.{footer_bytes, ArePartPlaces, IsFilePlace}},
-  tz_info.specs.Steps.FileLists.{pieces_of},
+  tz_info.specs.FilePieces.{footer_bytes},
+  tz_info.specs.Steps.FileLists.{pieces_of, AreFromParts, EndFile},
 };
 
-mod contents;
-mod footer;
-mod lists;
+pub mod lists;
 
-use crate::file::reader::{Pieces, read_pieces};
-use contents::place_in_contents;
+use crate::file::header::after;
+use crate::file::pieces::Pieces;
 use tz_base::Cursor;
 
-/// Where the parts of the last data block begin, and where the footer and the file end.
+/// The bytes of a file from the parts of the last data block on.
 #[derive(Clone, Copy)]
-pub struct PartPlaces {
-    pub times: usize,
-    pub type_indexes: usize,
-    pub types: usize,
-    pub designations: usize,
-    pub leap_seconds: usize,
-    pub standard_wall: usize,
-    pub ut_local: usize,
-    pub footer: usize,
-    pub end: usize,
+pub struct FromParts<'a> {
+    pub times: &'a [u8],
+    pub type_indexes: &'a [u8],
+    pub types: &'a [u8],
+    pub leap_seconds: &'a [u8],
+    pub ut_local: &'a [u8],
 }
 
-/// Returns the position of the fault of a file that has one.
-#[tactic(auto, using(crate::proofs::FilePieceLaws::pieces_read))]
-pub fn place_of_fault(bytes: &[u8]) -> usize
-    ensures { IsFilePlace bytes.now result }
-{
-    let mut cursor = Cursor::new(bytes);
-    match read_pieces(&mut cursor) {
-        Ok(pieces) => place_in_contents(&pieces, places_of_parts(bytes, &pieces)),
-        Err(_) => bytes.len().saturating_sub(cursor.remaining().len()),
-    }
-}
-
-// The parts follow one another, and the footer ends the file.
-#[tactic(auto, using(crate::proofs::FilePlaceOnce::fit))]
-fn places_of_parts(bytes: &[u8], pieces: &Pieces<'_>) -> PartPlaces
-    requires { HasPieces bytes.now (pieces_of pieces.now) }
-    ensures places { ArePartPlaces (pieces_of pieces.now) result }
-    ensures end { result.end ≡ length bytes.now }
+/// Returns them. The parts follow one another, and the footer ends the file.
+pub fn from_parts<'a>(bytes: &'a [u8], pieces: &Pieces<'_>) -> FromParts<'a>
+    requires { EndFile bytes.now (pieces_of pieces.now) }
+    ensures { AreFromParts (pieces_of pieces.now) result }
 {
     let block = pieces.block;
     let footer = bytes.len() - footer_bytes(pieces.footer).len();
-    let ut_local = footer - block.ut_local.len();
-    let standard_wall = ut_local - block.standard_wall.len();
-    let leap_seconds = standard_wall - block.leap_seconds.len();
-    let designations = leap_seconds - block.designations.len();
-    let types = designations - block.types.len();
-    let type_indexes = types - block.type_indexes.len();
-    PartPlaces {
-        times: type_indexes - block.times.len(),
+    let leap_seconds = footer
+        - block.ut_local.len()
+        - block.standard_wall.len()
+        - block.leap_seconds.len();
+    let type_indexes = leap_seconds
+        - block.designations.len()
+        - block.types.len()
+        - block.type_indexes.len();
+    let times = after(bytes, type_indexes - block.times.len());
+    let type_indexes = after(times, block.times.len());
+    let types = after(type_indexes, block.type_indexes.len());
+    let designations = after(types, block.types.len());
+    let leap_seconds = after(designations, block.designations.len());
+    let standard_wall = after(leap_seconds, block.leap_seconds.len());
+    FromParts {
+        times,
         type_indexes,
         types,
-        designations,
         leap_seconds,
-        standard_wall,
-        ut_local,
-        footer,
-        end: bytes.len(),
+        ut_local: after(standard_wall, block.standard_wall.len()),
     }
 }
 
@@ -76,4 +60,11 @@ pub fn footer_bytes(footer: Option<&[u8]>) -> &[u8]
         Some(bytes) => bytes,
         None => &[],
     }
+}
+
+/// Returns the cursor that is as far behind the front of `from` as the other one is in the part.
+pub fn fault_inside<'a>(part: &[u8], inside: &Cursor<'_>, from: &'a [u8]) -> Cursor<'a>
+    ensures { result ≡ drop (length part.now - length inside.now) from.now }
+{
+    Cursor::new(after(from, part.len().saturating_sub(inside.remaining().len())))
 }

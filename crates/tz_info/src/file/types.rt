@@ -1,85 +1,162 @@
 //! The local time types of a data block and their names (RFC 8536 section 3.2).
 
-ghost use Rattle.std.specs.{List.{position_from}, Prelude.{◌≡◌, ◌<◌, ◌*◌, length, option_map, IfSome}};
+ghost use Rattle.std.specs.Prelude.{◌≡◌, ◌<◌, ◌==◌, int_lt, ◌&&◌, if◌then◌else◌, option_map};
 ghost use Rattle.{
-  tz_base.specs.Fronts.{Gives},
-  tz_info.specs.FileContents.{designation_of},
-  tz_info.specs.Steps.ContentReading.{GivesInMemory, designation_at, is_zero, mark_of, type_in, type_of},
-  tz_info.specs.Steps.ContentReading.{type_of_record, values_below},
+  tz_base.specs.{Fronts.{after_run, run_of, Gives}, Grammar.{checked, Each, IsRead}},
+  tz_base.specs.{LocalTypes.{expected_of_type}, Refusals.{LocalTimeType as BadType}, Steps.TextTests.{is_name_or_none}},
+  tz_info.specs.FileContents.{designation, designation_of, is_not_zero, least_offset},
+  tz_info.specs.FileContents.{local_type, mark, type_at, typed},
+  tz_info.specs.Steps.FileLists.{pieces_of, EndFile, IsReadInMemory},
 };
 
+use crate::file::header::{after, read_exact};
 use crate::file::numbers::{record_at, signed_32};
+use crate::file::pieces::Pieces;
+use crate::file::place::{fault_inside, from_parts};
+use crate::rule::reader::place::checked_at;
 use std::alloc::Global;
-use tz_base::{Error, Expected, LocalTimeType};
+use tz_base::{Cursor, Error, Expected, LocalTimeType};
 
-/// The types of a block: each an offset of four bytes, a mark of daylight saving time, and where in
-/// the designations its name begins.
-pub fn read_types(
+/// The types of the last block.
+pub fn read_types<'a>(
     alloc: Global,
-    count: usize,
-    part: &[u8],
-    designations: &[u8],
+    bytes: &'a [u8],
+    pieces: &Pieces<'_>,
+    cursor: &mut Cursor<'a>,
 ) -> Result<Vec<LocalTimeType>, Error>
-    requires { length part.now ≡ count * 6 }
-    ensures { GivesInMemory (λ v. v.items) result
-        (values_below count (type_in designations.now part.now)) }
+    requires { EndFile bytes.now (pieces_of pieces.now) }
+    ensures { IsReadInMemory (Each pieces.now.counts.types (type_at (pieces_of pieces.now))) cursor.old
+        (λ v. v.items) result cursor.new }
 {
+    let count = pieces.counts.types as usize;
     let mut types = Vec::with_capacity(alloc, count)?;
     for k in 0..count {
-        types.push_reserved(read_type(designations, record_at(part, 6, k))?);
+        types.push_reserved(read_type_at(bytes, pieces, k, cursor)?);
     }
     Ok(types)
 }
 
-#[tactic(auto, unfolding(crate::specs::Steps::ContentReading::type_of_record))]
-pub fn read_type(designations: &[u8], bytes: &[u8]) -> Result<LocalTimeType, Error>
-    requires { length bytes.now ≡ 6 }
-    ensures { Gives (λ t. t) result (type_of_record designations.now bytes.now) }
+#[tactic(auto, unfolding(crate::specs::FileContents::type_at))]
+fn read_type_at<'a>(
+    bytes: &'a [u8],
+    pieces: &Pieces<'_>,
+    k: usize,
+    cursor: &mut Cursor<'a>,
+) -> Result<LocalTimeType, Error>
+    requires file { EndFile bytes.now (pieces_of pieces.now) }
+    requires place { k < pieces.now.counts.types }
+    ensures { IsRead (type_at (pieces_of pieces.now) k) cursor.old (λ t. t) result cursor.new }
 {
-    let is_dst = read_mark(bytes[4])?;
-    let text = designation_at(designations, bytes[5] as usize)?;
-    local_type(signed_32(bytes.split_at(4).0), is_dst, text)
+    let record = record_at(pieces.block.types, 6, k);
+    let mut inside = Cursor::new(record);
+    let read = read_type(pieces.block.designations, &mut inside);
+    if read.is_err() {
+        *cursor = fault_inside(
+            record,
+            &inside,
+            after(from_parts(bytes, pieces).types, k * 6),
+        );
+    }
+    read
 }
 
-fn read_mark(byte: u8) -> Result<bool, Error>
-    ensures { Gives (λ b. b) result (mark_of byte) }
+// A record: an offset of four bytes, a mark of daylight saving time, and where in the designations
+// its name begins.
+#[tactic(auto, unfolding(crate::specs::FileContents::local_type))]
+fn read_type(designations: &[u8], cursor: &mut Cursor<'_>) -> Result<LocalTimeType, Error>
+    ensures { IsRead (local_type designations.now) cursor.old (λ t. t) result cursor.new }
 {
-    match byte {
-        0 => Ok(false),
-        1 => Ok(true),
-        _ => Err(Error::InvalidTzFile(Expected::ZeroOrOneAsIsDst)),
+    let at_offset = cursor.remaining();
+    let offset = read_exact(cursor, 4)?;
+    let is_dst = read_mark(cursor)?;
+    let at_place = cursor.remaining();
+    let place = read_exact(cursor, 1)?;
+    let text = read_designation(&mut Cursor::new(after(designations, place[0] as usize)));
+    let text = checked_at(at_place, cursor, text)?;
+    read_typed(at_offset, at_place, signed_32(offset), is_dst, text, cursor)
+}
+
+#[tactic(auto, unfolding(crate::specs::FileContents::mark))]
+fn read_mark(cursor: &mut Cursor<'_>) -> Result<bool, Error>
+    ensures { IsRead mark cursor.old (λ b. b) result cursor.new }
+{
+    if cursor.read_optional_tag(b"\0") {
+        Ok(false)
+    } else if cursor.read_optional_tag(b"\x01") {
+        Ok(true)
+    } else {
+        Err(Error::InvalidTzFile(Expected::ZeroOrOneAsIsDst))
     }
 }
 
-// The text that begins at that place of the designations and ends at a 0 byte.
-#[tactic(auto, unfolding(crate::specs::Steps::ContentReading::designation_at))]
-fn designation_at(designations: &[u8], place: usize) -> Result<&[u8], Error>
-    ensures { Gives (λ s. s.now) result (designation_at designations.now place) }
+// The text that ends at a 0 byte.
+#[tactic(auto, unfolding(crate::specs::FileContents::designation))]
+fn read_designation<'a>(cursor: &mut Cursor<'a>) -> Result<&'a [u8], Error>
+    ensures { IsRead designation cursor.old (λ text. text.now) result cursor.new }
 {
-    if place >= designations.len() {
+    if cursor.is_empty() {
         return Err(Error::InvalidTzFile(Expected::NameWithinDesignations));
     }
-    let text = designations.split_at(place).1;
-    match first_zero(text) {
-        Some(end) => Ok(text.split_at(end).0),
-        None => Err(Error::InvalidTzFile(Expected::ZeroByteAfterName)),
+    let text = read_to_zero(cursor);
+    if !cursor.read_optional_tag(b"\0") {
+        return Err(Error::InvalidTzFile(Expected::ZeroByteAfterName));
     }
+    Ok(text)
 }
 
-fn first_zero(bytes: &[u8]) -> Option<usize>
-    ensures value { result ≡ position_from is_zero 0 bytes.now }
-    ensures bound { IfSome result (λ place. place < length bytes.now) }
+/// The bytes up to the next 0 byte, or all.
+pub fn read_to_zero<'a>(cursor: &mut Cursor<'a>) -> &'a [u8]
+    ensures run { result.now ≡ run_of is_not_zero cursor.old }
+    ensures rest { cursor.new ≡ after_run is_not_zero cursor.old }
 {
-    bytes.iter().position(|byte| *byte == 0)
+    cursor.read_until(
+        |b: &u8| -> bool
+            ensures { result ≡ (b.now == 0) }
+        { *b == 0 },
+    )
+}
+
+#[tactic(auto, unfolding(crate::specs::FileContents::typed))]
+fn read_typed<'a>(
+    at_offset: &'a [u8],
+    at_place: &'a [u8],
+    offset: i32,
+    is_dst: bool,
+    text: &[u8],
+    cursor: &mut Cursor<'a>,
+) -> Result<LocalTimeType, Error>
+    ensures { IsRead (typed at_offset.now at_place.now
+        (record { offset = offset; dst = is_dst; name = designation_of text.now }))
+        cursor.old (λ t. t) result cursor.new }
+{
+    checked_at(
+        type_place(at_offset, at_place, offset),
+        cursor,
+        local_type(offset, is_dst, text),
+    )
+}
+
+// Where a type of that offset is rejected.
+fn type_place<'a>(at_offset: &'a [u8], at_place: &'a [u8], offset: i32) -> &'a [u8]
+    ensures { result.now ≡ (if int_lt least_offset offset then at_place.now else at_offset.now) }
+{
+    if i32::MIN < offset {
+        at_place
+    } else {
+        at_offset
+    }
 }
 
 // The type of an offset, a DST flag and a text: a function of its own, so that its clause says what
-// parsing one gives.
+// is returned for one.
 #[tactic(auto, using(crate::proofs::TypeLaws::type_answers, crate::proofs::Ranges::in_range))]
-fn local_type(ut_offset: i32, is_dst: bool, text: &[u8]) -> Result<LocalTimeType, Error>
-    ensures { Gives (λ t. t) result (type_of ut_offset is_dst text.now) }
+fn local_type(offset: i32, is_dst: bool, text: &[u8]) -> Result<LocalTimeType, Error>
+    ensures { Gives (λ t. t) result
+        (checked (int_lt least_offset offset && is_name_or_none (designation_of text.now))
+        (BadType (expected_of_type offset (designation_of text.now)))
+        (record { offset = offset; dst = is_dst; name = designation_of text.now })) }
 {
-    LocalTimeType::new(ut_offset, is_dst, designation_of(text))
+    LocalTimeType::new(offset, is_dst, designation_of(text))
 }
 
 // An empty text is no name.

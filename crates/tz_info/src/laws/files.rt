@@ -1,11 +1,10 @@
 //! Theorems of time zone files: each function is empty, its contract is proved; never called.
 
-ghost use Rattle.std.specs.Prelude.{◌≡◌, ◌≤◌, drop, length, List, ℕ};
+ghost use Rattle.std.specs.Prelude.{◌≡◌, ◌≤◌, ◌++◌, length, List, ℕ};
 ghost use Rattle.{
   tz_base.specs.Errors.{error_number},
-  tz_info.specs.{FilePieces.{FilePieces, HasPieces}, TzFiles.{IsFileFault, IsTzFile}},
-  tz_info.specs.{FilePlaces.{footer_bytes, in_order, ArePartPlaces, IsFilePlace}, Zones.{IsRuleOrNone, IsValid, Zone}},
-  tz_info.specs.declared.file.place.PartPlaces.{PartPlaces},
+  tz_info.specs.{FilePieces.{from_times, FilePieces, HasPieces}, TzFiles.{IsFileFault, IsTzFile}},
+  tz_info.specs.{FilePlaces.{IsFilePlace}, Zones.{IsRuleOrNone, IsValid, Zone}},
 };
 
 use tz_base::Error;
@@ -16,7 +15,7 @@ pub fn one_zone()
 {}
 
 /// The numbers of a file's rule are in their limits.
-#[tactic(auto, using(crate::proofs::TextFits::text_rule_fits))]
+#[tactic(auto, using(crate::proofs::PosixZoneLaws::file_rule_fits))]
 pub fn rule_is_in_limits()
     ensures { (bytes : List ℕ) (zone : Zone) → IsTzFile bytes zone → IsRuleOrNone zone.rule }
 {}
@@ -43,10 +42,9 @@ pub fn fault_place()
         → place ≤ length bytes }
 {}
 
-/// The bytes from the position of the first part on are the parts, in order, and the footer.
-#[tactic(auto, using(crate::proofs::FilePlaceOnce::parts_stand))]
-pub fn part_places()
-    ensures { (bytes : List ℕ) (p : FilePieces) (q : PartPlaces) → HasPieces bytes p
-        → ArePartPlaces p q → q.end ≡ length bytes
-        → drop q.times bytes ≡ in_order p.parts (footer_bytes p.footer) }
+/// The parts of the last block, in order, and the footer end the file.
+#[tactic(auto, using(crate::proofs::FilePieceLaws::whole))]
+pub fn parts_end_file()
+    ensures { (bytes : List ℕ) (p : FilePieces) → HasPieces bytes p
+        → (before : List ℕ) × (bytes ≡ before ++ from_times p) }
 {}

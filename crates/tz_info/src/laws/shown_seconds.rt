@@ -6,7 +6,7 @@ ghost use Rattle.{
   tz_base.specs.LocalTypes.{LocalType},
   tz_info.specs.ShownSeconds.{AreEndsWithin, AreShownWithin, IsFirstAtOrAfter, IsFirstWithin, IsNeverWithin},
   tz_info.specs.ShownSeconds.{ShowsWithin},
-  tz_info.specs.{Windows.{offsets, IsGreatest, IsLeast}, Reached.{IsLastReached}, WallClocks.{Shows}},
+  tz_info.specs.{Windows.{offsets, IsGreatest, IsLeast}, ShownSeconds.{IsLastReached}, WallClocks.{Shows}},
   tz_info.specs.Zones.{TypeAt, Zone},
 };
 

@@ -88,7 +88,7 @@ impl Model for AlternateTime {
 impl PartialEq for AlternateTime {
     ghost use Rattle.std.specs.Cmp.{partial_equiv_from_equiv};
     ghost use Rattle.tz_base.specs.contracts.local_time_type.LocalTimeTypeEq.TheImpl.Laws.{laws-law as types};
-    ghost use Rattle.tz_info.specs.RuleEquality.{alternate_eq, alternate_eq_equiv};
+    ghost use Rattle.tz_info.specs.{ZoneEquality.{alternate_eq}, Steps.Equivalences.{alternate_eq_equiv}};
     ghost use Rattle.tz_info.specs.contracts.rule.day.DayTimeEq.TheImpl.Laws.{laws-law as days};
 
     ghost eq = { alternate_eq ⟦<LocalTimeType as PartialEq>⟧.eq ⟦<DayTime as PartialEq>⟧.eq };
@@ -105,7 +105,7 @@ impl PartialEq for AlternateTime {
 
 impl Eq for AlternateTime {
     ghost use Rattle.tz_base.specs.contracts.local_time_type.LocalTimeTypeEq.TheImpl.Laws.{laws-law as types};
-    ghost use Rattle.tz_info.specs.RuleEquality.{alternate_eq_equiv};
+    ghost use Rattle.tz_info.specs.Steps.Equivalences.{alternate_eq_equiv};
     ghost use Rattle.tz_info.specs.contracts.rule.day.DayTimeEq.TheImpl.Laws.{laws-law as days};
 
     ghost laws = { alternate_eq_equiv types days };
@@ -134,6 +134,7 @@ impl AlternateTime {
     ///
     /// [`Error::TransitionRule`] if an offset is not strictly within a day (86,400 seconds), or a
     /// time is not strictly within a week (604,800 seconds).
+    #[inline(always)]
     pub fn new(
         std: LocalTimeType,
         dst: LocalTimeType,

@@ -5,7 +5,7 @@
 ghost use Rattle.std.specs.Prelude.{◌≡◌, ◌≢◌, ◌+◌, true, MatchOption};
 ghost use Rattle.{
   tz_info.specs.{Changes.{IsChange}, Moments.{type_when, AlternateAt, IsRuleTime, IsRuleYear, IsYearOf}},
-  tz_info.specs.Counts.{HasRoomFor},
+  tz_info.specs.Steps.RisingCounts.{HasRoomFor},
   tz_info.specs.Steps.{AskedYears.{turn_of, IsAskedYear, IsCalmRule}, Beside.{change_found, IsNearestMomentOf}},
   tz_info.specs.Steps.Changes.{IsIdle, IsInStretch, IsOfYear},
 };

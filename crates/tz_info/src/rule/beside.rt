@@ -3,7 +3,7 @@
 
 ghost use Rattle.std.specs.Prelude.{◌≡◌, option_map, MatchOption};
 ghost use Rattle.{
-  tz_info.specs.{Counts.{HasRoomFor, RoseWithin}, Steps.Beside.{change_found, IsBeside}, Moments.{IsRuleTime}},
+  tz_info.specs.{Counts.{RoseWithin}, Steps.RisingCounts.{HasRoomFor}, Steps.Beside.{change_found, IsBeside}, Moments.{IsRuleTime}},
   tz_info.specs.Rules.{Alternate},
 };
 

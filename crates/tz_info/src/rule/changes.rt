@@ -5,7 +5,7 @@ ghost use Rattle.{
   tz_info.specs.Changes.{HasNoChange, IsNearest},
   tz_info.specs.Steps.{Changes.{year_at, IsAhead, IsNearRuleTime}, Beside.{change_found, IsNearestMomentOf}},
   tz_info.specs.Steps.AskedYears.{HasNoneBeyond, IsAskedYear, IsNextChanging, IsYearNear},
-  tz_info.specs.{Counts.{HasRoomFor, RoseWithin}, HeldChanges.{change_held}},
+  tz_info.specs.{Counts.{RoseWithin}, Steps.RisingCounts.{HasRoomFor}, HeldChanges.{change_held}},
   tz_info.specs.Moments.{type_when, AlternateAt, IsRuleTime, IsRuleYear, IsYearOf},
 };
 

@@ -4,13 +4,13 @@
 //! four years is a leap year, of the year before it to the second one after it. It is found once for
 //! each of the 35 keys, when the rule is made.
 
-ghost use Rattle.std.specs.{List.{list_any}, Prelude.{◌≡◌, ◌<◌, ◌≤◌, ◌≤ℤ◌, neg_ℤ, pos, ℤ}};
+ghost use Rattle.std.specs.{List.{list_any}, Prelude.{◌≡◌, ◌<◌, ◌≤◌, ◌≤ℤ◌, map, neg_ℤ, pos}};
 ghost use Rattle.{
   tz_info.specs.Steps.ChangingYears.{changing_keys, dst_near, flips_at, has_flip, is_changing, key_years, leap_place},
   tz_info.specs.Steps.{ChangingYears.{moment_by, place_of, turns_in, year_key, years_near, AreWithinYears}, Kinds.{are_calm, kind_place}},
 };
 
-use crate::rule::kinds::{kind_by, kind_of};
+use crate::rule::kinds::kind_of;
 use crate::rule::moments::{Turns, is_dst_by_three};
 use gregorian::{is_leap_year, weekday_of, year_start};
 
@@ -67,16 +67,6 @@ fn place_of(a: bool, b: bool, c: bool, d: bool) -> u32
     }
 }
 
-// The kind of the years of that key. They are leap years if the second of the four years is.
-#[tactic(auto, using(crate::proofs::YearKeys::kind_by_key))]
-fn kind_of_key(key: usize) -> usize
-    requires { key < 35 }
-    ensures kind { (year : ℤ) → year_key year ≡ key → result ≡ kind_place year }
-    ensures below { result < 14 }
-{
-    kind_by(key / 7 == 1, (key % 7) as u32)
-}
-
 // A year of each key.
 #[tactic(auto, unfolding(crate::specs::Steps::ChangingYears::key_years))]
 fn key_years() -> [i32; 35]
@@ -89,6 +79,16 @@ fn key_years() -> [i32; 35]
     ]
 }
 
+// The kind of the years of each key.
+fn key_kinds() -> [usize; 35]
+    ensures { result ≡ map kind_place key_years }
+{
+    [
+        0, 1, 2, 3, 4, 5, 6, 7, 8, 9, 10, 11, 12, 13, 0, 1, 2, 3, 4, 5, 6, 0, 1, 2, 3, 4, 5, 6, 0,
+        1, 2, 3, 4, 5, 6,
+    ]
+}
+
 // Whether clocks change in a year of each key, if the types differ.
 pub(super) fn changing_keys(starts: &[i64; 14], ends: &[i64; 14], calm: bool) -> [bool; 35]
     requires starts { AreWithinYears starts.now }
@@ -97,9 +97,10 @@ pub(super) fn changing_keys(starts: &[i64; 14], ends: &[i64; 14], calm: bool) ->
     ensures { result ≡ changing_keys starts.now ends.now }
 {
     let years = key_years();
+    let kinds = key_kinds();
     let mut changing = [false; 35];
     for key in 0..35 {
-        changing[key] = is_changing(starts, ends, calm, key, years[key]);
+        changing[key] = is_changing(starts, ends, calm, years[key], kinds[key]);
     }
     changing
 }
@@ -116,16 +117,15 @@ pub(super) fn any_of(tests: &[bool]) -> bool
     false
 }
 
-// Whether clocks change in the year, which has that key, if the types differ.
-fn is_changing(starts: &[i64; 14], ends: &[i64; 14], calm: bool, key: usize, year: i32) -> bool
+// Whether clocks change in the year, which is of that kind, if the types differ.
+fn is_changing(starts: &[i64; 14], ends: &[i64; 14], calm: bool, year: i32, kind: usize) -> bool
     requires starts { AreWithinYears starts.now }
     requires ends { AreWithinYears ends.now }
-    requires key { year_key year ≡ key }
     requires year { (pos 2000 ≤ℤ year) × (year ≤ℤ pos 2299) }
+    requires kind { kind ≡ kind_place year }
     ensures { result ≡ is_changing starts.now ends.now calm year }
 {
     if calm {
-        let kind = kind_of_key(key);
         if starts[kind] < ends[kind] {
             return true;
         }
@@ -150,25 +150,18 @@ fn years_near(starts: &[i64; 14], ends: &[i64; 14], year: i32) -> YearsNear
     }
 }
 
-// The moments of the year.
+// The moments of the year, by the seconds of its kind.
 fn turns_in(starts: &[i64; 14], ends: &[i64; 14], year: i32) -> Turns
     requires starts { AreWithinYears starts.now }
     requires ends { AreWithinYears ends.now }
     ensures { result ≡ turns_in (moment_by starts.now) (moment_by ends.now) year }
 {
-    Turns {
-        start: moment_by(starts, year),
-        end: moment_by(ends, year),
-    }
-}
-
-// The year's moment, by the seconds of its kind.
-fn moment_by(seconds: &[i64; 14], year: i32) -> i64
-    requires { AreWithinYears seconds.now }
-    ensures { result ≡ moment_by seconds.now year }
-{
     let first = year_start(year);
-    86_400 * first + seconds[kind_of(year, first)]
+    let kind = kind_of(year, first);
+    Turns {
+        start: 86_400 * first + starts[kind],
+        end: 86_400 * first + ends[kind],
+    }
 }
 
 impl YearsNear {

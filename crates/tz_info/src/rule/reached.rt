@@ -4,7 +4,7 @@
 ghost use Rattle.std.specs.Prelude.{◌≤ℤ◌, option_map, pos};
 ghost use Rattle.{
   naive_base.specs.Range.{IsWide},
-  tz_info.specs.{Changes.{IsNearest}, Counts.{HasRoomFor, RoseWithin}, HeldChanges.{change_held}},
+  tz_info.specs.{Changes.{IsNearest}, Counts.{RoseWithin}, Steps.RisingCounts.{HasRoomFor}, HeldChanges.{change_held}},
   tz_info.specs.{Moments.{AlternateAt, IsRuleTime}, RuleTypes.{RuleAt}, Rules.{IsAlternateRule}},
   tz_info.specs.Steps.{Changes.{IsAhead}, Since.{IsFirstSince, IsReachedSince}},
 };

@@ -1,7 +1,10 @@
 //! The reader of TZ strings.
 
-ghost use Rattle.std.specs.{Prelude.{◌≡◌, IfErr, IfOk}, Result.{IsOkAnd}};
-ghost use Rattle.tz_info.specs.{Steps.Spelled.{IsParsed}, TzGrammar.{text_fault_position, IsTextFault, IsTzText}};
+ghost use Rattle.std.specs.{Prelude.{◌≡◌, IfErr, IfOk, Some}, Result.{IsOkAnd}};
+ghost use Rattle.{
+  tz_base.specs.Grammar.{IsRead, Nothing, Then},
+  tz_info.specs.{Steps.Spelled.{IsParsed}, TzGrammar.{text, text_fault_position, IsTextFault, IsTzText}},
+};
 
 mod clock;
 mod date;
@@ -72,7 +75,7 @@ impl TransitionRule {
     }
 }
 
-#[tactic(auto, unfolding(crate::specs::Steps::FooterReading::rule_in))]
+#[tactic(auto, unfolding(crate::specs::Steps::Spelled::rule_in))]
 pub(crate) fn read_all(bytes: &[u8], extended: bool) -> Result<TransitionRule, ParseError>
     ensures { IsParsed extended bytes.now result }
 {
@@ -83,5 +86,21 @@ pub(crate) fn read_all(bytes: &[u8], extended: bool) -> Result<TransitionRule, P
             error,
             position: Some(bytes.len().saturating_sub(cursor.remaining().len())),
         }),
+    }
+}
+
+// The rule of all bytes of the cursor. It is inlined, and the rule is wrapped where it is made, so that it is moved
+// once less.
+#[inline(always)]
+pub(crate) fn read_some_rule(
+    extended: bool,
+    cursor: &mut Cursor<'_>,
+) -> Result<Option<TransitionRule>, Error>
+    ensures { IsRead (Then (text extended) (λ rule. Nothing (Some rule)))
+        cursor.old (λ rule. rule) result cursor.new }
+{
+    match read_text(extended, cursor) {
+        Ok(spelled) => Ok(Some(rule_of(spelled))),
+        Err(error) => Err(error),
     }
 }

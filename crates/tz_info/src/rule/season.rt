@@ -72,6 +72,7 @@ impl AlternateTime {
 
     // The type in force at the second, by the season's moments if these decide.
     #[inline(always)]
+    #[tactic(auto, using(crate::proofs::Ranges::in_range))]
     pub(super) fn type_in(&self, season: Season, unix_time: i64) -> &LocalTimeType
         requires season { IsSeason self.now season }
         requires time { IsRuleTime unix_time }

@@ -1,11 +1,11 @@
 //! The wall clock of a rule.
 
-ghost use Rattle.std.specs.{Prelude.{◌≡◌, ◌-ℤ◌, ◌<ℤ◌, ⊤, int_lt, IsTrue, MatchOption, ℤ}, Result.{IsOkAnd}};
+ghost use Rattle.std.specs.{Prelude.{◌≡◌, ◌-ℤ◌, ⊤, int_lt, not, Bool, MatchOption, ℤ}, Result.{IsOkAnd}};
 ghost use Rattle.{
   naive_base.specs.{NaiveDateTime.{reading}, Range.{IsWide}},
   offset_core.specs.{LocalResult.{map_of}, WallAnswer.{IsWallAnswer}},
   tz_base.specs.LocalTypes.{IsUtOffset},
-  tz_info.specs.{Counts.{HasRoomFor, RoseWithin}, HeldChanges.{change_held}},
+  tz_info.specs.{Counts.{RoseWithin}, Steps.RisingCounts.{HasRoomFor}, HeldChanges.{change_held}},
   tz_info.specs.Steps.{Walk.{IsAskedLast}, Gaps.{IsNeverFrom, IsRuleGap}, Seasons.{IsSeason, IsSeasonFor, IsSeasonOf}},
   tz_info.specs.Steps.RuleSeconds.{AreUtOffsets, IsAskedFrom, IsAskedSince, TypeFrom},
   tz_info.specs.{Moments.{type_when}, Rules.{IsAlternateRule}, RuleTypes.{RuleAt}, WallClocks.{Shows}},
@@ -113,48 +113,39 @@ impl AlternateTime {
     {
         // The greater offset has the earlier second.
         let dst_first = self.std().offset() < self.dst().offset();
-        if self.is_early(from, local, dst_first) {
+        let first = self.type_when(dst_first).offset();
+        let last = self.type_when(!dst_first).offset();
+        let is_early = second_showing(local, last) < from;
+        if is_early {
             return (None, MappedLocalTime::None);
         }
         let season = self.season(local);
-        let one = self.ask(
-            season,
-            from,
-            local,
-            dst_first,
-            MappedLocalTime::None,
-            probes,
-        );
-        if self.std().offset() == self.dst().offset() {
+        let one = self.ask(season, from, local, first, MappedLocalTime::None, probes);
+        if first == last {
             return (None, one);
         }
-        let both = self.ask(season, from, local, !dst_first, one, probes);
-        (self.season_for(season, from, local, dst_first), both)
+        let both = self.ask(season, from, local, last, one, probes);
+        (self.season_for(season, from, local, first, last), both)
     }
 
-    // Whether no second that could show the local time comes at `from` or later: the later one doesn't.
+    // The season, if its moments decide at both seconds that could show the local time by these offsets.
     #[inline(always)]
-    #[tactic(auto, using(crate::proofs::SeasonAnswers::greater))]
-    fn is_early(&self, from: i64, local: i64, dst_first: bool) -> bool
-        requires local { IsWide local }
-        requires first { dst_first ≡ int_lt self.now.std.offset self.now.dst.offset }
-        ensures { IsTrue result
-            → ((local -ℤ self.now.std.offset) <ℤ from) × ((local -ℤ self.now.dst.offset) <ℤ from) }
-    {
-        second_showing(local, self.type_when(!dst_first).offset()) < from
-    }
-
-    // The season, if its moments decide at both seconds that could show the local time.
-    #[inline(always)]
-    fn season_for(&self, season: Season, from: i64, local: i64, dst_first: bool) -> Option<Season>
+    fn season_for(
+        &self,
+        season: Season,
+        from: i64,
+        local: i64,
+        first: i32,
+        last: i32,
+    ) -> Option<Season>
         requires season { IsSeason self.now season }
         requires local { IsWide local }
-        requires first { dst_first ≡ int_lt self.now.std.offset self.now.dst.offset }
-        ensures { MatchOption result ⊤ (IsSeasonFor self.now from local) }
+        ensures { (dst : Bool) → dst ≡ int_lt self.now.std.offset self.now.dst.offset
+            → first ≡ (type_when self.now dst).offset → last ≡ (type_when self.now (not dst)).offset
+            → MatchOption result ⊤ (IsSeasonFor self.now from local) }
     {
-        let first = second_showing(local, self.type_when(dst_first).offset());
-        let last = second_showing(local, self.type_when(!dst_first).offset());
-        if from <= first && season.from <= first && last < season.until {
+        let earlier = second_showing(local, first);
+        if from <= earlier && season.from <= earlier && second_showing(local, last) < season.until {
             Some(season)
         } else {
             None
@@ -179,8 +170,7 @@ impl AlternateTime {
         })
     }
 
-    // Asks for the one second that could show the local time by daylight saving time, or by standard
-    // time, unless it comes before that one.
+    // Asks for the one second that could show the local time at the offset, unless it comes before that one.
     #[inline(always)]
     #[tactic(auto, using(crate::proofs::Ranges::in_range, crate::proofs::Candidates::asked_found, crate::proofs::Candidates::asked_other))]
     fn ask<'a>(
@@ -188,20 +178,19 @@ impl AlternateTime {
         season: Season,
         from: i64,
         local: i64,
-        dst: bool,
+        offset: i32,
         answer: MappedLocalTime<&'a LocalTimeType>,
         probes: &mut Probes,
     ) -> MappedLocalTime<&'a LocalTimeType>
         requires season { IsSeason self.now season }
         requires local { IsWide local }
         requires room { HasRoomFor 1 probes.old.rule_questions }
-        ensures asked { IsAskedLast (TypeFrom (TransitionRule.Alternate self.now) from) local
-            (type_when self.now dst).offset (map_of (λ r. r.now) answer.entry) (map_of (λ r. r.now) result) }
+        ensures asked { IsAskedLast (TypeFrom (TransitionRule.Alternate self.now) from) local offset
+            (map_of (λ r. r.now) answer.entry) (map_of (λ r. r.now) result) }
         ensures cost { RoseWithin probes.old probes.new 0 1 }
-        ensures counted { IsAskedSince from (local -ℤ (type_when self.now dst).offset)
+        ensures counted { IsAskedSince from (local -ℤ offset)
             probes.old.rule_questions probes.new.rule_questions }
     {
-        let offset = self.type_when(dst).offset();
         let second = second_showing(local, offset);
         if second < from {
             return answer;

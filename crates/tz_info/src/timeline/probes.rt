@@ -1,7 +1,7 @@
 //! Counts of the probes of a lookup.
 
 ghost use Rattle.std.specs.Prelude.{◌≡◌, ◌+◌, ◌↔◌, IsTrue};
-ghost use Rattle.tz_info.specs.Counts.{HasRoom, HasRoomFor};
+ghost use Rattle.tz_info.specs.{Counts.{HasRoom}, Steps.RisingCounts.{HasRoomFor}};
 
 use std::marker::Model;
 

@@ -1,7 +1,7 @@
 //! An item that has a time, and the count that a probe of it raises.
 
 ghost use Rattle.std.specs.Prelude.{◌≡◌, ◌+◌, ℕ};
-ghost use Rattle.tz_info.specs.Counts.{Counts, HasRoomFor};
+ghost use Rattle.tz_info.specs.{Counts.{Counts}, Steps.RisingCounts.{HasRoomFor}};
 
 use crate::timeline::probes::Probes;
 

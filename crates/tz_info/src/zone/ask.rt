@@ -16,6 +16,6 @@ mod segment_search;
 pub(crate) mod shown_seconds;
 mod span;
 pub(crate) mod spans;
-mod typed;
+pub(super) mod typed;
 mod walk;
 mod wall_clock;

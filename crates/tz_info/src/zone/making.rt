@@ -3,13 +3,15 @@
 ghost use Rattle.std.specs.Prelude.{◌≡◌, ◌⊎◌, ◌<◌, [], length, pos, IfSome, MatchResult};
 ghost use Rattle.{
   tz_base.specs.{Errors.{IsOutOfMemory}, LocalTypes.{IsUtOffset}},
-  tz_info.specs.Steps.LastSpans.{IsLastSpan},
+  tz_info.specs.Steps.{Entries.{AreEntries}, LastSpans.{IsLastSpan}, Pieces.{zone_of}, WallPieces.{IsIndex}},
   tz_info.specs.Zones.{plain_zone, zone_of_rule, zone_of_type, IsValid, ListFault, Zone},
 };
 
+use crate::change::change_copied;
 use crate::rule::TransitionRule;
 use crate::zone::ask::all_changes::second_before;
 use crate::zone::ask::runs::start_by;
+use crate::zone::ask::typed::second_after;
 use crate::zone::lists::kept::{Kept, all_kept};
 use crate::zone::lists::leap_second::LeapSecond;
 use crate::zone::lists::leap_seconds::LeapSeconds;
@@ -24,7 +26,7 @@ use crate::zone::made::last_span::LastSpan;
 use crate::zone::made::segments::ZoneLists;
 use crate::zone::time_zone::TimeZone;
 use std::alloc::Global;
-use tz_base::{Error, Expected, LocalTimeType};
+use tz_base::{Error, Expected, LocalTimeType, Span};
 
 impl TimeZone {
     /// Returns the zone of those transitions, types, leap seconds and rule.
@@ -72,31 +74,15 @@ impl TimeZone {
         leaps: Vec<LeapSecond>,
         rule: Option<TransitionRule>,
     ) -> Result<TimeZone, Error>
-        requires { IsValid (record {
-          transitions = transitions.items;
-          types = types.items;
-          leaps = leaps.items;
-          rule = rule;
-        }) }
-        ensures { MatchResult result (λ z. z ≡ record {
-          transitions = transitions.items;
-          types = types.items;
-          leaps = leaps.items;
-          rule = rule;
-        }) (λ e. (e ≡ Error.OutOfMemory) × (0 < length transitions.items)) }
+        requires { IsValid (zone_of transitions.items types.items leaps.items rule) }
+        ensures { MatchResult result (λ z. z ≡ zone_of transitions.items types.items leaps.items rule)
+            (λ e. (e ≡ Error.OutOfMemory) × (0 < length transitions.items)) }
     {
         let leaps = LeapSeconds::new(leaps);
         if transitions.is_empty() {
             return Ok(TimeZone::without_transitions(types, leaps, rule));
         }
-        let list = ChangeList::new(alloc, transitions, &types, &leaps, &rule)?;
-        let lists = ZoneLists {
-            transitions: list.transitions(),
-            types: &types,
-            leaps: &leaps,
-            rule: &rule,
-        };
-        let index = Index::new(alloc, lists, &list)?;
+        let (list, index) = list_and_index(alloc, transitions, &types, &leaps, &rule)?;
         let changes = ChangeTable::new(alloc, list)?;
         let extremes = extremes_of(&types, &rule);
         let mut zone = TimeZone {
@@ -155,21 +141,11 @@ impl TimeZone {
         leaps: LeapSeconds,
         rule: Option<TransitionRule>,
     ) -> TimeZone
-        requires { IsValid (record {
-          transitions = [];
-          types = types.items;
-          leaps = leaps;
-          rule = rule;
-        }) }
-        ensures { result ≡ record {
-          transitions = [];
-          types = types.items;
-          leaps = leaps;
-          rule = rule;
-        } }
+        requires { IsValid (zone_of [] types.items leaps rule) }
+        ensures { result ≡ zone_of [] types.items leaps rule }
     {
         let alloc = *types.allocator();
-        let list = ChangeList::none(alloc);
+        let list = ChangeList::as_listed(Vec::new(alloc));
         let lists = ZoneLists {
             transitions: list.transitions(),
             types: &types,
@@ -218,16 +194,22 @@ impl TimeZone {
             return None;
         }
         let last = self.last_typed();
-        let Ok(span) = self.span_at(last) else {
+        let Ok(local_time_type) = self.find_local_time_type(last) else {
             return None;
         };
-        let after = second_before(start_by(span.from, i64::MIN));
+        let begin = self.previous_held_change(last);
+        let from = self.span_begin(begin);
+        let after = second_before(start_by(from, i64::MIN));
         Some(LastSpan {
             after,
             last,
             local_after: cut_at(after, i64::from(self.extremes.greatest)),
-            span,
-            begin: self.previous_change(last),
+            span: Span {
+                local_time_type: *local_time_type,
+                from,
+                until: second_after(last),
+            },
+            begin: change_copied(begin),
         })
     }
 
@@ -239,4 +221,39 @@ impl TimeZone {
             None => false,
         }
     }
+}
+
+// The clock changes of the zone of those lists, and its index.
+fn list_and_index(
+    alloc: Global,
+    transitions: Vec<Kept>,
+    types: &[LocalTimeType],
+    leaps: &LeapSeconds,
+    rule: &Option<TransitionRule>,
+) -> Result<(ChangeList, Index), Error>
+    requires valid { IsValid (zone_of transitions.items types.now leaps.now rule.now) }
+    requires some { 0 < length transitions.items }
+    ensures { let zone = zone_of transitions.items types.now leaps.now rule.now in
+        MatchResult result (λ made. AreEntries zone made.0 × IsIndex zone made.0 made.1)
+        (λ e. e ≡ Error.OutOfMemory) }
+{
+    let list = ChangeList::as_listed(transitions);
+    let lists = ZoneLists {
+        transitions: list.items(),
+        types,
+        leaps,
+        rule,
+    };
+    if let Some(index) = Index::of_transitions(alloc, lists, &list)? {
+        return Ok((list, index));
+    }
+    let list = ChangeList::new(alloc, list.items, types, leaps, rule)?;
+    let lists = ZoneLists {
+        transitions: list.transitions(),
+        types,
+        leaps,
+        rule,
+    };
+    let index = Index::new(alloc, lists, &list)?;
+    Ok((list, index))
 }

@@ -74,7 +74,7 @@ impl fmt::Debug for TimeZone {
 impl PartialEq for TimeZone {
     ghost use Rattle.std.specs.Cmp.{partial_equiv_from_equiv};
     ghost use Rattle.tz_base.specs.contracts.local_time_type.LocalTimeTypeEq.TheImpl.Laws.{laws-law as types};
-    ghost use Rattle.tz_info.specs.ZoneEquality.{zone_eq, zone_eq_equiv};
+    ghost use Rattle.tz_info.specs.{ZoneEquality.{zone_eq}, Steps.Equivalences.{zone_eq_equiv}};
     ghost use Rattle.tz_info.specs.contracts.zone.lists.transition.TransitionEq.TheImpl.Laws.{laws-law as transitions};
     ghost use Rattle.tz_info.specs.contracts.zone.lists.leap_second.LeapSecondEq.TheImpl.Laws.{laws-law as leaps};
     ghost use Rattle.tz_info.specs.contracts.rule.transition_rule.TransitionRuleEq.TheImpl.Laws.{laws-law as rules};
@@ -94,7 +94,7 @@ impl PartialEq for TimeZone {
 
 impl Eq for TimeZone {
     ghost use Rattle.tz_base.specs.contracts.local_time_type.LocalTimeTypeEq.TheImpl.Laws.{laws-law as types};
-    ghost use Rattle.tz_info.specs.ZoneEquality.{zone_eq_equiv};
+    ghost use Rattle.tz_info.specs.Steps.Equivalences.{zone_eq_equiv};
     ghost use Rattle.tz_info.specs.contracts.zone.lists.transition.TransitionEq.TheImpl.Laws.{laws-law as transitions};
     ghost use Rattle.tz_info.specs.contracts.zone.lists.leap_second.LeapSecondEq.TheImpl.Laws.{laws-law as leaps};
     ghost use Rattle.tz_info.specs.contracts.rule.transition_rule.TransitionRuleEq.TheImpl.Laws.{laws-law as rules};

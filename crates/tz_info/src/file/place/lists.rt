@@ -2,36 +2,36 @@
 
 ghost use Rattle.std.specs.Prelude.{◌≡◌, ◌↔◌, ◌<◌, IsTrue};
 ghost use Rattle.{
-  tz_info.specs.FilePlaces.{leap_at, time_at, ArePartPlaces, IsListPlace, IsNotLater, IsOtherIndex, IsOtherLeap},
-  tz_info.specs.Steps.{FileLists.{pieces_of, HasLengths}, Places.{Finds}},
+  tz_info.specs.{FileContents.{leap_at, time_at}, FilePlaces.{IsListPlace, IsNotLater, IsOtherIndex, IsOtherLeap}},
+  tz_info.specs.Steps.{FileLists.{pieces_of, EndFile, HasLengths}, Places.{Finds}},
 };
 
 use crate::file::contents::leap_second_of;
+use crate::file::header::after;
 use crate::file::numbers::{record_at, time_of};
-use crate::file::place::{PartPlaces, footer_bytes};
-use crate::file::reader::Pieces;
-use crate::trims::space_in_front;
+use crate::file::pieces::Pieces;
+use crate::file::place::{footer_bytes, from_parts};
+use crate::trims::after_space;
 use crate::zone::LeapSecond;
 use crate::zone::lists::valid::{is_first, is_next};
 
-/// Returns the position of the first fault of the lists that the pieces say: a type index, a time, a
-/// leap second, or else the footer's text.
-#[tactic(auto, using(crate::specs::FilePlaces::At_index))]
-pub fn place_in_lists(pieces: &Pieces<'_>, places: PartPlaces) -> usize
-    requires lengths { HasLengths (pieces_of pieces.now) }
-    requires places { ArePartPlaces (pieces_of pieces.now) places }
-    ensures { IsListPlace (pieces_of pieces.now) places result }
+/// Returns the bytes from the first fault of the lists on that the pieces say: from a type index, a
+/// time, a leap second, or else the footer's text.
+pub fn from_fault_of_lists<'a>(bytes: &'a [u8], pieces: &Pieces<'a>) -> &'a [u8]
+    requires { EndFile bytes.now (pieces_of pieces.now) }
+    ensures { IsListPlace (pieces_of pieces.now) result.now }
 {
+    let from = from_parts(bytes, pieces);
     if let Some(k) = first_other_index(pieces) {
-        return places.type_indexes + k;
+        return after(from.type_indexes, k);
     }
     if let Some(k) = first_not_later(pieces) {
-        return places.times + k * pieces.time_size;
+        return after(from.times, k * pieces.time_size);
     }
     if let Some(k) = first_other_leap(pieces) {
-        return places.leap_seconds + k * (pieces.time_size + 4);
+        return after(from.leap_seconds, k * (pieces.time_size + 4));
     }
-    places.footer + space_in_front(footer_bytes(pieces.footer))
+    after_space(footer_bytes(pieces.footer))
 }
 
 fn first_other_index(pieces: &Pieces<'_>) -> Option<usize>

@@ -5,7 +5,7 @@ ghost use Rattle.{
   offset_core.specs.Offset.{IsWithinDay},
   tz_base.specs.{Fronts.{Gives}, Grammar.{checked, read, IsRead}, Refusals.{InvalidTzString}},
   tz_info.specs.Rules.{IsWithinWeek},
-  tz_info.specs.TzGrammar.{signed_seconds, time_sign, are_within, duration, offset, optional_minutes, optional_time},
+  tz_info.specs.TzGrammar.{signed_seconds, time_sign, within_test, duration, offset, optional_minutes, optional_time},
   tz_info.specs.TzGrammar.{seconds, sign},
 };
 
@@ -98,7 +98,7 @@ fn read_seconds(cursor: &mut Cursor<'_>) -> Result<u32, Error>
 fn seconds_of(limit: u32, negative: bool, h: u32, m: u32, s: u32) -> Result<i32, Error>
     requires { limit ≤ 167 }
     ensures value { Gives (λ z. z) result
-        (checked (are_within limit h m s) (InvalidTzString Expected.HoursMinutesAndSecondsWithinTheirLimits)
+        (checked (within_test limit h m s).passes (InvalidTzString Expected.HoursMinutesAndSecondsWithinTheirLimits)
         (signed_seconds negative h m s)) }
     ensures day { limit ≤ 23 → IfOk result (λ z. IsWithinDay z) }
     ensures week { IfOk result (λ z. IsWithinWeek z) }

@@ -3,7 +3,7 @@
 ghost use Rattle.std.specs.Prelude.{◌≡◌, ◌+ℤ◌, int_le, pos, IfOk};
 ghost use Rattle.{
   offset_core.specs.Offset.{IsWithinDay},
-  tz_base.specs.{Fronts.{Gives}, Grammar.{checked, is_end, IsRead}, Names.{expected_of_name, is_name}},
+  tz_base.specs.{Fronts.{Gives}, Grammar.{checked, is_end, IsRead}, Names.{expected_of_name}, Steps.TextTests.{is_name}},
   tz_base.specs.Refusals.{InvalidTzString, LocalTimeType as BadType},
   tz_info.specs.{Rules.{IsWithinWeek}, Steps.Spelled.{day_time_of, rule_of, IsSpelled}},
   tz_info.specs.TzGrammar.{named_type, text, alternate, days, dst_offset, end, fixed, given_offset, more, named},
@@ -40,7 +40,8 @@ pub(super) fn rule_of(spelled: Spelled) -> TransitionRule
     }
 }
 
-// What all bytes of the cursor spell.
+// What all bytes of the cursor spell. It is inlined into both callers, so that it isn't moved.
+#[inline(always)]
 #[tactic(auto, unfolding(crate::specs::TzGrammar::text, crate::specs::TzGrammar::rule))]
 pub(super) fn read_text(extended: bool, cursor: &mut Cursor<'_>) -> Result<Spelled, Error>
     ensures value { IsRead (text extended) cursor.old rule_of result cursor.new }

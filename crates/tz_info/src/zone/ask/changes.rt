@@ -101,6 +101,7 @@ impl TimeZone {
 
     // The change that comes with the entry at that place, if one does. That of the last transition is asked.
     #[inline(always)]
+    #[tactic(auto, using(crate::proofs::SearchWords::ints, crate::proofs::EntryChanges::with_entry))]
     fn change_with<'a>(&'a self, changes: &'a ChangeTable, place: usize) -> Option<HeldChange<'a>>
         requires list { AreEntries self.now changes.now }
         requires place { place < length changes.now.items }

@@ -4,7 +4,7 @@ ghost use Rattle.std.specs.Prelude.{◌≡◌, ◌↔◌, ◌<◌, ◌≤◌, �
 ghost use Rattle.{
   naive_base.specs.Range.{IsWide},
   offset_core.specs.WallAnswer.{IsShownOnce},
-  tz_info.specs.{Counts.{HasRoom, HasRoomFor, RoseWithin}, Digits.{digits}},
+  tz_info.specs.{Counts.{HasRoom, RoseWithin}, Steps.RisingCounts.{HasRoomFor}, Looks.{digits}},
   tz_info.specs.Steps.{Starts.{leap_time_at}, Entries.{HaveComeAt}, Asked.{IsAskedAtLeapTime}},
   tz_info.specs.{HeldChanges.{span_held}, Looks.{RoseByInstant}, Leaps.{IsLeapTime, IsLeapTimeRefused, IsNear}},
   tz_info.specs.{Questions.{IsAskedAt}, Spans.{IsSpanAt}, Transitions.{passed}, WallClocks.{Shows}},

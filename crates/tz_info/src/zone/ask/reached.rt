@@ -3,7 +3,7 @@
 ghost use Rattle.std.specs.Prelude.{◌+◌, length};
 ghost use Rattle.{
   naive_base.specs.{NaiveDateTime.{reading}, Range.{IsWide}},
-  tz_info.specs.{Counts.{HasRoom, RoseWithin}, Digits.{digits}, Reached.{IsLastReached}, Zones.{TypeAt}},
+  tz_info.specs.{Counts.{HasRoom, RoseWithin}, Looks.{digits}, ShownSeconds.{IsLastReached}, Zones.{TypeAt}},
 };
 
 use crate::answers::shown_at;

@@ -3,10 +3,10 @@
 ghost use Rattle.std.specs.Prelude.{◌≡◌, ◌↔◌, ◌<◌, ◌≤◌, length, IsTrue};
 ghost use Rattle.{
   naive_base.specs.Range.{IsWide},
-  tz_info.specs.Counts.{HasRoom, HasRoomFor, RoseWithin},
+  tz_info.specs.{Counts.{HasRoom, RoseWithin}, Steps.RisingCounts.{HasRoomFor}},
   tz_info.specs.Steps.Segments.{begin_of, index_of},
   tz_info.specs.Steps.SegmentEnds.{end_of, AreEnds, IsFirstOf, IsFirstSegment, IsLatestEnd, IsReached},
-  tz_info.specs.{Digits.{digits}, Transitions.{NameTypes}},
+  tz_info.specs.{Looks.{digits}, Transitions.{NameTypes}},
 };
 
 use crate::answers::second_showing;

@@ -4,7 +4,7 @@
 ghost use Rattle.std.specs.Prelude.{◌≡◌, ◌*◌, ◌<ℤ◌, ◌+ℤ◌, ◌-ℤ◌, ◌*ℤ◌, if◌then◌else◌, length, pos, MatchOption};
 ghost use Rattle.{
   naive_base.specs.{NaiveDate.{day_of}, NaiveDateTime.{reading}, Range.{IsWide}},
-  tz_info.specs.{Counts.{HasRoom, RoseWithin}, Leaps.{IsNear}, Zones.{TypeAt}, Digits.{digits}},
+  tz_info.specs.{Counts.{HasRoom, RoseWithin}, Leaps.{IsNear}, Zones.{TypeAt}, Looks.{digits}},
   tz_info.specs.ShownSeconds.{AreShownWithin, IsFirstAtOrAfter, IsNeverWithin},
   tz_info.specs.Steps.Runs.{AreWithin, HaveOneTypeFrom, IsEnd, IsEndOfRun, IsEndWithin, IsNextRun},
 };

@@ -1,9 +1,9 @@
 //! The seconds at which a zone has a type: all of them from the first one to the last one.
 
-ghost use Rattle.std.specs.Prelude.{◌↔◌, ◌<ℤ◌, ◌≤ℤ◌, ◌+ℤ◌, ◌-ℤ◌, option_map, pos, IsTrue, MatchOption};
+ghost use Rattle.std.specs.{Int.{int_min}, Prelude.{◌≡◌, ◌<ℤ◌, ◌-ℤ◌, option_map, pos}};
 ghost use Rattle.{
-  tz_info.specs.HeldChanges.{change_held},
-  tz_info.specs.Steps.Typed.{IsTypedUntil, IsBeginBy, IsEndBy, IsLastTyped, IsSearched, IsTyped, IsTypedFrom},
+  tz_info.specs.{HeldChanges.{change_held}, Zones.{Zone}},
+  tz_info.specs.Steps.Typed.{IsTypedUntil, IsBeginBy, IsEndBy, IsLastTimed, IsLastTyped, IsTypedFrom},
 };
 
 use crate::change::HeldChange;
@@ -13,14 +13,11 @@ use crate::zone::time_zone::TimeZone;
 // them.
 pub(super) const FIRST_OF_RULE: i64 = -67_768_100_504_812_800;
 
-// No leap time of a second up to this one leaves 64 bits.
-const NEAR: i64 = 10_000_000_000_000;
-
 const END_OF_RULE: i64 = 67_767_976_170_460_800;
 
 impl TimeZone {
     // When the span begins whose seconds have that last change, or none.
-    pub(super) fn span_begin(&self, previous: Option<HeldChange<'_>>) -> Option<i64>
+    pub(in crate::zone) fn span_begin(&self, previous: Option<HeldChange<'_>>) -> Option<i64>
         ensures { IsBeginBy self.now (option_map change_held previous.entry) result }
     {
         match previous {
@@ -54,87 +51,47 @@ impl TimeZone {
     fn typed_until(&self) -> Option<i64>
         ensures { IsTypedUntil self.now result }
     {
-        let last = self.last_typed();
-        if last == i64::MAX {
-            return None;
-        }
-        Some(last + 1)
+        second_after(self.last_typed())
     }
 
-    // The last second that has a type. The search goes from the end in steps that double, then by
-    // halves.
+    // The last second that has a type: that with a leap time, or of a rule of two types the last one of the
+    // years that it answers in. Before a rule begins, it isn't asked.
     pub(in crate::zone) fn last_typed(&self) -> i64
         ensures { IsLastTyped self.now result }
     {
         let _ = &self.changes;
-        let Some(mut end) = self.far_without_type() else {
+        let last = self.last_timed();
+        match self.turns() {
+            Some(_) => up_to(last, self.rule_begin().max(i128::from(END_OF_RULE))),
+            None => last,
+        }
+    }
+
+    // The last second that has a leap time; without transitions none needs one.
+    fn last_timed(&self) -> i64
+        ensures { IsLastTimed self.now result }
+    {
+        if self.has_no_transition() {
             return i64::MAX;
-        };
-        let mut known = NEAR;
-        let mut step: i64 = 1;
-        while known + 1 < end {
-            let second = second_between(known, end, step);
-            let (later, earlier) = self.narrowed(known, end, second);
-            known = later;
-            end = earlier;
-            step = doubled(step);
         }
-        known
-    }
-
-    // The known second with a type and the one without, of which that between them replaces one.
-    fn narrowed(&self, known: i64, end: i64, second: i64) -> (i64, i64)
-        requires searched { IsSearched self.now known end }
-        requires later { known <ℤ second }
-        requires earlier { second <ℤ end }
-        ensures searched { IsSearched self.now result.0 result.1 }
-        ensures nearer { (result.1 -ℤ result.0) <ℤ (end -ℤ known) }
-    {
-        if self.has_type(second) {
-            (second, end)
-        } else {
-            (known, second)
-        }
-    }
-
-    // The second after the years of rules, or else the last one of 64 bits, if it has no type.
-    fn far_without_type(&self) -> Option<i64>
-        ensures { MatchOption result (IsTyped self.now (pos 9_223_372_036_854_775_807))
-            (λ u. ¬ (IsTyped self.now u) × (pos 10_000_000_000_000 <ℤ u)) }
-    {
-        if self.has_type(i64::MAX) {
-            None
-        } else if self.has_type(END_OF_RULE) {
-            Some(i64::MAX)
-        } else {
-            Some(END_OF_RULE)
-        }
-    }
-
-    fn has_type(&self, second: i64) -> bool
-        ensures { IsTrue result ↔ IsTyped self.now second }
-    {
-        match self.find_local_time_type(second) {
-            Ok(_) => true,
-            Err(_) => false,
-        }
+        self.leap_seconds.last()
     }
 }
 
-fn doubled(step: i64) -> i64
-    requires { pos 0 <ℤ step }
-    ensures { pos 0 <ℤ result }
+// The second, or the one before `end` if that is earlier.
+fn up_to(second: i64, end: i128) -> i64
+    requires { pos 0 <ℤ end }
+    ensures { result ≡ int_min second (end -ℤ pos 1) }
 {
-    if step < 1 << 61 { 2 * step } else { step }
+    i128::from(second).min(end - 1) as i64
 }
 
-// The second that many before the later one, or in the middle, if that is nearer to the later one.
-fn second_between(known: i64, end: i64, step: i64) -> i64
-    requires known { pos 0 ≤ℤ known }
-    requires apart { (known +ℤ pos 1) <ℤ end }
-    requires step { pos 0 <ℤ step }
-    ensures { (known <ℤ result) × (result <ℤ end) }
+// The second after the last one that has a type; `None` if that is the last one of 64 bits.
+pub(in crate::zone) fn second_after(last: i64) -> Option<i64>
+    ensures { (z : Zone) → IsLastTyped z last → IsTypedUntil z result }
 {
-    let half = ((end - known) as u64 / 2) as i64;
-    if step < half { end - step } else { end - half }
+    if last == i64::MAX {
+        return None;
+    }
+    Some(last + 1)
 }

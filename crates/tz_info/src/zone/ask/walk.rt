@@ -5,7 +5,7 @@ ghost use Rattle.std.specs.{Prelude.{◌≡◌, ◌↔◌, ◌<◌, ◌≤◌, �
 ghost use Rattle.{
   naive_base.specs.{NaiveDateTime.{reading}, Range.{IsWide}},
   offset_core.specs.{LocalResult.{map_of}, WallAnswer.{IsWallAnswer}},
-  tz_info.specs.Counts.{HasRoom, HasRoomFor, RoseWithin},
+  tz_info.specs.{Counts.{HasRoom, RoseWithin}, Steps.RisingCounts.{HasRoomFor}},
   tz_info.specs.Steps.{Segments.{begin_of, index_of}, Walk.{IsCandidate, IsShownIn, IsTimeWithin, IsTried}},
   tz_info.specs.{Looks.{RoseByWalk}, WallClocks.{Shows}, Zones.{TypeAt}, Questions.{IsAskedFor}},
 };

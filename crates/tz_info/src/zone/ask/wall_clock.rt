@@ -4,10 +4,10 @@ ghost use Rattle.std.specs.{Prelude.{◌≡◌, ◌<◌, ◌+◌, ◌*◌, lengt
 ghost use Rattle.{
   naive_base.specs.{NaiveDateTime.{reading}, Range.{IsWide}},
   offset_core.specs.{LocalResult.{map_of}, WallAnswer.{IsWallAnswer}},
-  tz_info.specs.Counts.{HasRoom, HasRoomFor, RoseByPieces, RoseWithin},
+  tz_info.specs.{Counts.{HasRoom, RoseByPieces, RoseWithin}, Steps.RisingCounts.{HasRoomFor}},
   tz_info.specs.Steps.{Seasons.{IsSeasonIn}, Walk.{IsShownIn}, Pieces.{AreBelow, AreListed}},
   tz_info.specs.Steps.WallPieces.{shown_indexes, IsTableAnswer},
-  tz_info.specs.{Digits.{digits}, WallClocks.{Shows}, Zones.{TypeAt}, Looks.{RoseByWallClock}, Questions.{IsAskedFor}},
+  tz_info.specs.{Looks.{digits}, WallClocks.{Shows}, Zones.{TypeAt}, Looks.{RoseByWallClock}, Questions.{IsAskedFor}},
 };
 
 use crate::answers::{joined, types_copied};

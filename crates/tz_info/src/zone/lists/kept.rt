@@ -102,7 +102,7 @@ impl AsTransition for Kept {
 }
 
 impl Timed for Kept {
-    ghost use Rattle.tz_info.specs.Counts.{reads_more, reads_more_on, reads_more_none, reads_more_looks};
+    ghost use Rattle.tz_info.specs.Steps.RisingCounts.{reads_more, reads_more_on, reads_more_none, reads_more_looks};
 
     ghost time = { λ k. k.unix_leap_time };
 

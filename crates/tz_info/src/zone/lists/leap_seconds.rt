@@ -1,6 +1,6 @@
 //! The leap seconds of a zone, and which seconds have a leap time.
 
-ghost use Rattle.std.specs.Prelude.{◌≡◌, ◌↔◌, ◌≤ℤ◌, ◌+ℤ◌, ◌-ℤ◌, [], pos, IsFalse, IsTrue, MatchResult, ℤ};
+ghost use Rattle.std.specs.{Int.{int_min}, Prelude.{◌≡◌, ◌↔◌, ◌≤ℤ◌, ◌<ℤ◌, ◌+ℤ◌, ◌-ℤ◌, [], neg_ℤ, pos, IsFalse, IsTrue, MatchResult, ℤ}};
 ghost use Rattle.{
   tz_info.specs.Leaps.{correction_at, AreLeapSeconds, IsLeapTime, IsLeapTimeRefused},
   tz_info.specs.Steps.Starts.{IsLastWithLeapTime},
@@ -66,6 +66,14 @@ impl LeapSeconds {
         unix_time <= self.last
     }
 
+    // The last second that has a leap time.
+    pub(in crate::zone) fn last(&self) -> i64
+        ensures last { IsLastWithLeapTime self.now result }
+        ensures valid { AreLeapSeconds self.now }
+    {
+        self.last
+    }
+
     // The leap time of a Unix time.
     pub(in crate::zone) fn leap_time(&self, unix_time: i64) -> Result<i64, Error>
         ensures { MatchResult result
@@ -81,29 +89,40 @@ impl LeapSeconds {
     }
 }
 
-// The second before the first one that an entry refuses, or the last one of 64 bits.
+// The last second that no entry refuses, or the last one of 64 bits.
 fn last_with_leap_time(entries: &[LeapSecond]) -> i64
     requires { AreLeapSeconds entries.now }
     ensures { IsLastWithLeapTime entries.now result }
 {
-    let mut refused = i64::MAX as i128 + 1;
+    let mut last = i64::MAX;
     let mut before = 0;
     for entry in entries {
-        refused = refused.min(refused_by(entry, before));
+        last = last.min(last_before(entry, before));
         before = entry.correction;
     }
-    (refused - 1) as i64
+    last
 }
 
-// The first second that the entry refuses, after an entry of that correction: the entry is passed
-// there, and the sum with its correction leaves 64 bits.
-fn refused_by(entry: &LeapSecond, before: i32) -> i128
-    ensures first { (u : ℤ) → (result ≤ℤ u)
+// The last second before the first one that the entry refuses, after an entry of that correction: the entry
+// is passed there, and the sum with its correction leaves 64 bits. If 64 bits don't hold it, their last one.
+fn last_before(entry: &LeapSecond, before: i32) -> i64
+    requires { pos 0 ≤ℤ entry.now.unix_leap_time }
+    ensures { (u : ℤ) → u ≤ℤ pos 9_223_372_036_854_775_807 → (result <ℤ u)
         ↔ (((entry.now.unix_leap_time -ℤ before) ≤ℤ u)
         × (pos 9_223_372_036_854_775_808 ≤ℤ (u +ℤ entry.now.correction))) }
-    ensures late { pos 4_611_686_018_427_387_904 ≤ℤ result }
 {
-    let passed = entry.unix_leap_time as i128 - before as i128;
-    let beyond = i64::MAX as i128 + 1 - entry.correction as i128;
-    passed.max(beyond)
+    let unpassed = seconds_before(entry.unix_leap_time, i64::from(before) + 1);
+    unpassed.max(seconds_before(i64::MAX, i64::from(entry.correction)))
+}
+
+// That many seconds before the second, or the last second of 64 bits if it is earlier.
+fn seconds_before(second: i64, seconds: i64) -> i64
+    requires second { pos 0 ≤ℤ second }
+    requires seconds { neg_ℤ (pos 9_223_372_036_854_775_807) ≤ℤ seconds }
+    ensures { result ≡ int_min (second -ℤ seconds) (pos 9_223_372_036_854_775_807) }
+{
+    match second.checked_sub(seconds) {
+        Some(earlier) => earlier,
+        None => i64::MAX,
+    }
 }

@@ -2,7 +2,7 @@
 
 ghost use Rattle.std.specs.Prelude.{◌≡◌, ◌<◌, ◌≤◌, ◌+◌, [], length, option_map, slice_index_or, take, MatchResult};
 ghost use Rattle.{
-  tz_info.specs.{Counts.{HasRoomFor, RoseWithin}, Digits.{digits}, Transitions.{passed, AreRising}},
+  tz_info.specs.{Counts.{RoseWithin}, Steps.RisingCounts.{HasRoomFor}, Looks.{digits}, Transitions.{passed, AreRising}},
   tz_info.specs.Steps.{Entries.{IsEntryAt}, Search.{IsLastOf}},
 };
 

@@ -4,8 +4,8 @@ ghost use Rattle.std.specs.List.{slice_get};
 ghost use Rattle.std.specs.Prelude.{⊤, IsTrue, MatchOption, MatchResult, ◌≡◌, ◌↔◌, ◌<◌, ◌≤◌, ◌+◌, ◌-◌, [], length, option_map, pos};
 ghost use Rattle.std.specs.Prelude.{vec_capacity, vec_len};
 ghost use Rattle.{
-  tz_info.specs.Steps.Entries.{last_index, AreBefore, AreEntries, EndsAt, IsAdded, IsStartIn, NeverComes},
-  tz_info.specs.Steps.{Pieces.{zone_in}, WallPieces.{top_of, IsBegunNear}},
+  tz_info.specs.Steps.Entries.{as_listed, last_index, AreBefore, AreEntries, EndsAt, IsAdded, IsStartIn, NeverComes},
+  tz_info.specs.Steps.{Pieces.{zone_in, zone_of}, WallPieces.{top_of, IsBegunNear}},
   tz_info.specs.{Transitions.{AreRising, NameTypes}, Zones.{IsValid}},
 };
 
@@ -24,10 +24,10 @@ use tz_base::{Error, LocalTimeType};
 // since the rule begins there.
 #[derive(Drop)]
 pub(in crate::zone) struct ChangeList {
-    pub(super) items: Vec<Kept>,
+    pub(in crate::zone) items: Vec<Kept>,
     // How many entries have come once all transitions have: more than there are, if never.
     pub(super) all: usize,
-    // The transitions as listed, if these are not the entries.
+    // The transitions as listed, if the entries were made from them.
     pub(super) listed: Option<Vec<Kept>>,
 }
 
@@ -45,7 +45,7 @@ impl Model for ChangeList {
 }
 
 impl ChangeList {
-    // The list of the zone of those lists, which keeps its transitions.
+    // The list of the zone of those lists, which keeps its transitions as well.
     pub(in crate::zone) fn new(
         alloc: Global,
         transitions: Vec<Kept>,
@@ -53,18 +53,9 @@ impl ChangeList {
         leaps: &LeapSeconds,
         rule: &Option<TransitionRule>,
     ) -> Result<ChangeList, Error>
-        requires { IsValid (record {
-          transitions = transitions.items;
-          types = types.now;
-          leaps = leaps.now;
-          rule = rule.now;
-        }) }
-        ensures { MatchResult result (λ t. AreEntries (record {
-          transitions = transitions.items;
-          types = types.now;
-          leaps = leaps.now;
-          rule = rule.now;
-        }) t) (λ e. e ≡ Error.OutOfMemory) }
+        requires { IsValid (zone_of transitions.items types.now leaps.now rule.now) }
+        ensures { MatchResult result (AreEntries (zone_of transitions.items types.now leaps.now rule.now))
+            (λ e. e ≡ Error.OutOfMemory) }
     {
         let lists = ZoneLists {
             transitions: &transitions,
@@ -72,14 +63,6 @@ impl ChangeList {
             leaps,
             rule,
         };
-        if are_entries(lists) {
-            let all = transitions.len();
-            return Ok(ChangeList {
-                items: transitions,
-                all,
-                listed: None,
-            });
-        }
         let (items, all) = entries_of(alloc, lists)?;
         Ok(ChangeList {
             items,
@@ -88,13 +71,14 @@ impl ChangeList {
         })
     }
 
-    // The list of a zone without transitions, which takes no memory.
-    pub(in crate::zone) fn none(alloc: Global) -> ChangeList
-        ensures { result ≡ record { items = []; all = 0; transitions = [] } }
+    // The transitions as listed, as if each of them were an entry: an empty list takes no memory.
+    pub(in crate::zone) fn as_listed(transitions: Vec<Kept>) -> ChangeList
+        ensures { result ≡ as_listed transitions.items }
     {
+        let all = transitions.len();
         ChangeList {
-            items: Vec::new(alloc),
-            all: 0,
+            items: transitions,
+            all,
             listed: None,
         }
     }
@@ -146,32 +130,9 @@ impl ChangeList {
     }
 }
 
-// Whether the transitions are the entries: there is no leap second, and each transition but the last
-// changes the type. It is not inlined, so that its loop has the registers.
+// The entries of the zone of those lists, and how many of them have come once all transitions have. It is
+// not inlined, so that its loop has the registers.
 #[inline(never)]
-fn are_entries(lists: ZoneLists) -> bool
-    requires { IsValid (zone_in lists) }
-    ensures { IsTrue result → AreEntries (zone_in lists.entry) (record {
-      items = lists.entry.transitions.now;
-      all = length lists.entry.transitions.now;
-      transitions = lists.entry.transitions.now;
-    }) }
-{
-    if !lists.leaps.entries().is_empty() {
-        return false;
-    }
-    let mut before = &lists.types[0];
-    for place in 1..lists.transitions.len() {
-        let after = &lists.types[lists.transitions[place - 1].type_index()];
-        if is_same_type(before, after) {
-            return false;
-        }
-        before = after;
-    }
-    true
-}
-
-// The entries of the zone of those lists, and how many of them have come once all transitions have.
 fn entries_of(alloc: Global, lists: ZoneLists) -> Result<(Vec<Kept>, usize), AllocError>
     requires { IsValid (zone_in lists) }
     ensures { MatchResult result (λ made. AreEntries (zone_in lists.entry) (record {
@@ -206,7 +167,11 @@ fn entries_of(alloc: Global, lists: ZoneLists) -> Result<(Vec<Kept>, usize), All
 fn start_in(leaps: &LeapSeconds, time: i64, near: &mut usize) -> Option<i64>
     ensures { MatchOption result (NeverComes leaps.now time) (IsStartIn leaps.now time) }
 {
-    let start = first_second(leaps.entries(), time, near);
+    let entries = leaps.entries();
+    if entries.is_empty() {
+        return Some(time);
+    }
+    let start = first_second(entries, time, near);
     if start > i64::MAX as i128 {
         return None;
     }

@@ -3,7 +3,7 @@
 ghost use Rattle.std.specs.Prelude.{◌≡◌, ◌↔◌, ◌<◌, ◌≤◌, ◌+◌, ◌-◌, ◌^◌, ◌<ℤ◌, ◌≤ℤ◌, [], length, neg_ℤ, option_map, pos, IfSome, IsTrue};
 ghost use Rattle.std.specs.Prelude.{MatchOption, MatchResult};
 ghost use Rattle.{
-  tz_info.specs.{Counts.{HasRoom, HasRoomFor, RoseWithin}, Digits.{digits}, HeldChanges.{change_held}},
+  tz_info.specs.{Counts.{HasRoom, RoseWithin}, Steps.RisingCounts.{HasRoomFor}, Looks.{digits}, HeldChanges.{change_held}},
   tz_info.specs.Steps.Entries.{entry_time, most_looks, IsBetween, IsCome, IsEntryAt, IsEntryChange},
   tz_info.specs.Steps.{Segments.{index_of}, Pieces.{IsJump, IsPlaced}, WallPieces.{top_of, IsBegun}},
   tz_info.specs.Transitions.{passed, AreRising, NameTypes},
@@ -21,8 +21,8 @@ use std::alloc::Global;
 use std::marker::Model;
 use tz_base::{Error, LocalTimeType};
 
-// The transitions by Unix time, without those that change nothing, and the transitions as listed, if these
-// are not the entries.
+// The transitions by Unix time, without those that change nothing, and the transitions as listed, if the
+// entries were made from them.
 #[derive(Drop)]
 pub(in crate::zone) struct ChangeTable {
     entries: Table,
@@ -211,6 +211,7 @@ impl ChangeTable {
     }
 
     // The second from which the rule is asked: one that 64 bits don't hold, if it never is.
+    #[tactic(auto, using(crate::proofs::Fits::fits, crate::proofs::SearchWords::ints, crate::proofs::SegmentLaws::come_from, crate::proofs::SegmentLaws::place_most, crate::proofs::EntryChanges::begin_at))]
     pub(in crate::zone) fn rule_begin(&self) -> i128
         requires rising { AreRising self.now.items }
         requires more { length self.now.items ≤ self.now.all }

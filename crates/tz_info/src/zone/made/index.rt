@@ -1,9 +1,9 @@
 //! A zone's index of the wall-clock axis.
 
-ghost use Rattle.std.specs.Prelude.{◌≡◌, ◌<◌, ◌≤◌, ◌-◌, ◌^◌, length, slice_index_or, MatchOption, MatchResult};
+ghost use Rattle.std.specs.Prelude.{◌≡◌, ◌<◌, ◌≤◌, ◌-◌, ◌^◌, length, slice_index_or, IfSome, MatchOption, MatchResult};
 ghost use Rattle.{
-  tz_info.specs.Counts.{HasRoomFor, RoseByPieces, RoseWithin},
-  tz_info.specs.Steps.{Entries.{most_looks, AreEntries}, Pieces.{zone_in, ArePieces}},
+  tz_info.specs.{Counts.{RoseByPieces, RoseWithin}, Steps.RisingCounts.{HasRoomFor}},
+  tz_info.specs.Steps.{Entries.{as_listed, most_looks, AreEntries}, Pieces.{zone_in, ArePieces}},
   tz_info.specs.Steps.{WallPieces.{answer_at, top_of, IsCounted, IsIndex}, SegmentEnds.{AreEnds}},
   tz_info.specs.Zones.{IsValid},
 };
@@ -45,7 +45,7 @@ impl Model for Index {
 }
 
 impl Timed for Piece {
-    ghost use Rattle.tz_info.specs.Counts.{pieces_more, pieces_more_on, pieces_more_none, pieces_more_looks};
+    ghost use Rattle.tz_info.specs.Steps.RisingCounts.{pieces_more, pieces_more_on, pieces_more_none, pieces_more_looks};
 
     ghost time = { λ p. p.start };
 
@@ -93,6 +93,31 @@ impl Index {
         let pieces = pieces_of(alloc, lists, entries, 0, count)?;
         let maxima = maxima_of(alloc, lists.types, entries)?;
         Index::of_pieces(alloc, lists, changes, pieces, maxima)
+    }
+
+    // The index of the zone of those lists, in one pass, if its transitions are its entries: there is no
+    // leap second, and each transition but the last changes the type.
+    #[tactic(auto, using(crate::proofs::EntryLaws::own_entries))]
+    pub(in crate::zone) fn of_transitions(
+        alloc: Global,
+        lists: ZoneLists,
+        changes: &ChangeList,
+    ) -> Result<Option<Index>, Error>
+        requires valid { IsValid (zone_in lists) }
+        requires some { 0 < length lists.transitions.now }
+        requires listed { changes.now ≡ as_listed lists.transitions.now }
+        ensures { MatchResult result (λ made. IfSome made (λ i. AreEntries (zone_in lists.entry) changes.now
+            × IsIndex (zone_in lists.entry) changes.now i)) (λ e. e ≡ Error.OutOfMemory) }
+    {
+        if !lists.leaps.entries().is_empty() {
+            return Ok(None);
+        }
+        let count = changes.segment_count(lists.rule);
+        let Some(pieces) = pieces_in_one_pass(alloc, lists, lists.transitions, count)? else {
+            return Ok(None);
+        };
+        let index = Index::of_pieces(alloc, lists, changes, pieces, Vec::new(alloc))?;
+        Ok(Some(index))
     }
 
     // The index of the zone of those lists and of those entries, which has those pieces and maxima.

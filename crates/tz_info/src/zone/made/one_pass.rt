@@ -1,20 +1,22 @@
 //! The pieces of a zone's table in one pass over its entries, where their cuts come in order.
 
-ghost use Rattle.std.specs.Prelude.{◌≡◌, ◌<◌, ◌≤◌, ◌<ℤ◌, ◌≤ℤ◌, length, ⊤, IsFalse, IsTrue, MatchOption, MatchResult};
+ghost use Rattle.std.specs.{List.{slice_get}, Prelude.{◌≡◌, ◌↔◌, ◌⊎◌, ◌<◌, ◌≤◌, ◌-◌, ◌<ℤ◌, ◌≤ℤ◌, length, IsFalse, IsTrue, MatchOption, MatchResult}};
 ghost use Rattle.{
-  tz_info.specs.Steps.{Pieces.{zone_in, AreCutsCrossed, ArePieces, ArePiecesAt}, SegmentEnds.{AreEndsRising}},
-  tz_info.specs.Steps.WallPieces.{IsTable},
+  tz_info.specs.Steps.{Entries.{AllChange, IsSomeIdle}, Pieces.{zone_in, AreCutsCrossed, ArePieces, ArePiecesAt, IsSegment}},
+  tz_info.specs.Steps.{SegmentEnds.{AreEndsRising}, Segments.{index_of}, WallPieces.{IsTable}},
 };
 
+use crate::change::is_same_type;
 use crate::zone::lists::kept::Kept;
 use crate::zone::made::pieces::Piece;
 use crate::zone::made::segments::{Segment, SegmentPieces, ZoneLists, cut_of, segment_at};
 use crate::zone::made::shown::{Shown, must_be_packed};
 use std::alloc::Global;
-use tz_base::Error;
+use tz_base::{Error, LocalTimeType};
 
-// The pieces of the first `count` segments, two for each entry. None where an entry does not cut the
-// axis after the one before it, as if the two lie closer together than their offsets differ.
+// The pieces of the first `count` segments, two for each entry. None if an entry does not cut the
+// axis after the one before it, since the two lie closer together than their offsets differ, or if one
+// before the last does not change the type.
 #[inline(never)]
 pub(super) fn pieces_in_one_pass(
     alloc: Global,
@@ -26,9 +28,11 @@ pub(super) fn pieces_in_one_pass(
     requires some { 0 < length entries.now }
     requires count { length entries.now ≤ count }
     ensures { MatchResult result
-        (λ made. MatchOption made (AreCutsCrossed lists.entry.types.now entries.now)
+        (λ made. MatchOption made
+        (AreCutsCrossed lists.entry.types.now entries.now ⊎ IsSomeIdle lists.entry.types.now entries.now)
         (λ s. ArePieces (zone_in lists.entry) entries.now 0 count s.before s.pieces.items
-        × AreEndsRising lists.entry.types.now entries.now))
+        × AreEndsRising lists.entry.types.now entries.now
+        × AllChange lists.entry.types.now entries.now (length entries.now)))
         (λ e. e ≡ Error.OutOfMemory) }
 {
     must_be_packed(entries.len())?;
@@ -38,6 +42,9 @@ pub(super) fn pieces_in_one_pass(
     let mut before = segment_at(lists.types, entries, 0);
     for place in 1..count {
         let behind = segment_at(lists.types, entries, place);
+        if is_idle(lists.types, entries, place, before, behind) {
+            return Ok(None);
+        }
         let (first, last) = pieces_at(entries, place, before, behind);
         if is_crossed(place, latest, first.start) {
             return Ok(None);
@@ -59,6 +66,26 @@ pub(super) fn pieces_in_one_pass(
         before: Shown::Once(segment_at(lists.types, entries, 0).index),
         pieces,
     }))
+}
+
+// Whether the segment at that place has the type of the one before it, and another entry comes.
+#[inline(always)]
+fn is_idle(
+    types: &[LocalTimeType],
+    entries: &[Kept],
+    place: usize,
+    before: Segment,
+    behind: Segment,
+) -> bool
+    requires before { IsSegment types.now entries.now (place - 1) before }
+    requires behind { IsSegment types.now entries.now place behind }
+    ensures { IsTrue result ↔ ((place < length entries.now)
+        × (slice_get types.now (index_of entries.now place)
+        ≡ slice_get types.now (index_of entries.now (place - 1)))) }
+{
+    before.offset == behind.offset
+        && place < entries.len()
+        && is_same_type(&types[before.index], &types[behind.index])
 }
 
 // Whether the next cut, at that place, does not come after the latest, if there is one.

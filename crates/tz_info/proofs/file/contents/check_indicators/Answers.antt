@@ -1,8 +1,12 @@
-use Rattle.tz_info.proofs.{ListLaws.one_false, Words.{indicators_of, pair_agrees}}
+use Rattle.tz_base.specs.declared.error.{Error.TheVariants.{InvalidTzFile}, Expected.TheVariants.{StandardTimeWhereTimeIsUt}}
+use Rattle.tz_info.proofs.{ListLaws.{each_fails}, Words.{arith, drop, from_ut_local, pair_test, pieces_of, refl, ap, sym, ◌∙◌, ◌≡◌, false}}
+use Rattle.tz_info.specs.FileContents.{indicators, pair_at}
 use Rattle.tz_info.proofs.file.contents.check_indicators.Goals as goal
 
 pub returns-then-not-pair_agrees : goal.returns-then-not-pair_agrees
-unfolding indicators_of
+unfolding indicators pair_at
 returns-then-not-pair_agrees c =
-    rw (one_false _ c.loop-k.k (pair_agrees c.args.standard_wall.now c.args.ut_local.now) c.loop-k-test.true
-    (rw (← c.pair_agrees.ensures) c.if-not-pair_agrees.true))
+    let p = pieces_of c.args.pieces.now in
+    let other : (pair_test p.parts.standard_wall p.parts.ut_local c.loop-k.k).passes ≡ false = sym c.pair_agrees.ensures ∙ c.if-not-pair_agrees.true in
+    let f = each_fails (pair_at p) _ _ _ _ _ (InvalidTzFile StandardTimeWhereTimeIsUt) c.loop-k-test.true c.loop-k.invariant (rw other refl) in
+    (rw f.0 refl, c.new.ensures ∙ c.after.ensures ∙ ap (drop c.loop-k.k) c.from_parts.ensures.ut_local ∙ rw (f.0, f.1) refl)

@@ -1,9 +1,10 @@
-use Rattle.tz_info.proofs.Words.{Ok, type_in, values_below, vec_capacity, vec_len, ◌≡◌}
+use Rattle.tz_base.specs.Grammar.{Each}
+use Rattle.tz_info.{proofs.Words.{Ok, pieces_of, read, vec_capacity, vec_len, ◌≡◌}, specs.FileContents.{type_at}}
 use Rattle.tz_info.proofs.file.types.read_types.Given as goal
 
 abbrev pub invariant-loop-k : goal.invariant-loop-k
 invariant-loop-k l = record {
-  read : values_below l.k (type_in l.designations l.part) ≡ Ok l.types.items;
+  read : read (Each l.k (type_at (pieces_of l.pieces))) l.fn.cursor ≡ Ok (l.types.items, l.cursor);
   count : vec_len l.types ≡ l.k;
   room : vec_capacity l.types ≡ l.count;
 }

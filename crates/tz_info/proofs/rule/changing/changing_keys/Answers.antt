@@ -2,8 +2,8 @@ use Rattle.std.proofs.lemmas.List.{map-append, take_more_set}
 use Rattle.tz_info.proofs.{
   Fits.{fits},
   YearKeys.{key_count, keys_are},
-  Words.{SFits, ap, arith, changing_keys, get_or, key_years, length, length-set, map, pos, refl, rules, sym, take_all, take_more, to_z-of_z, w32, ◌<◌, ◌∙◌},
-  Words.{◌≡◌, ◌≤◌},
+  Words.{SFits, arith, changing_keys, get_or, get_or-map, key_years, kind_place, length, length-set, pos, refl, rules, take_all, take_more},
+  Words.{w32, ◌<◌, ◌≡◌},
 }
 use Rattle.tz_info.specs.Steps.ChangingYears.{is_changing}
 use Rattle.tz_info.proofs.rule.changing.changing_keys.Goals as goal
@@ -13,8 +13,8 @@ is_changing-requires-clause-year c =
     let f : SFits w32 (get_or c.key_years-years.result c.loop-key.key (pos 0)) = search rules in
     let k = keys_are c.loop-key.key (omega arith) in simp fits (rw c.key_years-years.ensures (k.1, k.2))
 
-pub is_changing-requires-clause-key : goal.is_changing-requires-clause-key
-is_changing-requires-clause-key c = grind (arith, to_z-of_z, keys_are)
+pub is_changing-requires-clause-kind : goal.is_changing-requires-clause-kind
+is_changing-requires-clause-kind c = grind (arith, fits, key_count, get_or-map, kind_place)
 
 pub loop-key-preserved : goal.loop-key-preserved
 loop-key-preserved c =
@@ -31,10 +31,4 @@ loop-key-preserved c =
 
 pub returns : goal.returns
 unfolding changing_keys
-returns c =
-    let l = c.loop-key in
-    let all : l.key ≡ 35 = omega arith in
-    let s : length l.changing ≤ 35 = omega arith in
-    let p : length key_years ≤ 35 = omega (arith, key_count) in
-    sym (take_all 35 _ s) ∙ (rw all at l.invariant.found)
-    ∙ ap (map _) (take_all 35 _ p)
+returns c = grind (arith, fits, key_count, take_all)

@@ -12,23 +12,17 @@ kept : (g : Over) (c : After-self g) → SFits w64 c.args.second × (length (map
     × AreEnds (map g.T.Timed.time c.args.self.now) c.self.inside.ends × AreHints (map g.T.Timed.time c.args.self.now) c.self.inside.hints
 kept g c = (c.ranges.second, length-map _ _, rw (← c.self.view_is) c.self.invariant.1, rw (← c.self.view_is) c.self.invariant.2)
 
-pub read-requires-clause-room : goal.read-requires-clause-room
-read-requires-clause-room g c = grind (arith, digits-halved)
+pub read-requires : goal.read-requires
+read-requires g c = grind (arith, digits-halved)
 
-pub returns-then-self-second-clause-passed : goal.returns-then-self-second-clause-passed
-returns-then-self-second-clause-passed g c = grind (linear, all_passed, kept)
-
-pub returns-then-self-second-clause-cost : goal.returns-then-self-second-clause-cost
-returns-then-self-second-clause-cost g c = grind (linear, digits-halved)
+pub returns-then-self-second : goal.returns-then-self-second
+returns-then-self-second g c = grind (linear, all_passed, digits-halved, kept)
 
 pub count_look-requires : goal.count_look-requires
 count_look-requires g c = grind (arith, digits-halved)
 
-pub returns-then-second-self-clause-passed : goal.returns-then-second-self-clause-passed
-returns-then-second-self-clause-passed g c = grind (linear, none_passed)
-
-pub returns-then-second-self-clause-cost : goal.returns-then-second-self-clause-cost
-returns-then-second-self-clause-cost g c = grind (linear, digits-halved)
+pub returns-then-second-self : goal.returns-then-second-self
+returns-then-second-self g c = grind (linear, digits-halved, none_passed)
 
 pub passed_near-requires-clause-near : goal.passed_near-requires-clause-near
 passed_near-requires-clause-near g c =
@@ -37,5 +31,5 @@ passed_near-requires-clause-near g c =
     simp fits (near_hinted _ _ _ _ _ _ c.len-count.ensures.ordered
     (omega arith) (omega arith) ends hints (omega linear) (simp fits at c.seconds_between.ensures) (pow_pos _) c.in-Some.ensures)
 
-pub passed_by_halves-requires-clause-left : goal.passed_by_halves-requires-clause-left
-passed_by_halves-requires-clause-left g c = grind (linear, kept)
+pub passed_by_halves-requires : goal.passed_by_halves-requires
+passed_by_halves-requires g c = grind (linear, kept)

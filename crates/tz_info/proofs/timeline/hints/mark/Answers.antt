@@ -1,23 +1,19 @@
 use Rattle.tz_info.proofs.{
   HintLaws.marked_more,
   SearchSteps.time_read,
-  SearchWords.{SFits, arith, item_time, length-set, linear, map, rules, stretch_of, to_z-of_z, w64, ◌/◌, ◌^◌, ◌≡◌},
+  SearchWords.{arith, item_time, length-set, linear, map, stretch_of, to_z-of_z, ◌/◌, ◌^◌, ◌≡◌},
   timeline.hints.mark.Given.Over,
 }
 use Rattle.tz_info.proofs.timeline.hints.mark.Goals as goal
 
 pub seconds_between-requires : goal.seconds_between-requires
 seconds_between-requires g c =
-    let fs : SFits w64 c.second.result = search rules in
-    let time = time_read g.T.Timed.time c.args.items.now c.loop-place.place c.index-items-place.result c.loop-place-test.true c.index-items-place.is in
-    grind (linear, c.ranges.first, c.requires.first c.loop-place.place)
+    grind (linear, c.ranges.first, c.requires.first c.loop-place.place, time_read)
 
 -- the stretch of the item, which has a slot after it
 slot : (g : Over) (c : goal.After-seconds_between g)
     → c.seconds_between.result / 2 ^ c.args.shift ≡ stretch_of c.args.first (item_time (map g.T.Timed.time c.args.items.now) c.loop-place.place) c.args.shift
 slot g c =
-    let ff = c.ranges.first in
-    let fs : SFits w64 c.second.result = search rules in
     grind (linear, to_z-of_z, time_read)
 
 pub overflow_add-places : goal.overflow_add-places

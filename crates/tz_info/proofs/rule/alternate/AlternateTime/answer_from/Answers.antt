@@ -1,40 +1,58 @@
 use Rattle.tz_info.proofs.{
   QuestionLaws.{asked_in_turn, asked_neither, asked_once},
-  SeasonAnswers.{found_both, found_none, found_one},
-  Words.{arith, linear, rules, to_z, to_z-of_z, w32, ◌≡◌},
+  SeasonAnswers.{found_both, found_none, found_one, same_offset, too_early},
+  Words.{SFits, ap, int_lt, linear, not, refl, rules, to_z-of_z, true, type_when, w32, w64, ◌-ℤ◌, ◌<ℤ◌, ◌∙◌, ◌≡◌},
+  rule.alternate.AlternateTime.answer_from.Goals.{After-offset-last},
 }
-use Rattle.tz_info.proofs.rule.alternate.AlternateTime.answer_from.Goals.{Then-offset}
 use Rattle.tz_info.proofs.rule.alternate.AlternateTime.answer_from.Goals as goal
 
--- the test compares what the types' offsets are
-equal : (c : Then-offset) → c.args.self.now.std.offset ≡ c.args.self.now.dst.offset
-equal c = grind (linear, w32, rules, to_z-of_z, to_z)
+-- what was given fits, and so do the offsets of the rule's types, the greater one first
+offsets : (c : After-offset-last) → let a = c.args.self.now in let dst = int_lt c.offset.result c.offset-2.result in
+    SFits w64 c.args.from × SFits w64 c.args.local × SFits w32 c.offset-first.result × SFits w32 c.offset-last.result × (dst ≡ int_lt a.std.offset a.dst.offset)
+    × (c.offset-first.result ≡ (type_when a dst).offset) × (c.offset-last.result ≡ (type_when a (not dst)).offset)
+offsets c =
+    let f1 : SFits w32 c.offset.result = search rules in let f2 : SFits w32 c.offset-2.result = search rules in
+    let std = c.offset.ensures.value ∙ ap (λ t. t.offset) c.std.ensures.value in
+    let dst = c.offset-2.ensures.value ∙ ap (λ t. t.offset) c.dst.ensures.value in (
+      c.ranges.from,
+      c.ranges.local,
+      search rules,
+      search rules,
+      rw (std, dst) refl,
+      c.offset-first.ensures.value ∙ ap (λ t. t.offset) (simp to_z-of_z at c.type_when.ensures),
+      c.offset-last.ensures.value ∙ ap (λ t. t.offset) (simp to_z-of_z at c.type_when-2.ensures),
+    )
 
-pub ask-both-requires-clause-room : goal.ask-both-requires-clause-room
-ask-both-requires-clause-room c = omega arith
+pub returns : goal.returns
+returns c =
+    let (ff, fl, f1, f2, is, first, last) = offsets (goal.at.returns c).After-offset-last in
+    let one = simp to_z-of_z at c.ask-one.ensures in let both = simp to_z-of_z at c.ask-both.ensures in
+    record {
+      season = (simp to_z-of_z at c.season_for.ensures) _ is first last;
+      found = found_both _ _ _ _ _ _ is (grind (linear, to_z-of_z)) (rw first at one.asked) (rw last at both.asked);
+      cost = search rules;
+      counted = asked_in_turn _ _ _ _ _ _ _ (grind (linear, to_z-of_z)) (rw first at one.counted) (rw last at both.counted);
+      rule = search rules;
+    }
 
-pub returns-then-offset-clause-found : goal.returns-then-offset-clause-found
-returns-then-offset-clause-found c =
-    let fl = c.ranges.local in let ff = c.ranges.from in
-    found_one _ _ _ _ _ (equal c) (simp to_z-of_z at c.ask-one.ensures.asked)
+pub returns-then-is_early : goal.returns-then-is_early
+returns-then-is_early c =
+    let (ff, fl, f1, f2, is, first, last) = offsets (goal.at.returns-then-is_early c).After-offset-last in
+    let fs : SFits w64 c.second_showing.result = search rules in
+    let second = simp to_z-of_z at c.second_showing.ensures.value in
+    let early : (c.args.local -ℤ c.offset-last.result) <ℤ c.args.from = omega (linear, to_z-of_z) in
+    let (std, dst) = too_early c.args.self.now _ _ _ is (rw last at early) in
+    record { season = search rules; found = found_none _ _ _ std dst; cost = search rules; counted = asked_neither _ _ _ true _ std dst; rule = search rules }
 
-pub returns-then-offset-clause-counted : goal.returns-then-offset-clause-counted
-returns-then-offset-clause-counted c =
-    let fl = c.ranges.local in let ff = c.ranges.from in
-    asked_once _ _ _ _ _ _ (equal c) (simp to_z-of_z at c.ask-one.ensures.counted)
-
-pub returns-clause-found : goal.returns-clause-found
-returns-clause-found c =
-    let fl = c.ranges.local in let ff = c.ranges.from in
-    found_both _ _ _ _ _ _ (grind (linear, to_z-of_z)) (grind linear) (simp to_z-of_z at c.ask-one.ensures.asked) (simp to_z-of_z at c.ask-both.ensures.asked)
-
-pub returns-clause-counted : goal.returns-clause-counted
-returns-clause-counted c =
-    let fl = c.ranges.local in let ff = c.ranges.from in
-    asked_in_turn _ _ _ _ _ _ _ (grind linear) (simp to_z-of_z at c.ask-one.ensures.counted) (simp to_z-of_z at c.ask-both.ensures.counted)
-
-pub returns-then-is_early-clause-found : goal.returns-then-is_early-clause-found
-returns-then-is_early-clause-found c = grind (linear, to_z-of_z, found_none)
-
-pub returns-then-is_early-clause-counted : goal.returns-then-is_early-clause-counted
-returns-then-is_early-clause-counted c = grind (linear, to_z-of_z, asked_neither)
+pub returns-then-first-last : goal.returns-then-first-last
+returns-then-first-last c =
+    let (ff, fl, f1, f2, is, first, last) = offsets (goal.at.returns-then-first-last c).After-offset-last in
+    let same = same_offset c.args.self.now (int_lt c.offset.result c.offset-2.result) (rw (← first, ← last) (grind (linear, to_z-of_z))) in
+    let one = simp to_z-of_z at c.ask-one.ensures in
+    record {
+      season = search rules;
+      found = found_one _ _ _ _ _ same (rw first at one.asked);
+      cost = search rules;
+      counted = asked_once _ _ _ _ _ _ same (rw first at one.counted);
+      rule = search rules;
+    }

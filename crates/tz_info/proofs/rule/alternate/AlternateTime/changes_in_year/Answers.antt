@@ -1,5 +1,5 @@
 use Rattle.tz_info.proofs.{Words.{arith, to_z-of_z}, ChangingYears.{by_key}}
 use Rattle.tz_info.proofs.rule.alternate.AlternateTime.changes_in_year.Goals as goal
 
-pub returns-clause-value : goal.returns-clause-value
-returns-clause-value c = grind (arith, to_z-of_z, by_key)
+pub returns : goal.returns
+returns c = grind (arith, to_z-of_z, by_key)

@@ -19,11 +19,8 @@ in_year c =
     let (lies, inside) = year_found _ _ _ day (simp fits at c.year_of.ensures) c.requires.time in
     (at_second, at_day, omega (arith, floors), day, lies, inside)
 
-pub is_dst-requires-clause-lies : goal.is_dst-requires-clause-lies
-is_dst-requires-clause-lies c = grind (arith, to_z-of_z, in_year)
-
-pub is_dst-requires-clause-inside : goal.is_dst-requires-clause-inside
-is_dst-requires-clause-inside c = grind (arith, to_z-of_z, in_year)
+pub is_dst-requires : goal.is_dst-requires
+is_dst-requires c = grind (arith, to_z-of_z, in_year)
 
 pub returns : goal.returns
 returns c = grind (arith, to_z-of_z, in_year, alternate_at)

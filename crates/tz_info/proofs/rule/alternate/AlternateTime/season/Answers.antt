@@ -15,11 +15,8 @@ begun c = grind (arith, floors, to_z-of_z, own_start)
 kept : (c : After-self) → IsMargin c.args.self.now c.self.inside.margin
 kept c = rw (← c.self.view_is) (margin_kept _ _ c.self.invariant.0 c.self.invariant.3)
 
-pub turns_from-requires-clause-first : goal.turns_from-requires-clause-first
-turns_from-requires-clause-first c = grind (arith, to_z-of_z, begun)
-
-pub turns_from-requires-clause-kind : goal.turns_from-requires-clause-kind
-turns_from-requires-clause-kind c = grind (arith, to_z-of_z, begun)
+pub turns_from-requires : goal.turns_from-requires
+turns_from-requires c = grind (arith, to_z-of_z, begun)
 
 pub overflow_sub-result : goal.overflow_sub-result
 overflow_sub-result c = let bound = (kept (goal.at.overflow_sub-result c).After-self).bound in

@@ -10,11 +10,8 @@ first_day : (c : goal.After-year_start-first) → SFits w64 c.year_start-first.r
     × (year_of c.year_start-first.result ≡ c.args.year)
 first_day c = grind (arith, ints, floors, own_start)
 
-pub turns_from-requires-clause-first : goal.turns_from-requires-clause-first
-turns_from-requires-clause-first c = grind (arith, to_z-of_z, first_day)
-
-pub turns_from-requires-clause-kind : goal.turns_from-requires-clause-kind
-turns_from-requires-clause-kind c = grind (arith, to_z-of_z, first_day)
+pub turns_from-requires : goal.turns_from-requires
+turns_from-requires c = grind (arith, to_z-of_z, first_day)
 
 pub returns : goal.returns
 returns c = grind (arith, to_z-of_z, first_day)

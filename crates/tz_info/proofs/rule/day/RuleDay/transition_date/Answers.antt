@@ -1,14 +1,13 @@
 use Rattle.tz_info.proofs.{RuleDays.rule_day_closed, Words.{arith, closed_day, inl, linear, number_after, sym, to_z-of_z, ◌+◌, ◌∙◌}}
 use Rattle.tz_info.proofs.rule.day.RuleDay.transition_date.Goals as goal
 
-pub returns-in-Julian1-clause-date : goal.returns-in-Julian1-clause-date
+pub returns-in-Julian1 : goal.returns-in-Julian1
 unfolding closed_day
-returns-in-Julian1-clause-date c = grind (arith, rule_day_closed)
+returns-in-Julian1 c = grind (arith, rule_day_closed)
 
-pub returns-in-Julian0-clause-date : goal.returns-in-Julian0-clause-date
+pub returns-in-Julian0 : goal.returns-in-Julian0
 unfolding closed_day
-returns-in-Julian0-clause-date c =
-    grind (arith, rule_day_closed)
+returns-in-Julian0 c = grind (arith, rule_day_closed)
 
 pub returns-in-MonthWeekday-clause-date : goal.returns-in-MonthWeekday-clause-date
 unfolding closed_day

@@ -28,7 +28,6 @@ written len new old e = grind (arith, take-append-le, take_all)
 pub returns : goal.returns
 returns g c =
     let ff : SFits w64 c.args.ends.first = search rules in
-    let fl : SFits w64 c.args.ends.last = search rules in
     let long = length-map c.args.items.now g.T.Timed.time in
     let zeros : length c.deref_mut-numbers.result.now ≡ c.seconds_between-span.result / 2 ^ c.shift_for-shift.result + 2 = grind (arith, length-replicate) in
     let m = simp to_z-of_z at c.mark.ensures in

@@ -9,6 +9,7 @@ pub loop-place-init : goal.loop-place-init
 loop-place-init c = record {
   pieces = rw c.in_ok-pieces.ensures.items
       (open_first (zone_in c.args.lists) c.args.entries.now c.args.count _ _ c.requires.table (grind arith) c.requires.some c.segment_at-before.ensures);
+  changes = grind arith;
   room = grind arith;
 }
 
@@ -20,6 +21,7 @@ loop-place-preserved c =
     rw add-one (record {
       pieces = simp fits (open_more c.loop-place.invariant.pieces _ _ _ c.pieces_at-first.ensures c.segment_at-behind.ensures c.args.count _ strict
           c.requires.table (omega arith) (omega arith) (grind arith));
+      changes = grind arith;
       room = grind arith;
     })
 
@@ -27,8 +29,8 @@ pub returns-then-is_crossed : goal.returns-then-is_crossed
 returns-then-is_crossed c =
     let ff : SFits w64 c.pieces_at-first.result.0.start = search rules in
     let crossed = simp fits at (c.is_crossed.ensures.crossed c.if-is_crossed.true) in
-    crossed_by c.loop-place.invariant.pieces _ (omega arith) crossed.0
-    (cuts_of c.loop-place.invariant.pieces _ _ _ c.pieces_at-first.ensures c.segment_at-behind.ensures).0 crossed.1
+    inl (crossed_by c.loop-place.invariant.pieces _ (omega arith) crossed.0
+    (cuts_of c.loop-place.invariant.pieces _ _ _ c.pieces_at-first.ensures c.segment_at-behind.ensures).0 crossed.1)
 
 pub returns-then-is_crossed-2 : goal.returns-then-is_crossed-2
 returns-then-is_crossed-2 c =
@@ -36,16 +38,12 @@ returns-then-is_crossed-2 c =
     let fo : SFits w64 c.loop-place.before.offset = search rules in
     let here : c.args.count ≡ c.loop-place.place = omega (arith, c.loop-place-test.false) in
     let crossed = rw here at (simp fits at (c.is_crossed-then-count-entries.ensures.crossed c.if-is_crossed-2.true)) in
-    let last = c.if-count-entries.true in
     let o = c.loop-place.invariant.pieces in
-    crossed_by o _ (omega arith) crossed.0
-    (record { segment = _; beside = inl o.segment; is_cut = rw here at (simp fits at c.cut_of-end.ensures) }) crossed.1
+    inl (crossed_by o _ (omega arith) crossed.0
+    (record { segment = _; beside = inl o.segment; is_cut = rw here at (simp fits at c.cut_of-end.ensures) }) crossed.1)
 
 pub returns : goal.returns
 returns c =
-    let within = c.requires.table.within in
-    let some = c.requires.some in
-    let count = c.requires.count in
     let here : c.args.count ≡ c.loop-place.place = omega (arith, c.loop-place-test.false) in
     let inv = c.loop-place.invariant.pieces in
     let fo : SFits w64 c.loop-place.before.offset = search rules in
@@ -58,8 +56,10 @@ returns c =
             rw (w.pieces-is, w.push_reserved-then-count-entries.ensures.items, simp fits at w.small-piece.ensures, cut, here, c.segment_at.ensures.index)
                 (closed inv (omega arith) strict (omega arith)),
             λ k first below. ends_rise inv (omega arith) strict k first (omega arith),
+            λ k _ more. c.loop-place.invariant.changes k (omega arith) more,
           )
-      | goal.else-count-entries w ↦ let more = w.if-count-entries.false in (grind (linear, fits, whole))
+      | goal.else-count-entries w ↦ let more = w.if-count-entries.false in
+          (grind (linear, fits, whole), grind (linear, fits, whole), λ k _ more. c.loop-place.invariant.changes k (omega arith) more)
     ]
 
 pub push_reserved-requires-then-count-entries : goal.push_reserved-requires-then-count-entries

@@ -1,4 +1,4 @@
-use Rattle.tz_info.proofs.{Fits.fits, WallPieces.merging_more, Words.{SFits, arith, linear, rules, to_z-of_z, w64, ⊎_elim}}
+use Rattle.tz_info.proofs.{WallPieces.merging_more, Words.{SFits, arith, linear, rules, to_z-of_z, w64, ⊎_elim}}
 use Rattle.tz_info.proofs.zone.made.pieces.merged.Goals as goal
 
 pub loop-step-preserved : goal.loop-step-preserved

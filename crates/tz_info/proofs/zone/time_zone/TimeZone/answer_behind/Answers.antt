@@ -15,7 +15,6 @@ returns-in-None-clause-found c = grind (arith, fits, table_alone, table_typed)
 pub try_rule-requires-clause-seen : goal.try_rule-requires-clause-seen
 try_rule-requires-clause-seen c =
     let fl = c.ranges.local in
-    let listed = rw (c.deref.ensures.value, ap (λ z. z.types) c.self.view_is) at c.types_shown-table.ensures in
     simp fits (table_first _ _ _ _ (ap (λ z. z.rule) (sym c.self.view_is) ∙ c.in-Some.is)
     (grind (linear, fits, table_typed)))
 

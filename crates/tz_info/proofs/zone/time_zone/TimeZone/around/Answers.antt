@@ -26,19 +26,20 @@ answer_behind-season-requires-clause-shown c =
     let d = (goal.at.answer_behind-season-requires-clause-shown c).After-answer-shown in
     simp fits (c.self.inside.changes, entries d, (said d).wall)
 
-pub gap_at-requires-clause-reach : goal.gap_at-requires-clause-reach
-gap_at-requires-clause-reach c =
+pub gap_at-requires : goal.gap_at-requires
+gap_at-requires c =
     let fl = c.ranges.local in
-    simp fits (grind (linear, fits, reach))
-
-pub gap_at-requires-clause-jump : goal.gap_at-requires-clause-jump
-gap_at-requires-clause-jump c =
-    let fl = c.ranges.local in
-    let d = (goal.at.gap_at-requires-clause-jump c).After-answer-shown in
+    let d = (goal.at.gap_at-requires c).After-answer-shown in
     let reach = reach d in
-    simp fits (gap_by_index _ _ _ reach.0 reach.1 _ _ (rw c.self.view_is at c.self.invariant.valid) (rw (← c.self.view_is) c.self.invariant.limits)
-    (entries d) (rw c.in-None.is at (simp fits at c.answer_behind-season.ensures.found)) reach.2 (said d)
-    (grind (linear, fits)))
+    let never = rw c.in-None.is at (simp fits at c.answer_behind-season.ensures.found) in
+    record {
+      local = search rules;
+      season = search rules;
+      never = simp fits never;
+      reach = simp fits reach;
+      jump = simp fits (gap_by_index _ _ _ reach.0 reach.1 _ _ (rw c.self.view_is at c.self.invariant.valid)
+          (rw (← c.self.view_is) c.self.invariant.limits) (entries d) never reach.2 (said d) (grind (linear, fits)));
+    }
 
 -- one search, and questions to the rule
 cost : (c : After-answer_behind-season) → RoseByWallClock c.args.self.now c.args.probes.now c.answer_behind-season.new.probes
@@ -49,7 +50,6 @@ cost c =
 
 pub returns-in-None : goal.returns-in-None
 returns-in-None c =
-    let fl = c.ranges.local in
     let same : c.answer-shown.new.probes.rule_questions ≡ c.args.probes.now.rule_questions = omega arith in
     let after : c.jump-jump.new.probes.rule_questions ≡ c.answer_behind-season.new.probes.rule_questions = omega arith in
     record {

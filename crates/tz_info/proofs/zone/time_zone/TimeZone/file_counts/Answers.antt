@@ -2,7 +2,7 @@ use Rattle.tz_info.proofs.{FilePieceLaws.{counted, uncounted}, Words.{none-some,
 use Rattle.tz_info.proofs.zone.time_zone.TimeZone.file_counts.Goals as goal
 
 pub returns-in-Ok : goal.returns-in-Ok
-returns-in-Ok c d = counted _ _ _ d (rw c.new.ensures at c.in-Ok.ensures.pieces) refl refl
+returns-in-Ok c d = counted _ _ _ _ d (rw c.new.ensures at c.in-Ok.ensures) refl refl
 
 pub returns-in-Err : goal.returns-in-Err
-returns-in-Err c d = (λ e. absurd (none-some d e), λ k. absurd (uncounted _ _ d (rw c.new.ensures at c.in-Err.ensures.pieces) k))
+returns-in-Err c d = (λ e. absurd (none-some d e), λ k. absurd (uncounted _ _ d (rw c.new.ensures at c.in-Err.ensures.0) k))

@@ -2,7 +2,7 @@ use Rattle.tz_info.proofs.{
   Fits.fits,
   PassedTransitions.{with_transitions, without_transitions},
   QuestionLaws.{asked_at_time, asked_without},
-  Words.{arith, by_leap_time, linear, refl, rules, ◌≡◌},
+  Words.{arith, by_leap_time, linear, refl, rules},
 }
 use Rattle.tz_info.proofs.zone.time_zone.TimeZone.find_local_time_type_counted.Goals as goal
 
@@ -22,7 +22,6 @@ pub returns-in-Some : goal.returns-in-Some
 returns-in-Some c =
     let fu = c.ranges.unix_time in
     let time = (simp fits at c.in-Some.ensures.come).of_second in
-    let same : c.come_at.new.probes.rule_questions ≡ c.args.probes.now.rule_questions = omega arith in
     record {
       found = with_transitions (λ t. t.now) _ _ _ _ time (simp fits at c.type_after.ensures.found);
       cost = search rules;

@@ -57,8 +57,6 @@ first_since-requires-clause-near c =
 pub returns : goal.returns
 returns c =
     let d = (goal.at.returns c).After-first_reaching-place in
-    let fl = c.ranges.local in
-    let fb : SFits w64 c.begin_of-begin.result.1 = search rules in
     let is = rw (ap (λ z. z.rule) c.self.view_is) at c.in-Some.ensures in
     let bound = fewer _ _ (entries d).few in
     record {

@@ -35,6 +35,5 @@ type_at-requires c =
 pub returns : goal.returns
 returns c =
     let (ff, fb, low, high, near) = near (goal.at.returns c).After-first_at_or_after-first in
-    let fl = c.ranges.local in
     simp fits (gap_at_first _ _ _ _ _ _ _
     c.requires.never c.requires.reach.2 low high (grind (linear, fits)) (simp fits at c.type_at.ensures))

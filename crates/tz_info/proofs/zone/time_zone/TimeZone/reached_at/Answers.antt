@@ -58,7 +58,6 @@ returns-then-reached-end c =
     let fe : SFits w64 c.latest_end-end.result = search rules in
     let fg : SFits w32 c.self.inside.extremes.greatest = search rules in
     let made = rw c.self.view_is at c.self.invariant.list in
-    let place = simp fits at c.count-place.ensures.count in
     let ft : SFits w64 (c.latest_end-end.result -ℤ pos 1) = omega (arith, ints) in
     record {
       reached = simp fits (at_end _ _ _ _ (rw c.self.view_is at c.self.invariant.valid) made c.requires.second _ _ _ fg

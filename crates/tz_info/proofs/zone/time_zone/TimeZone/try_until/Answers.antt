@@ -4,8 +4,6 @@ use Rattle.tz_info.proofs.zone.time_zone.TimeZone.try_until.Goals as goal
 pub returns-then-is_within : goal.returns-then-is_within
 returns-then-is_within c =
     let fl = c.ranges.local in
-    let fx : SFits w64 c.candidate-time.result.1 = search rules in
-    let fs : SFits w64 c.args.current.unix_leap_time = search rules in
     record {
       type = _;
       leap_time = _;

@@ -5,7 +5,7 @@ use Rattle.tz_info.proofs.{
   TableSearch.Between,
   WalkLaws.{none_before, none_behind, one_look, rose_by_walk, tried_segment, walked_more},
   WallSegments.all_segments,
-  Words.{IsShownIn, IsWallAnswer, IsWindow, SFits, ap, arith, digits-le, length, linear, map_of, rules, sym, w32, w64, ◌+◌, ◌∙◌, ◌≡◌},
+  Words.{IsShownIn, IsWallAnswer, IsWindow, SFits, ap, arith, digits-le, length, linear, map_of, rules, sym, w32, ◌+◌, ◌∙◌, ◌≡◌},
   zone.time_zone.TimeZone.walked_answer.Goals.{After-passed_count-first, After-try_until-answer},
 }
 use Rattle.tz_info.proofs.zone.time_zone.TimeZone.walked_answer.Goals as goal
@@ -40,7 +40,6 @@ tried : (c : After-try_until-answer)
     → IsWallAnswer (IsShownIn c.args.self.now c.args.local (c.loop-place.place + 1)) (map_of (λ r. r.now) c.try_until-answer.result)
 tried c =
     let fl = c.ranges.local in
-    let fn : SFits w64 c.transition-next.result.unix_leap_time = search rules in
     let i = c.loop-place.invariant in
     tried_segment _ _ _ (rw c.self.view_is at c.self.invariant.valid) (omega arith) (grind arith) i.begin
     (grind (linear, fits))

@@ -7,5 +7,5 @@ returns-clause-steps c = grind (linear, fits, steps_last)
 pub returns-clause-goes : goal.returns-clause-goes
 returns-clause-goes c = grind (linear, fits, returns-clause-steps, shorter)
 
-pub returns-in_err-change-clause-steps : goal.returns-in_err-change-clause-steps
-returns-in_err-change-clause-steps c = grind (linear, steps_none)
+pub returns-in_err-change : goal.returns-in_err-change
+returns-in_err-change c = grind (linear, steps_none)

@@ -3,7 +3,6 @@ use Rattle.tz_info.proofs.zone.made.change_table.ChangeTable.between.Goals as go
 
 pub returns-then-from-gtminus9223372036854775808-clause-between : goal.returns-then-from-gtminus9223372036854775808-clause-between
 returns-then-from-gtminus9223372036854775808-clause-between c =
-    let ff = c.second-from.type_inv in
     let fu = c.second-until.type_inv in
     let fs = c.ranges.second in
     simp fits (record {

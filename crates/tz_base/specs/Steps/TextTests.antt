@@ -1,0 +1,44 @@
+-- Tests of texts: whether they are UTF-8, and whether they are names.
+use Rattle.std.proofs.Common.{ℕ, zero, suc, ◌≡◌, ◌<◌, Bool, true, List, [], ◌∷◌, Option, Some, None, length, slice_index, get_or, arith, refl}
+use Rattle.std.proofs.lemmas.Str.{IsUtf8-from_is_utf8, is_utf8-from_IsUtf8}
+use Rattle.std.specs.{Bool.{Decides}, List.{list_all}, Str.{IsUtf8, is_utf8}}
+use Rattle.tz_base.specs.{Names.{IsName, IsNameOrNone, is_name_byte}, Steps.Comparisons.{at_most, three}, Tests.{Test}}
+
+abbrev pub utf8_test : (bytes : List ℕ) → Test (IsUtf8 bytes)
+utf8_test bytes = record { passes = is_utf8 bytes; decides = (IsUtf8-from_is_utf8 bytes, is_utf8-from_IsUtf8 bytes) }
+
+pub all_are : (p : ℕ → Bool) (xs : List ℕ) → list_all p xs ≡ true → (i : ℕ) → i < length xs → p (get_or xs i 0) ≡ true
+all_are p [] h i l = absurd (omega arith)
+all_are p (x ∷ xs) h zero l = grind arith
+all_are p (x ∷ xs) h (suc i) l = let k : list_all p xs ≡ true = grind arith in all_are p xs k i (omega arith)
+
+pub are_all : (p : ℕ → Bool) (xs : List ℕ) → ((i : ℕ) → i < length xs → p (get_or xs i 0) ≡ true) → list_all p xs ≡ true
+are_all p [] h = refl
+are_all p (x ∷ xs) h = let a = h 0 (omega arith) in let b = are_all p xs (λ i l. h (suc i) (omega arith)) in rw a (rw b refl)
+
+abbrev pub each_test : (p : ℕ → Bool) (xs : List ℕ) → Test ((i : ℕ) → i < length xs → p (slice_index xs i) ≡ true)
+each_test p xs = record { passes = list_all p xs; decides = (all_are p xs, are_all p xs) }
+
+abbrev pub name_test : (text : List ℕ) → Test (IsName text)
+name_test text = three (at_most 3 (length text)) (at_most (length text) 7) (each_test is_name_byte text)
+
+abbrev pub is_name : List ℕ → Bool
+is_name text = (name_test text).passes
+
+pub name_from : (text : List ℕ) → is_name text ≡ true → IsName text
+name_from text = (name_test text).decides.0
+
+pub name_to : (text : List ℕ) → IsName text → is_name text ≡ true
+name_to text = (name_test text).decides.1
+
+-- a name, or none
+abbrev pub is_name_or_none : Option (List ℕ) → Bool
+is_name_or_none None = true
+is_name_or_none (Some text) = is_name text
+
+pub name_or_none_decided : (name : Option (List ℕ)) → Decides (is_name_or_none name) (IsNameOrNone name)
+name_or_none_decided None = (λ _. tt, λ _. refl)
+name_or_none_decided (Some text) = (name_test text).decides
+
+abbrev pub name_or_none_test : (name : Option (List ℕ)) → Test (IsNameOrNone name)
+name_or_none_test name = record { passes = is_name_or_none name; decides = name_or_none_decided name }

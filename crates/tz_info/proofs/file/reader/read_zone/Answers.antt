@@ -1,0 +1,29 @@
+use Rattle.tz_info.proofs.{
+  FilePieceLaws.{end_file, has_pieces},
+  TzFileLaws.{contents_fault, made_fault, made_found, pieces_fault},
+  Words.{Err, Ok, err_from_is_err_and},
+}
+use Rattle.tz_info.proofs.file.reader.read_zone.Goals as goal
+
+pub returns-in_err-pieces-clause-fault : goal.returns-in_err-pieces-clause-fault
+returns-in_err-pieces-clause-fault c =
+    let p = err_from_is_err_and c.from_residual.result c.from_residual.ensures.1 in
+    rw (p.1, p.2) (pieces_fault _ _ _ c.in_err-pieces.ensures.0 c.in_err-pieces.ensures.1)
+
+pub read_lists-requires : goal.read_lists-requires
+read_lists-requires c = rw c.remaining-bytes.ensures (end_file _ _ (has_pieces _ _ _ c.in_ok-pieces.ensures))
+
+pub returns-in_err-lists-clause-fault : goal.returns-in_err-lists-clause-fault
+returns-in_err-lists-clause-fault c =
+    let p = err_from_is_err_and c.from_residual-in_err-lists.result c.from_residual-in_err-lists.ensures.1 in
+    rw (p.1, p.2) (contents_fault _ _ _ c.in_ok-pieces.ensures _ _ c.in_err-lists.ensures)
+
+pub from_fault_of_lists-requires : goal.from_fault_of_lists-requires
+from_fault_of_lists-requires c = rw c.remaining-bytes.ensures (end_file _ _ (has_pieces _ _ _ c.in_ok-pieces.ensures))
+
+pub returns-in-Err-clause-fault : goal.returns-in-Err-clause-fault
+returns-in-Err-clause-fault c =
+    rw c.new.ensures (made_fault _ _ _ c.in_ok-pieces.ensures _ _ c.in_ok-lists.ensures (Err c.in-Err.error) c.in-Err.ensures _ c.from_fault_of_lists.ensures)
+
+pub returns-in-Ok-clause-found : goal.returns-in-Ok-clause-found
+returns-in-Ok-clause-found c = made_found _ _ _ c.in_ok-pieces.ensures _ _ c.in_ok-lists.ensures (Ok c.in-Ok.zone) c.in-Ok.ensures
