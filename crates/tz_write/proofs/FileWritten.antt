@@ -1,30 +1,35 @@
 -- What is written of a zone.
 use Rattle.std.proofs.{
-  Math.{Facts.Fits-of_z, Nat.mul-div_cancel},
-  lemmas.{Int.to_z-of_z, List.{flat_map_more, get_or-map, get_or_append_left}, Nat.{from_be_bytes-to_be_bytes_4, from_be_bytes-to_be_bytes_8}},
-  lemmas.Str.{Ascii.IsAscii-from_all, IsUtf8-from_ascii},
+  Math.{Facts.Fits-of_z, ListN.get_or-eq_default, Seq.get_or-append_seam},
+  lemmas.{Int.to_z-of_z, List.{Concat.flat_map_single, Elements.{All-more, All-nil}, ext_get_or, flat_map_more, get_or_append_left, get_or_push}},
+  lemmas.{List.{get_or-append-add, get_or-drop, get_or-map, get_or-take}, Nat.{from_be_bytes-to_be_bytes_4, from_be_bytes-to_be_bytes_8}},
+  lemmas.Str.{Ascii.{IsAscii-cons, IsAscii-nil}, IsUtf8-from_ascii},
 }
-use Rattle.tz_base.specs.Grammar.{At, Byte, Check, Ended, Exact, Grammar, Here, Marked, Nothing, Number, Refused, Rest, Run, Then}
+use Rattle.std.specs.Str.{IsAscii}
+use Rattle.tz_base.specs.Grammar.{At, Byte, Check, Each, Ended, Exact, Grammar, Here, Inside, IsRun, Marked, Nothing, Number, Refused, Rest, Run, Then}
 use Rattle.tz_info.{
-  proofs.Words.{AreRecords, FilePieces, FitsSigned, IsFooter, IsTzFile, SaysRule, SpellLeapSeconds, SpellsLeapSecond, length-map, take_more, w32},
-  proofs.Words.w64,
-  specs.declared.file.header.{Counts.Counts, Header.Header, Place.{TheVariants.{First, Second}, Place}, Version.TheVariants.{One, Three, Two}},
+  proofs.{FilePieceLaws.file_ends, PosixZoneLaws.in_footer, TrimLaws.trim_whole, TzFileLaws.one_pieces},
+  proofs.Words.{All-push, FilePieces, FitsSigned, IsTzFile, cases_lt, designation_of, drop-drop, drop_front, exact_cut, is_not_zero, leap_at, leap_second_of},
+  proofs.Words.{length-drop, length-take, nil_from_length, record_at, take-append-drop, take-suc, take_all, take_more, transition_at, values_below, w32, w64},
+  proofs.Words.◌-◌,
+  specs.declared.file.header.{Counts.Counts, Header.Header, Place.{TheVariants.{First, Second}, Place}, Version.{TheVariants.{One, Three, Two}, Version}},
   specs.declared.zone.lists.{leap_second.LeapSecond.LeapSecond, transition.Transition.Transition},
-  specs.{FileHeaders.CountsAgree, FilePieces.later_pieces},
+  specs.{FileContents.{designation, indicators, local_type, mark, type_at, typed}, FileHeaders.CountsAgree, FilePieces.later_pieces},
+  specs.{Footers.{footer, footer_text, newline, optional_footer, utf8}, TzFiles.{contents, tz_file}},
 }
 use Rattle.tz_write.{
-  proofs.Words.{[], All, All-cons, All-more, All-nil, All-tail, AreNamesIn, Bool, HasPieces, HasPlace, HasTimeOf64Bits, HavePlaces, IsEntry},
-  proofs.Words.{IsNamedIn, IsRuleOrNone, IsType, List, LocalType, None, Option, Parts, Room, Some, SpellTransitions, SpellTypes, Spells},
-  proofs.Words.{TransitionRule, Version, Zone, after_first_block, ap, arith, be_u32, block, both_ways, counts_bytes, counts_test, false, file},
-  proofs.Words.{file_bytes, first_half, first_version, flat_map, get_or, header, header_bytes, index_bytes, inl, inr, later_version, leap_bytes},
-  proofs.Words.{length, length-append, magic, number_bytes, refl, second_half, signed, signed_bytes, six_counts, subst, suc, sym, take, time_bytes},
+  proofs.Words.{[], All, AllOf, Bool, HasNoZero, HasPieces, HasPlace, HasTimeOf64Bits, HavePlaces, IsEntry, IsNamedIn, IsRuleOrNone, IsType},
+  proofs.Words.{IsTzText, List, LocalType, None, Option, Parts, Room, Some, Spells, StandsAt, append-nil, drop, ints, name_of, name_or_none, nat_tests},
+  proofs.Words.{TransitionRule, Zone, after_first_block, ap, arith, be_u32, block, both_ways, counts_bytes, counts_test, false, file, place_of, zero},
+  proofs.Words.{file_bytes, first_half, first_version, flat_map, get_or, header, header_bytes, index_bytes, inl, inr, laid_file, later_version, leap_bytes},
+  proofs.Words.{length, length-append, magic, number_bytes, refl, second_half, signed, signed_bytes, six_counts, suc, sym, take, time_bytes},
   proofs.Words.{true, type_bytes, tzif, version, ℕ, ℤ, ◌*◌, ◌++◌, ◌+◌, ◌<◌, ◌^◌, ◌↔◌, ◌∙◌, ◌∷◌, ◌≡◌, ◌≢◌, ◌≤◌, ◌⊎◌},
-  proofs.FileLayouts.{AreLaid, has_text, laid_of, laid_size, no_zero},
-  proofs.RuleTexts.{extensions, rule_named, rule_text, text_are, text_begins, text_some},
-  proofs.TextBytes.{AreTextBytes, begins_bare, ends_bare, limits, no_zeros},
-  specs.WrittenFiles.{AreBytes, HasCounts, HaveVersion, IsFooterText, IsInNoFile, IsSound, IsSpellableOrNone, IsWritable, IsWrittenFile},
-  specs.WrittenFiles.NeedsExtensions,
-  specs.{FileBytes.{block_bytes, footer_bytes, least_block, least_counts, unused, zone_counts, zone_parts}, Steps.FileParts.IsRoomOf},
+  proofs.LaidNames.{AreLaid, has_text, laid_of, laid_size, no_zero},
+  proofs.RuleTexts.{extensions, rule_named, rule_text, text_are, text_begins, text_is},
+  proofs.TextBytes.{AreTextBytes, limits, no_space, no_zeros},
+  specs.WrittenFiles.{AreBytes, HasCounts, IsFooterText, IsInNoFile, IsSound, IsSpellableOrNone, IsWritable, IsWrittenFile, NeedsExtensions},
+  specs.FileBytes.{footer_bytes, least_counts},
+  specs.Steps.{FileParts.IsRoomOf, LaidFiles.{block_bytes, footer_text as text_of_rule, is_extended, least_block, unused, zone_counts, zone_parts}},
 }
 
 -- a count
@@ -42,34 +47,101 @@ unfolding signed signed_bytes
 signed_64 z h = grind (arith, from_be_bytes-to_be_bytes_8, Fits-of_z {w = w64} h, to_z-of_z)
 
 -- ---- records laid end to end
-module _ {X : Type 0} (size : ℕ) (Spells : List ℕ → X → Type 0) where
-  records_are : (f : X → List ℕ) (xs : List X) → ((x : X) → length (f x) ≡ size) → All (λ x. Spells (f x) x) xs → AreRecords size Spells (flat_map f xs) xs
-  records_are f [] sized h = refl
-  records_are f (x ∷ xs) sized h =
-      (_, _, refl, sized x, h 0 x (omega arith), records_are f xs sized (λ i d l. h (suc i) d (omega arith)))
+module _ {X : Type 0} (size : ℕ) (f : X → List ℕ) (sized : (x : X) → length (f x) ≡ size) where
+  record_is : (xs : List X) (k : ℕ) (d : X) → k < length xs → record_at size (flat_map f xs) k ≡ f (get_or xs k d)
+  record_is [] k d l = absurd (omega arith)
+  record_is (x ∷ xs) zero d l = grind (arith, exact_cut, sized)
+  record_is (x ∷ xs) (suc k) d l =
+      grind (arith, exact_cut size (f x ++ flat_map f xs) (f x) (flat_map f xs) refl (sized x), drop-drop, record_is xs k d)
 
-  records_length : (part : List ℕ) (xs : List X) → AreRecords size Spells part xs → length part ≡ length xs * size
-  records_length part [] h = grind arith
-  records_length part (x ∷ xs) h = grind (arith, length-append, records_length h.1 xs h.5)
+  records_length : (xs : List X) → length (flat_map f xs) ≡ length xs * size
+  records_length [] = omega arith
+  records_length (x ∷ xs) = grind (arith, length-append, records_length xs)
+
+-- values of places
+module _ {X : Type 0} where
+  values_is : (f : ℕ → X) (n : ℕ) → (length (values_below n f) ≡ n) × ((k : ℕ) (d : X) → k < n → get_or (values_below n f) k d ≡ f k)
+  values_is f zero = (refl, λ k d l. absurd (omega arith))
+  values_is f (suc n) = let h = values_is f n in (grind (arith, length-append), λ k d l. grind (arith, get_or_push, get_or_append_left, cases_lt k n))
+
+  values_are : (f : ℕ → X) (xs : List X) → ((k : ℕ) (d : X) → k < length xs → f k ≡ get_or xs k d) → values_below (length xs) f ≡ xs
+  values_are f [] each = refl
+  values_are f (x ∷ xs) each = let h = values_is f (length (x ∷ xs)) in ext_get_or x _ _ h.0 (λ k l. grind arith)
+
+  each_are : (g : ℕ → Grammar X) (bytes : List ℕ) (xs : List X) → ((k : ℕ) (d : X) → k < length xs → Spells (g k) bytes (get_or xs k d) bytes)
+      → (n : ℕ) → n ≤ length xs → Spells (Each n g) bytes (take n xs) bytes
+  each_are g bytes xs each zero l = (refl, refl)
+  each_are g bytes [] each (suc n) l = absurd (omega arith)
+  each_are g bytes (x ∷ xs) each (suc n) l =
+      (_, bytes, each_are g bytes (x ∷ xs) each n (omega arith), (_, bytes, each n x (omega arith), (take-suc (x ∷ xs) n x (omega arith), refl)))
+
+  each_whole : (g : ℕ → Grammar X) (bytes : List ℕ) (xs : List X) → ((k : ℕ) (d : X) → k < length xs → Spells (g k) bytes (get_or xs k d) bytes)
+      → Spells (Each (length xs) g) bytes xs bytes
+  each_whole g bytes xs each = rw (take_all (length xs) xs (omega arith)) at (each_are g bytes xs each (length xs) (omega arith))
+
+  each_all : (P : X → Type 0) (g : ℕ → Grammar X) (bytes : List ℕ) (n : ℕ) (xs : List X) (rest : List ℕ)
+      → ((k : ℕ) (bytes : List ℕ) (x : X) (rest : List ℕ) → Spells (g k) bytes x rest → P x) → Spells (Each n g) bytes xs rest
+      → All P xs × (length xs ≡ n)
+  each_all P g bytes zero xs rest each h = (rw h.0 (All-nil P), ap length h.0)
+  each_all P g bytes (suc n) xs rest each (ys, mid, h, (x, after, k, (value, _))) =
+      let all = each_all P g bytes n ys mid each h in (rw value (All-push P ys x all.0 (each n mid x after k)), grind (arith, length-append))
 
 -- ---- transitions and leap seconds
-transitions_are : (ts : List Transition) → All HasTimeOf64Bits ts → SpellTransitions 8 (flat_map time_bytes ts) (flat_map index_bytes ts) ts
+transition_is : (p : FilePieces) (ts : List Transition) → All HasTimeOf64Bits ts → p.time_size ≡ 8 → p.parts.times ≡ flat_map time_bytes ts
+    → p.parts.type_indexes ≡ flat_map index_bytes ts → (k : ℕ) (d : Transition) → k < length ts → transition_at p k ≡ get_or ts k d
 unfolding signed_bytes
-transitions_are ts h = grind (arith, records_are, signed_64)
+transition_is p ts h size times indexes k d l =
+    grind (arith, record_is 8 time_bytes (λ _. refl) ts k d l, h k d l, get_or-map, flat_map_single {X = Transition} (λ t. t.type_index) ts, signed_64)
 
-leap_is : (leap : LeapSecond) → IsEntry leap → SpellsLeapSecond 8 (leap_bytes leap) leap
+leap_read : (leap : LeapSecond) → IsEntry leap → leap_second_of 8 (leap_bytes leap) ≡ leap
 unfolding leap_bytes signed_bytes
-leap_is leap h = record { time = _; correction = _; whole = refl; size = refl; time_is = signed_64 _ h.time; correction_is = signed_32 _ h.correction }
+leap_read leap h = grind (arith, signed_64 leap.unix_leap_time h.time, signed_32 leap.correction h.correction)
 
-leaps_are : (leaps : List LeapSecond) → All IsEntry leaps → SpellLeapSeconds 8 (flat_map leap_bytes leaps) leaps
+leap_is : (p : FilePieces) (leaps : List LeapSecond) → All IsEntry leaps → p.time_size ≡ 8 → p.parts.leap_seconds ≡ flat_map leap_bytes leaps
+    → (k : ℕ) (d : LeapSecond) → k < length leaps → leap_at p k ≡ get_or leaps k d
 unfolding leap_bytes signed_bytes
-leaps_are leaps h = grind (arith, records_are, leap_is)
+leap_is p leaps h size part k d l = rw (size, part, record_is 12 leap_bytes (λ _. refl) leaps k d l) (leap_read (get_or leaps k d) (h k d l))
 
 -- ---- types
-types_are : (designations : List ℕ) (types : List LocalType) → All (HasPlace designations) types → All IsType types
-    → SpellTypes designations (flat_map (type_bytes designations) types) types
-unfolding type_bytes signed_bytes
-types_are designations types p h = grind (arith, records_are, signed_32, has_text, no_zero)
+no_zero_is : (text : List ℕ) → HasNoZero text ↔ AllOf is_not_zero text
+no_zero_is [] = grind arith
+no_zero_is (b ∷ bs) = grind (arith, nat_tests, no_zero_is bs)
+
+text_spelled : (d : List ℕ) (place : ℕ) (text : List ℕ) (s : StandsAt d place text) → Spells designation (drop place d) text s.after
+unfolding designation
+text_spelled d place text s =
+    let at : drop place d ≡ text ++ (0 ∷ s.after) = rw (s.whole, ← s.at) (drop_front s.before (text ++ (0 ∷ s.after))) in
+    rw at (
+      tt,
+      _,
+      inr ((λ e. grind (arith, ap length e, length-append)), (refl, refl)),
+      (text, 0 ∷ s.after, record { whole = refl; each = (no_zero_is text).0 s.ends; longest = refl }, inl (s.after, refl, (refl, refl))),
+    )
+
+type_spelled : (d : List ℕ) (t : LocalType) → HasPlace d t → IsType t → Spells (local_type d) (type_bytes d t) t []
+unfolding local_type mark typed type_bytes signed_bytes
+type_spelled d t p h =
+    let stands = has_text (name_of t) d (no_zero t.name h.name) p.stands in
+    let same : designation_of (name_of t) ≡ t.name = grind arith in
+    let place = place_of (name_of t) d in (
+      signed_bytes w32 t.offset,
+      _,
+      (refl, refl),
+      (
+        t.dst,
+        place ∷ [],
+        grind arith,
+        (place ∷ [], [], (refl, refl), (_, [], (_, text_spelled d place _ stands, refl), grind (arith, ints, signed_32))),
+      ),
+    )
+
+types_are : (p : FilePieces) (types : List LocalType) (bytes : List ℕ) → All (HasPlace p.parts.designations) types → All IsType types
+    → p.parts.types ≡ flat_map (type_bytes p.parts.designations) types → (k : ℕ) (d : LocalType) → k < length types
+    → Spells (type_at p k) bytes (get_or types k d) bytes
+unfolding type_at type_bytes signed_bytes
+types_are p types bytes places h part k d l =
+    let is = record_is 6 (type_bytes p.parts.designations) (λ _. refl) types k d l in
+    rw (part, is) ([], type_spelled p.parts.designations (get_or types k d) (places k d l) (h k d l), refl)
 
 -- ---- items appended one after another
 -- the pieces of the items are appended, and each is sound
@@ -93,6 +165,10 @@ abbrev CountsFit : Counts → Type 0
 CountsFit c = (c.ut_local < 2 ^ 32) × (c.standard_wall < 2 ^ 32) × (c.leap_seconds < 2 ^ 32) × (c.transitions < 2 ^ 32) × (c.types < 2 ^ 32)
     × (c.designations < 2 ^ 32)
 
+abbrev version_of : Bool → Version
+version_of true = Three
+version_of false = Two
+
 counts_are : (c : Counts) (rest : List ℕ) → CountsFit c → Spells six_counts (counts_bytes c ++ rest) c rest
 unfolding counts_bytes number_bytes six_counts
 counts_are c rest (a, b, d, e, f, g) = (
@@ -101,10 +177,6 @@ counts_are c rest (a, b, d, e, f, g) = (
   number_is _ _ a,
   (_, _, number_is _ _ b, (_, _, number_is _ _ d, (_, _, number_is _ _ e, (_, _, number_is _ _ f, (_, _, number_is _ _ g, (refl, refl)))))),
 )
-
-abbrev version_of : Bool → Version
-version_of true = Three
-version_of false = Two
 
 header_is : (place : Place) (extended : Bool) (c : Counts) (rest : List ℕ) → CountsFit c → CountsAgree c
     → Spells (header place) (header_bytes extended c ++ rest) (record { version = version_of extended; counts = c }) rest
@@ -122,32 +194,34 @@ record IsPlain (text : List ℕ) : Type 0 where
   bytes : AreTextBytes text
   no_colon : get_or text 0 0 ≢ 58
 
-ascii : (text : List ℕ) → AreTextBytes text → All (λ b. b < 128) (text ++ 10 ∷ [])
-ascii [] h = grind (arith, All-cons)
-ascii (b ∷ bs) h = All-cons (λ b. b < 128) b (bs ++ 10 ∷ []) (limits b h.0).1 (ascii bs h.1)
+ascii : (text : List ℕ) → AreTextBytes text → IsAscii (text ++ 10 ∷ [])
+ascii [] h = IsAscii-cons 10 [] (omega arith) IsAscii-nil
+ascii (b ∷ bs) h = IsAscii-cons b (bs ++ 10 ∷ []) (limits b h.0).1 (ascii bs h.1)
+
+-- no text is no rule
+abbrev SaysRule : Bool → List ℕ → Option TransitionRule → Type 0
+SaysRule extended text None = text ≡ []
+SaysRule extended text (Some rule) = (text ≢ []) × IsTzText extended text rule
+
+without_zero : (text : List ℕ) → IsPlain text → IsRun is_not_zero text text []
+without_zero text p = record { whole = sym (append-nil text); each = (no_zero_is text).0 (no_zeros text p.bytes); longest = tt }
+
+text_says : (extended : Bool) (text : List ℕ) (rule : Option TransitionRule) → IsPlain text → SaysRule extended text rule
+    → Spells (footer_text extended) text rule []
+unfolding footer_text
+text_says extended text rule p says =
+    (tt, text, inr (grind arith, ([], (text, [], without_zero text p, inl (refl, (refl, refl))), refl)), grind arith)
 
 footer_is : (extended : Bool) (text : List ℕ) (rule : Option TransitionRule) → IsPlain text → SaysRule extended text rule
-    → IsFooter extended (footer_bytes text) rule
-footer_is extended text rule p says = record {
-  text = text;
-  has_text = record {
-    utf8 = IsUtf8-from_ascii (footer_bytes text)
-        (IsAscii-from_all (footer_bytes text) (All-cons (λ b. b < 128) 10 (text ++ 10 ∷ []) (omega arith) (ascii text p.bytes)));
-    newlines = record { after_first = text ++ 10 ∷ []; before_last = 10 ∷ text; starts = refl; ends = refl };
-    trimmed = record {
-      before = 10 ∷ [];
-      after = 10 ∷ [];
-      whole = refl;
-      space_before = (refl, tt);
-      space_after = (refl, tt);
-      first = begins_bare text p.bytes;
-      last = ends_bare text p.bytes;
-    };
-  };
-  no_colon = p.no_colon;
-  no_zero = no_zeros text p.bytes;
-  says = says;
-}
+    → Spells (footer extended) (footer_bytes text) rule (footer_bytes text)
+unfolding footer utf8 newline
+footer_is extended text rule p says =
+    let utf8 = IsUtf8-from_ascii (footer_bytes text) (IsAscii-cons 10 (text ++ 10 ∷ []) (omega arith) (ascii text p.bytes)) in
+    let trims = trim_whole (10 ∷ []) text (10 ∷ []) (refl, tt) (no_space text p.bytes) (refl, tt) in
+    let says = text_says extended text rule p says in
+    let last : get_or (footer_bytes text) (length (footer_bytes text) - 1) 0 ≡ 10 =
+    grind (arith, length-append, get_or-append_seam (10 ∷ text) 10 [] 0) in
+    (tt, _, (utf8, refl, refl), (tt, _, (refl, refl, refl), (tt, _, (last, refl, refl), ([], rw trims says, refl))))
 
 -- ---- the first half
 least_parts : Parts
@@ -158,30 +232,35 @@ first_block : (rest : List ℕ) → Spells (block 4 least_counts) (least_block +
 unfolding least_parts block
 first_block rest = grind arith
 
+first_header : (extended : Bool) (text d : List ℕ) (z : Zone) → Spells (header First) (file_bytes extended text d z)
+    (record { version = version_of extended; counts = least_counts }) (least_block ++ second_half extended text d z)
+unfolding file_bytes first_half header_bytes counts_bytes number_bytes
+first_header extended text d z = header_is First extended _ _ (grind arith) ((counts_test least_counts).decides.0 refl)
+
 -- ---- the second half
 some_designations : (types : List LocalType) (d : List ℕ) → 0 < length types → HavePlaces d types → length d ≢ 0
 some_designations [] d some places e = omega arith
 some_designations (t ∷ ts) d some places e = grind (arith, places 0 t some)
 
-pieces_of : Bool → List ℕ → List ℕ → Zone → FilePieces
+abbrev pieces_of : Bool → List ℕ → List ℕ → Zone → FilePieces
 pieces_of extended text d z = later_pieces (record { version = version_of extended; counts = zone_counts d z }) (zone_parts d z) (footer_bytes text)
-
-after_is : (extended : Bool) (c : Counts) (p : Parts) (rest : List ℕ) (pieces : FilePieces) → Spells later_version rest pieces []
-    → Spells (after_first_block (version_of extended) c p) rest pieces []
-unfolding after_first_block
-after_is extended c p rest pieces h = grind arith
 
 -- a zone that has types, and designations that have their places
 module _ (extended : Bool) (text d : List ℕ) (z : Zone) (size : length d ≤ 263) (counts : HasCounts z) (some : 0 < length z.types)
     (places : HavePlaces d z.types) (sound : IsSound z) where
   second_block : (rest : List ℕ) → Spells (block 8 (zone_counts d z)) (block_bytes (zone_parts d z) rest) (zone_parts d z) rest
-  unfolding block
+  unfolding block type_bytes leap_bytes signed_bytes
   second_block rest =
-      let transitions = transitions_are z.transitions sound.times in let types = types_are d z.types places sound.types in
-      let leaps = leaps_are z.leaps sound.leaps in grind (arith, records_length, length-map)
+      grind (
+        arith,
+        records_length 8 time_bytes (λ _. refl),
+        records_length 1 index_bytes (λ _. refl),
+        records_length 6 (type_bytes d) (λ _. refl),
+        records_length 12 leap_bytes (λ _. refl),
+      )
 
   second_is : Spells later_version (second_half extended text d z) (pieces_of extended text d z) []
-  unfolding second_half pieces_of later_version
+  unfolding second_half later_version
   second_is = (
     _,
     _,
@@ -191,23 +270,33 @@ module _ (extended : Bool) (text d : List ℕ) (z : Zone) (size : length d ≤ 2
 
   -- ---- the whole
   file_pieces : HasPieces (file_bytes extended text d z) (pieces_of extended text d z)
-  unfolding file_bytes first_half header_bytes counts_bytes number_bytes file
-  file_pieces = let least = (counts_test least_counts).decides.0 refl in
-      (_, _, header_is First extended _ _ (grind arith) least, (_, _, first_block _, after_is extended _ _ _ _ second_is))
+  unfolding file after_first_block
+  file_pieces = (_, _, first_header extended text d z, (_, _, first_block (second_half extended text d z), grind (arith, second_is)))
 
-  file_is : IsPlain text → SaysRule extended text z.rule → IsTzFile (file_bytes extended text d z) z
-  unfolding pieces_of
-  file_is plain says = grind (arith, file_pieces, transitions_are, types_are, leaps_are, footer_is)
+  file_says : IsPlain text → SaysRule extended text z.rule → IsTzFile (file_bytes extended text d z) z
+  unfolding tz_file contents indicators optional_footer
+  file_says plain says =
+      let p = pieces_of extended text d z in
+      let same : p.extended ≡ extended = grind arith in
+      let types = each_whole (type_at p) [] z.types (types_are p z.types [] places sound.types refl) in
+      let transitions = values_are (transition_at p) z.transitions (transition_is p z.transitions sound.times refl refl refl) in
+      let leaps = values_are (leap_at p) z.leaps (leap_is p z.leaps sound.leaps refl refl) in
+      let footer = footer_is extended text z.rule plain says in (
+        p,
+        [],
+        file_pieces,
+        (_, [], types, (tt, [], ([], [], (refl, refl), (refl, refl)), (z.rule, [], (footer_bytes text, rw same footer, refl), grind arith))),
+      )
 
-abbrev IsByte : ℕ → Type 0
-IsByte b = b < 256
+-- numbers below 256
+abbrev Bytes : List ℕ → Type 0
+Bytes bytes = (i : ℕ) → get_or bytes i 0 < 256
 
-behind : (a b : List ℕ) → AreBytes (a ++ b) → AreBytes b
-behind [] b h = h
-behind (x ∷ xs) b h = behind xs b (All-tail IsByte x (xs ++ b) h)
+behind : (a b bytes : List ℕ) → bytes ≡ a ++ b → Bytes bytes → Bytes b
+behind a b bytes e h i = rw (← get_or-append-add a b i 0, ← e) (h (length a + i))
 
-front : (a b : List ℕ) → AreBytes (a ++ b) → AreBytes a
-front a b h k d l = grind (arith, get_or_append_left, length-append)
+front : (a b bytes : List ℕ) → bytes ≡ a ++ b → Bytes bytes → Bytes a
+front a b bytes e h i = let at = rw e at h i in grind (arith, get_or_append_left, get_or-eq_default, cases_lt i (length a))
 
 -- ---- the values that a grammar spells in bytes
 abbrev Values : {X : Type 0} → Grammar X → X → Type 0
@@ -215,88 +304,96 @@ Values (Nothing v) x = x ≡ v
 Values (Then {X = X} g f) y = (x : X) × Values g x × Values (f x) y
 Values (Marked tag g h) x = Values g x ⊎ Values h x
 Values (Ended g h) x = Values g x ⊎ Values h x
-Values (Exact n) x = AreBytes x × (length x ≡ n)
-Values Rest x = AreBytes x
+Values (Exact n) x = Bytes x × (length x ≡ n)
+Values Rest x = Bytes x
 Values (Check P test refusal v) x = P × (x ≡ v)
 Values (Here f) x = (bytes : List ℕ) × Values (f bytes) x
 Values (At place g) x = Values g x
 Values g x = Unit {0}
 
-values : {X : Type 0} (g : Grammar X) (bytes : List ℕ) (x : X) (rest : List ℕ) → Spells g bytes x rest → AreBytes bytes → Values g x × AreBytes rest
+values : {X : Type 0} (g : Grammar X) (bytes : List ℕ) (x : X) (rest : List ℕ) → Spells g bytes x rest → Bytes bytes → Values g x × Bytes rest
 values (Nothing v) bytes x rest h b = (h.0, rw h.1 at b)
 values (Then g f) bytes y rest (x, after, p, q) b = let v = values g bytes x after p b in let w = values (f x) after y rest q v.1 in ((x, v.0, w.0), w.1)
-values (Marked tag g h) bytes x rest (inl (after, is, p)) b = grind (arith, values g after x rest p (behind (tag ∷ []) after (rw is at b)))
+values (Marked tag g h) bytes x rest (inl (after, is, p)) b = grind (arith, values g after x rest p (behind (tag ∷ []) _ _ is b))
 values (Marked tag g h) bytes x rest (inr (_, p)) b = grind (arith, values h bytes x rest p b)
 values (Ended g h) bytes x rest p b = grind (arith, values g bytes x rest, values h bytes x rest)
-values (Byte tag) bytes x rest h b = (tt, behind (tag ∷ []) rest (rw h at b))
-values (Run p) bytes x rest h b = (tt, behind x rest (rw h.whole at b))
-values (Number max) bytes x rest h b = (tt, behind h.digits rest (rw h.whole at b))
-values (Exact n) bytes x rest h b = let c = rw h.0 at b in ((front x rest c, h.1), behind x rest c)
-values Rest bytes x rest h b = (rw h.0 b, rw h.1 (All-nil IsByte))
+values (Byte tag) bytes x rest h b = (tt, behind (tag ∷ []) _ _ h b)
+values (Run p) bytes x rest h b = (tt, behind x _ _ h.whole b)
+values (Number max) bytes x rest h b = (tt, behind h.digits _ _ h.whole b)
+values (Exact n) bytes x rest h b = ((front x _ _ h.0 b, h.1), behind x _ _ h.0 b)
+values Rest bytes x rest h b = (rw h.0 b, rw h.1 (λ i. omega arith))
 values (Refused refusal) bytes x rest h b = absurd h
 values (Check P test refusal v) bytes x rest h b = ((h.0, h.1), rw h.2 at b)
 values (Here f) bytes x rest h b = let v = values (f bytes) bytes x rest h b in ((bytes, v.0), v.1)
 values (At place g) bytes x rest h b = values g bytes x rest h b
+values (Inside part from g) bytes x rest h b = (tt, rw h.2 at b)
 
 -- ---- counts
 header_fits : (place : Place) (h : Header) → Values (header place) h → CountsFit h.counts
 unfolding header six_counts be_u32
 header_fits place h (_, _, (_, _, (_, _, (_, (c, (i, j, (k, l, (m, n, (o, p, (q, r, (s, t, value)))))), (_, is)))))) = grind arith
 
--- ---- blocks and pieces
-same_factor : (a b c : ℕ) → 0 < c → a * c ≡ b * c → a ≡ b
-same_factor a b c p h = grind (arith, mul-div_cancel)
-
--- the numbers of transitions, types and leap seconds fit their fields
-record Limits (p : FilePieces) : Type 0 where
-  pub indexes : AreBytes p.parts.type_indexes
-  pub types : AreBytes p.parts.types
-  pub transitions_fit : length p.parts.type_indexes < 2 ^ 32
-  pub types_fit : length p.parts.types < 2 ^ 32 * 6
-  pub leaps_fit : (n : ℕ) → length p.parts.leap_seconds ≡ n * (p.time_size + 4) → n < 2 ^ 32
-
-block_limits : (extended : Bool) (time_size : ℕ) (c : Counts) (p : Parts) (footer : Option (List ℕ)) → CountsFit c → Values (block time_size c) p
-    → Limits (record { extended = extended; time_size = time_size; counts = c; parts = p; footer = footer })
+last_bytes : (time_size : ℕ) (c : Counts) (p : Parts) → Values (block time_size c) p → Bytes p.type_indexes × Bytes p.types
 unfolding block
-block_limits extended time_size c p footer fit (_, _, (_, (indexes, i), (_, (types, j), (_, _, (leaps, (_, k), (_, _, (_, _, value))))))) =
-    grind (arith, same_factor)
+last_bytes time_size c p (_, _, (_, (i, _), (_, (t, _), (_, _, (_, _, (_, _, (_, _, value))))))) = rw value (i, t)
 
-later_limits : (p : FilePieces) → Values later_version p → Limits p
-unfolding later_version
-later_limits p (h, head, (parts, in_block, (_, _, value))) = rw value (block_limits _ 8 _ _ _ (header_fits _ h head) in_block)
-
-after_limits : (v : Version) (c : Counts) (parts : Parts) (p : FilePieces) → Values (after_first_block v c parts) p → CountsFit c
-    → Values (block 4 c) parts → Limits p
-unfolding after_first_block first_version
-after_limits One c parts p (_, _, value) fit first = rw value (block_limits _ 4 _ _ _ fit first)
-after_limits v c parts p h fit first = later_limits p h
+after_fits : (v : Version) (c : Counts) (parts : Parts) (p : FilePieces) → Values (after_first_block v c parts) p → CountsFit c → CountsFit p.counts
+unfolding after_first_block first_version later_version
+after_fits One c parts p (_, _, value) fit = rw value fit
+after_fits v c parts p (h, head, (_, _, (_, _, value))) fit = rw value (header_fits _ h head)
 
 -- ---- names
-types_named : (designations part : List ℕ) (types : List LocalType) → SpellTypes designations part types → AreBytes part → AreNamesIn designations types
-types_named designations part [] h b = All-nil (IsNamedIn designations)
-types_named designations part (t ∷ ts) h b =
-    let whole = rw h.2 at b in
-    All-cons (IsNamedIn designations) t ts
-    (record { place = _; stands = let spelled = h.4 in grind arith; named = front h.0 _ whole 5 0 (omega (arith, h.3)) })
-    (types_named _ h.1 ts h.5 (behind h.0 _ whole))
+text_stands : (d : List ℕ) (place : ℕ) (text rest : List ℕ) → Spells designation (drop place d) text rest → StandsAt d place text
+unfolding designation
+text_stands d place text rest (_, bytes, inl none, _) = absurd none.1
+text_stands d place text rest (_, bytes, inr (some, (_, same)), (run, after, is, inr none)) = absurd none.1
+text_stands d place text rest (_, bytes, inr (some, (_, same)), (run, after, is, inl (behind, zero_first, (value, _)))) = record {
+  before = take place d;
+  after = behind;
+  whole = sym (take-append-drop place d) ∙ ap (λ s. take place d ++ s) (same ∙ is.whole ∙ rw (zero_first, value) refl);
+  at = elim (cases_lt place (length d)) [
+    | inl l ↦ omega (arith, length-take place d)
+    | inr le ↦ absurd (some (nil_from_length (drop place d) (omega (arith, length-drop place d))))
+  ];
+  ends = rw value ((no_zero_is run).1 is.each);
+}
+
+type_named : (p : FilePieces) (k : ℕ) (bytes : List ℕ) (t : LocalType) (rest : List ℕ) → Bytes p.parts.types → Spells (type_at p k) bytes t rest
+    → IsNamedIn p.parts.designations t
+unfolding type_at local_type typed
+type_named p k bytes t rest b (_, (offset, a, cut, (dst, c, m, (place, e, one, (text, f, (g, spelled, _), (_, is, _))))), _) =
+    let record_bytes : Bytes (record_at 6 p.parts.types k) = λ i. let at = b (k * 6 + i) in
+    grind (arith, get_or-drop, cases_lt i 6, get_or-take, get_or-eq_default, length-take) in
+    let same : name_or_none (designation_of text) ≡ text = grind arith in
+    record {
+      place = get_or place 0 0;
+      stands = rw (is, same) (text_stands p.parts.designations _ text g spelled);
+      named = front place e c one.0 (values mark a dst c m (behind offset a _ cut.0 record_bytes)).1 0;
+    }
 
 pub writable : (bytes : List ℕ) (z : Zone) → AreBytes bytes → IsTzFile bytes z → IsWritable z
-unfolding file
-writable bytes z b (p, pieces, say) =
-    let limits : Limits p = grind (arith, values, after_limits, header_fits) in
-    let indexes = ap length say.transitions.indexes_are ∙ length-map _ _ in
-    let types = records_length _ _ _ _ say.types in
-    let leaps = records_length _ _ _ _ say.leaps in
-    record {
+unfolding file tz_file contents
+writable bytes z are (p, after, pieces, (types, c, each, (_, e, _, (rule, f, says, (value, _))))) =
+    let b : Bytes bytes = λ i. let at = are i 0 in grind (arith, cases_lt i (length bytes), get_or-eq_default) in
+    let (before, _, whole, _, last, _) = file_ends bytes p after pieces in
+    let (indexes, in_types) = last_bytes p.time_size p.counts p.parts (values (block p.time_size p.counts) _ _ _ last (behind before _ _ whole b)).0 in
+    let counts : CountsFit p.counts = grind (arith, values, after_fits, header_fits) in
+    let named = each_all (IsNamedIn p.parts.designations) (type_at p) after p.counts.types types c (λ k s t r. type_named p k s t r in_types) each in
+    let times = values_is (transition_at p) p.counts.transitions in
+    let leaps = values_is (leap_at p) p.counts.leap_seconds in
+    rw value (record {
       room = record {
-        counts = record { transitions = omega arith; types = omega arith; leaps = limits.leaps_fit _ leaps };
-        indexes = λ i d l. subst IsByte (get_or-map (λ (t : Transition). t.type_index) z.transitions i d 0 l)
-            ((rw say.transitions.indexes_are at limits.indexes) i 0 (omega (arith, length-map z.transitions (λ t. t.type_index))));
-        designations = _;
-        names = types_named _ _ _ say.types limits.types;
+        counts = record {
+          transitions = rw times.0 counts.3;
+          types = rw named.1 counts.4;
+          leaps = rw leaps.0 counts.2;
+        };
+        indexes = λ k d l. rw (times.1 k d (omega (arith, times.0))) (indexes k);
+        designations = p.parts.designations;
+        names = named.0;
       };
-      rule = grind (arith, rule_named);
-    }
+      rule = grind (arith, rule_named, in_footer p.extended p.footer e rule f says);
+    })
 
 -- that text is the footer of that rule
 module _ (rule : Option TransitionRule) (text : List ℕ) (extended : Bool) (footer : IsFooterText rule text extended) where
@@ -307,36 +404,29 @@ module _ (rule : Option TransitionRule) (text : List ℕ) (extended : Bool) (foo
   pub needs_extensions : IsRuleOrNone rule → (extended ≡ true) ↔ NeedsExtensions rule
   needs_extensions fits = grind (arith, extensions, both_ways)
 
-footer_some : (rule : Option TransitionRule) → IsRuleOrNone rule → IsSpellableOrNone rule
-    → (text : List ℕ) × (extended : Bool) × IsFooterText rule text extended
-footer_some (Some rule) fits h = text_some rule fits h
-footer_some None fits h = grind arith
-
-has_version : (extended : Bool) (text d : List ℕ) (z : Zone) → HaveVersion extended (file_bytes extended text d z)
-unfolding file_bytes first_half second_half header_bytes counts_bytes number_bytes
-has_version extended text d z = record { first = refl; second = refl }
-
 -- ---- a zone that can be written
 module _ (z : Zone) (some : 0 < length z.types) (fits : IsRuleOrNone z.rule) (sound : IsSound z) where
-  pub written_is : (d text : List ℕ) (extended : Bool) (bytes : List ℕ) → HasCounts z → AreLaid z.types d → IsFooterText z.rule text extended
-      → bytes ≡ file_bytes extended text d z → IsWrittenFile z bytes
-  written_is d text extended bytes counts laid footer e =
-      let p : IsPlain text × SaysRule extended text z.rule = grind (arith, rule_named, rule_text, text_begins, text_are) in record {
-        spells = rw e (file_is extended text d z (laid_size _ _ laid.1) counts some laid.0 sound p.0 p.1);
-        text = _;
-        extended = _;
+  pub written_is : (d text : List ℕ) (extended : Bool) → HasCounts z → AreLaid z.types d → IsFooterText z.rule text extended
+      → IsWrittenFile z (file_bytes extended text d z)
+  unfolding laid_file file_bytes first_half second_half header_bytes counts_bytes number_bytes
+  written_is d text extended counts laid footer =
+      let p : IsPlain text × SaysRule extended text z.rule = grind (arith, rule_named, rule_text, text_begins, text_are) in
+      let size = laid_size _ _ laid.1 in record {
+        spells = file_says extended text d z size counts some laid.0 sound p.0 p.1;
+        text = text;
+        extended = extended;
         footer = footer;
-        version = rw e (has_version extended text d z);
-        designations = d;
-        names = laid.2;
-        order = laid.1;
-        layout = e;
+        pieces = λ q has. rw (one_pieces _ q _ has (file_pieces extended text d z size counts some laid.0 sound))
+            (record { standard_wall = refl; ut_local = refl; names = laid.2; footer = refl });
+        version = record { first = refl; second = refl };
+        first = (version_of extended, _, first_header extended text d z);
+        same = let once : (text ≡ text_of_rule z.rule) × (extended ≡ is_extended z.rule) = grind (arith, rule_text) in rw (once.0, once.1, laid.1) refl;
       }
 
   pub file_some : IsWritable z → (bytes : List ℕ) × IsWrittenFile z bytes
   file_some h =
-      let d = laid_of z.types some (λ i d l. (sound.types i d l).name) h.room.designations h.room.names in let f = footer_some z.rule fits h.rule in
-      (_, written_is d.0 f.0 f.1 _ h.room.counts d.1 f.2 refl)
+      let laid = laid_of z.types some (λ i d l. (sound.types i d l).name) h.room.designations h.room.names in
+      (_, written_is _ (text_of_rule z.rule) (is_extended z.rule) h.room.counts laid (grind (arith, text_is)))
 
 pub one_file : (z : Zone) (a b : List ℕ) → IsWrittenFile z a → IsWrittenFile z b → a ≡ b
 one_file z a b h k = grind arith

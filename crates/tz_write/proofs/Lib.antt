@@ -1,5 +1,5 @@
 pub mod Words
 mod RuleTexts
 mod TextBytes
-mod FileLayouts
-mod FileWritten
+pub mod LaidNames
+pub mod FileWritten

@@ -1,9 +1,10 @@
 -- The text of a rule, and of a zone: it spells the rule, or gives the zone, and each other one is longer.
-use Rattle.std.proofs.{Common.int_eq, lemmas.Bool.Decides.Decides-int_eq}
+use Rattle.std.proofs.{Common.{Decides, OnErr, Result, int_eq}, lemmas.Bool.{Decides.Decides-int_eq, le-ltb}}
 use Rattle.tz_base.{proofs.RunLaws.all_of, specs.{Grammar.{Grammar, Number, Run, Then}, Names.IsName}}
 use Rattle.tz_info.{
-  proofs.Words.{Alternate, IsAlternateRule, IsPosixZone, IsRuleDay, IsSpace, IsWithinDay, is_letter},
-  proofs.Words.{is_not_greater, named_type, neg_ℤ, zone_of_rule},
+  proofs.Words.{Alternate, IsAlternateRule, IsRuleDay, IsTzText, IsWithinDay, ints, is_letter, is_not_greater, named_type, neg_ℤ},
+  proofs.Words.{nil_from_length, pos, trimmed, unsigned_abs, zone_of_rule, ◌+ℤ◌, ◌<ℤ◌},
+  proofs.TrimLaws.{IsSpace, trim_is},
   proofs.ForCallers.offset_fits,
   specs.{TzGrammar.{clock_max, minus, time_limit}, declared.rule.day.{DayForm.{TheVariants.{Julian0, Julian1, MonthWeekday}, DayForm}, DayTime.DayTime}},
 }
@@ -12,14 +13,14 @@ use Rattle.tz_write.{
   proofs.TextBytes.{front_then, front_unless, front_whole, names_are, number_begins, number_front, number_writes, pair_front, pair_writes},
   proofs.TextBytes.{pairs_over, pairs_rest, trimmed_text, two_digits, writes_byte, writes_check, writes_colon, writes_first, writes_here},
   proofs.TextBytes.{writes_last, writes_mark, writes_more, writes_nothing, writes_optional, writes_other, writes_then},
-  proofs.Words.{[], AllOf, AreInPairs, Bool, IsRule, IsRuleOrNone, IsTrimmed, IsTzText, IsWrittenText, IsWrittenZone, List, LocalType, None},
-  proofs.Words.{NoneFirst, OnErr, Option, Result, Some, Spells, TransitionRule, Without, Zone, ap, append-nil, append_assoc, arith},
-  proofs.Words.{both_ways, colon, comma, cond, false, greater, inl, inr, ints, is_digit, is_name_byte, le-ltb, length, length-append, less, list_all},
-  proofs.Words.{name_of, name_or_none, nat_tests, not, pos, refl, slash, spelled_pair, spelled_rule, true, unsigned_abs, ℕ, ℤ, ◌%◌, ◌&&◌, ◌*◌, ◌++◌},
-  proofs.Words.{◌+ℤ◌, ◌+◌, ◌/◌, ◌<ℤ◌, ◌<◌, ◌==◌, ◌↔◌, ◌∙◌, ◌∷◌, ◌≡◌, ◌≤◌, ◌⊎◌},
-  specs.Steps.TextPieces.{is_negative, is_positive, spelled_clock, spelled_date, spelled_day, spelled_dst_offset, spelled_hands, spelled_minutes},
-  specs.Steps.TextPieces.{spelled_name, spelled_offset, spelled_seconds, spelled_signed, spelled_time, time_after},
-  specs.WrittenTexts.{AreTimesOf, CanBeSpelled, HasZoneText, IsNamed, IsNoPosixZone, IsOfText, IsPlainTime, IsTextTime},
+  proofs.Words.{[], AllOf, AreInPairs, Bool, IsRule, IsRuleOrNone, List, LocalType, None, NoneFirst, Option, Some, Spells, TransitionRule, Without},
+  proofs.Words.{Zone, ap, append-nil, append_assoc, arith, both_ways, colon, comma, cond, false, greater, inl, inr, is_digit, is_name_byte, length},
+  proofs.Words.{length-append, less, list_all, name_of, name_or_none, nat_tests, not, refl, slash, spelled_rule, true, ℕ, ℤ, ◌%◌, ◌&&◌, ◌*◌, ◌++◌, ◌+◌, ◌/◌},
+  proofs.Words.{◌<◌, ◌==◌, ◌↔◌, ◌∙◌, ◌∷◌, ◌≡◌, ◌≤◌, ◌⊎◌},
+  specs.Steps.TextPieces.{has_plain_times, is_negative, is_positive, spelled_clock, spelled_date, spelled_day, spelled_days, spelled_dst_offset, spelled_hands},
+  specs.Steps.TextPieces.{spelled_minutes, spelled_name, spelled_offset, spelled_seconds, spelled_signed, spelled_time, time_after},
+  specs.Steps.LaidFiles.footer_text,
+  specs.WrittenTexts.{AreTimesOf, CanBeSpelled, HasZoneText, IsNamed, IsNoPosixZone, IsOfText, IsPlainTime, IsTextTime, IsWrittenText, IsWrittenZone},
 }
 use Rattle.tz_info.specs.TzGrammar as tz
 use Rattle.tz_info.specs.declared.rule.transition_rule.TransitionRule.TheVariants as rules
@@ -61,7 +62,7 @@ module _ (rest : List ℕ) (stops : Stops rest) where
   hours_writes : (h m s : ℕ) → h ≤ clock_max → m ≤ 59 → s ≤ 59 → Writes tz.hours_minutes_seconds (spelled_hands h m s) (h, m, s) rest
   unfolding tz.hours_minutes_seconds
   hours_writes h m s l a b =
-      writes_then (number_writes l (grind (arith, nat_tests)) (omega arith))
+      writes_then (number_writes (omega arith) (grind (arith, nat_tests)))
       (writes_last (minutes_writes m s a b) (refl, refl))
 
   -- n seconds are z, but for the sign
@@ -69,31 +70,27 @@ module _ (rest : List ℕ) (stops : Stops rest) where
     duration_writes : (negative : Bool) → z ≡ signed negative n → Writes (tz.duration limit negative) (spelled_clock n) z rest
     unfolding spelled_clock tz.duration
     duration_writes negative v =
-        let e : 3600 * (n / 3600) + 60 * (n / 60 % 60) + n % 60 ≡ n = omega arith in
-        writes_here (writes_last (hours_writes (n / 3600) (n / 60 % 60) (n % 60) (omega arith) (omega arith) (omega arith))
-        ((l, omega arith, omega arith), rw e v, refl))
+        writes_here (writes_last (hours_writes (n / 3600) (n / 60 % 60) (n % 60) (omega arith) (omega arith) (omega arith)) (grind arith))
 
     -- a minus, if there is to be one, and a duration, whose sign follows from the minus
     signed_writes : (signs : Bool) (f : Bool → Bool) (negative : Bool) → (signs ≡ false → negative ≡ false) → z ≡ signed (f negative) n
         → Writes (Then (tz.time_sign signs) (λ m. tz.duration limit (f m))) (spelled_signed negative n) z rest
     unfolding tz.time_sign tz.sign
     signed_writes true f true may v = writes_then (writes_other (grind arith) (writes_mark refl (writes_nothing refl))) (duration_writes _ v)
-    signed_writes true f false may v = let first = clock_begins n rest (omega arith) in
-        writes_first false (inr (grind arith, inr (grind arith, (refl, refl))))
-        (duration_writes _ v)
-    signed_writes false f true may v = let e = may refl in cc
+    signed_writes true f false may v = let first = clock_begins n rest (omega arith) in writes_first false (grind arith) (duration_writes _ v)
+    signed_writes false f true may v = grind arith
     signed_writes false f false may v = writes_first false (refl, refl) (duration_writes (f false) v)
 
   offset_writes : (east : ℤ) → IsWithinDay east → Writes tz.offset (spelled_offset east) east rest
   unfolding spelled_offset tz.offset tz.time_sign
-  offset_writes east h = signed_writes 23 _ east (omega (arith, hours_within 24 east h)) (omega arith) true not (is_positive east) (λ e. cc)
-      (grind (arith, ints))
+  offset_writes east h =
+      signed_writes 23 _ east (grind (arith, hours_within)) (omega arith) true not (is_positive east) (grind arith) (grind (arith, ints))
 
   time_writes : (extended : Bool) (time : ℤ) → IsTextTime extended time → Writes (tz.time extended) (spelled_time time) time rest
   unfolding spelled_time tz.time
-  time_writes extended time h = let l : unsigned_abs time / 3600 ≤ time_limit extended = grind (arith, hours_within) in
-      let may : extended ≡ false → is_negative time ≡ false = grind (arith, le-ltb) in
-      signed_writes _ _ time l (grind (arith, nat_tests)) extended (λ m. m) (is_negative time) may (grind (arith, ints))
+  time_writes extended time h =
+      signed_writes (time_limit extended) _ time (grind (arith, hours_within)) (grind (arith, nat_tests)) extended (λ m. m) (is_negative time)
+      (grind (arith, le-ltb)) (grind (arith, ints))
 
 -- ---- the front of bytes that spell the same
 abbrev Fronts : {X : Type 0} → Grammar X → X → List ℕ → Type 0
@@ -103,20 +100,15 @@ seconds_front : (s : ℕ) → Fronts tz.seconds s (spelled_seconds s)
 unfolding tz.seconds
 seconds_front s _ _ h = front_optional colon 0 (Number clock_max) (s == 0) (λ _. pair_front) (λ z. rw z refl) h
 
-minutes_given : {bytes rest : List ℕ} (after : List ℕ) (m s : ℕ) → bytes ≡ colon ∷ after → Spells tz.minutes_seconds after (m, s) rest
-    → Front (spelled_pair m ++ spelled_seconds s) bytes rest
-unfolding tz.minutes_seconds
-minutes_given after m s e (x, behind, minutes, (y, end, seconds, (value, same))) =
-    grind (arith, front_then (pair_front e minutes) (seconds_front y _ _ seconds))
-
 minutes_front : (m s : ℕ) → Fronts tz.optional_minutes (m, s) (spelled_minutes m s)
-unfolding tz.optional_minutes
+unfolding tz.optional_minutes tz.minutes_seconds
 minutes_front m s _ _ h =
-    front_optional colon _ tz.minutes_seconds ((m == 0) && (s == 0)) (λ after is p. minutes_given _ m s is p) (grind (arith, nat_tests)) h
+    front_optional colon _ tz.minutes_seconds ((m == 0) && (s == 0)) (λ _ is p. let (x, _, minutes, (y, _, seconds, ends)) = p in
+    grind (arith, front_then (pair_front is minutes) (seconds_front y _ _ seconds))) (grind (arith, nat_tests)) h
 
 hours_front : (h m s : ℕ) → Fronts tz.hours_minutes_seconds (h, m, s) (spelled_hands h m s)
 unfolding tz.hours_minutes_seconds
-hours_front h m s _ _ (x, after, hours, ((y, z), end, others, (value, same))) =
+hours_front h m s _ _ (x, _, hours, ((y, z), _, others, ends)) =
     grind (arith, front_then (number_front {max = clock_max} (omega arith) hours) (minutes_front y z _ _ others))
 
 duration_front : (limit : ℕ) (negative : Bool) (z : ℤ) → Fronts (tz.duration limit negative) z (spelled_clock (unsigned_abs z))
@@ -142,22 +134,16 @@ time_front extended time _ _ (negative, unsigned, sign, d) =
 -- a text without extensions has no other times
 time_plain : (bytes : List ℕ) (time : ℤ) (rest : List ℕ) → Spells (tz.time false) bytes time rest → IsPlainTime time
 unfolding tz.time tz.time_sign tz.duration
-time_plain bytes time rest (negative, _, sign, ((h, m, s), _, _, ((a, b, c), value, _))) = grind (arith, ints, nat_tests)
+time_plain bytes time rest h = grind (arith, ints, nat_tests)
 
 -- ---- names
--- the test p passes on each byte
-module _ (p : ℕ → Bool) where
-  all_from : (bs : List ℕ) → list_all p bs ≡ true → AllOf p bs
-  all_from [] h = tt
-  all_from (b ∷ bs) h = grind (arith, nat_tests, all_from bs)
-
-  all_to : (bs : List ℕ) → AllOf p bs → list_all p bs ≡ true
-  all_to [] h = refl
-  all_to (b ∷ bs) h = grind (arith, nat_tests, all_to bs)
+letters_decided : (bs : List ℕ) → Decides (list_all is_letter bs) (AllOf is_letter bs)
+letters_decided [] = ((λ _. tt), (λ _. refl))
+letters_decided (b ∷ bs) = grind (arith, nat_tests, letters_decided bs)
 
 -- letters are above `<`, which comes in front of other names
 letters_begin : (bs rest : List ℕ) → 0 < length bs → AllOf is_letter bs → Begins 65 122 (bs ++ rest)
-letters_begin [] rest some each = absurd (omega arith)
+letters_begin [] rest some each = grind arith
 letters_begin (b ∷ bs) rest some each = grind arith
 
 run_writes : (p : ℕ → Bool) (name rest : List ℕ) → AllOf p name → AllOf is_name_byte name → NoneFirst p rest → Writes (Run p) name name rest
@@ -168,40 +154,36 @@ quoted name = less ∷ name ++ (greater ∷ [])
 
 -- a name of letters is its own text, and any other has marks around it
 by_letters : (P : List ℕ → Type 0) (name : List ℕ) → (AllOf is_letter name → P name) → P (quoted name) → P (spelled_name name)
-by_letters P name letters others = grind (arith, all_from)
+by_letters P name letters others = grind (arith, letters_decided)
 
 name_writes : (name rest : List ℕ) → IsName name → NoneFirst is_letter rest → Writes tz.name (spelled_name name) name rest
 unfolding tz.name tz.quoted
-name_writes name rest h none = let all : AllOf is_name_byte name = all_of is_name_byte name h.2 in let l = h.0 in
-    by_letters (λ s. Writes tz.name s name rest) name
-    (λ each. writes_other (grind (arith, letters_begin)) (run_writes is_letter name rest each all none))
-    (writes_mark refl
-    (writes_then (run_writes _ name _ (all_others is_name_byte is_not_greater (λ b h. grind (arith, nat_tests)) name all) all refl)
-    (writes_byte refl (writes_nothing refl))))
+name_writes name rest h none = let all = all_of is_name_byte name h.2 in let l = h.0 in
+    let others = all_others is_name_byte is_not_greater (λ b h. grind (arith, nat_tests)) name all in
+    by_letters (λ s. Writes tz.name s name rest) name (λ each. grind (arith, letters_begin, writes_other, run_writes))
+    (writes_mark refl (writes_then (run_writes _ name _ others all refl) (writes_byte refl (writes_nothing refl))))
 
 name_front : (name : List ℕ) → Fronts tz.name name (spelled_name name)
 unfolding tz.name tz.quoted
 name_front name _ _ (inl (_, is, (text, _, run, (_, end, close, (value, same))))) = rw (value, ← same)
     (record { front = quoted text; whole = grind (arith, append_assoc); best = λ _. grind (arith, length-append) })
-name_front name _ _ (inr (_, run)) = grind (arith, all_to)
+name_front name _ _ (inr (_, run)) = grind (arith, letters_decided)
 
 -- a name's text begins with a letter or `<`
 name_begins : (name rest : List ℕ) → IsName name → Begins 60 122 (spelled_name name ++ rest)
-name_begins name rest h = grind (arith, by_letters, all_from, letters_begin)
+name_begins name rest h = grind (arith, by_letters, letters_decided, letters_begin)
 
 -- ---- dates
 date_writes : (form : DayForm) (rest : List ℕ) → IsRuleDay form → NoneFirst is_digit rest → Writes tz.date (spelled_date form) form rest
 unfolding tz.date tz.month_date tz.julian_date tz.numbered_day tz.checked_day
-date_writes (Julian1 n) rest h none = let l = h.1 in
-    writes_other (grind arith) (writes_mark refl (writes_here (writes_last (number_writes (omega arith) none (omega arith)) (h, refl, refl))))
+date_writes (Julian1 n) rest h none =
+    writes_other (grind arith) (writes_mark refl (writes_here (writes_last (number_writes (omega arith) none) (h, refl, refl))))
 date_writes (Julian0 n) rest h none = let first = number_begins n rest (omega arith) in
-    writes_other (grind arith) (writes_other (grind arith)
-    (writes_here (writes_last (number_writes (omega arith) none (omega arith)) (h, refl, refl))))
+    writes_other (grind arith) (writes_other (grind arith) (writes_here (writes_last (number_writes (omega arith) none) (h, refl, refl))))
 date_writes (MonthWeekday m w d) rest h none =
-    let a = h.1 in let b = h.3 in let c = h.4 in
-    writes_mark refl (writes_here (writes_then (number_writes (omega arith) refl (omega arith)) (writes_byte refl
-    (writes_here (writes_then (number_writes (omega arith) refl (omega arith))
-    (writes_byte refl (writes_here (writes_last (number_writes (omega arith) none (omega arith)) (h, refl, refl)))))))))
+    writes_mark refl (writes_here (writes_then (number_writes (omega arith) refl) (writes_byte refl
+    (writes_here (writes_then (number_writes (omega arith) refl) (writes_byte refl
+    (writes_here (writes_last (number_writes (omega arith) none) (h, refl, refl)))))))))
 
 date_front : (form : DayForm) → Fronts tz.date form (spelled_date form)
 unfolding tz.date tz.month_date tz.julian_date tz.numbered_day tz.checked_day
@@ -235,7 +217,7 @@ day_front extended d _ _ h = grind (arith, front_then, date_front, after_front)
 
 day_plain : (bytes : List ℕ) (d : DayTime) (rest : List ℕ) → Spells (tz.day false) bytes d rest → IsPlainTime d.time
 unfolding tz.day tz.optional_time
-day_plain bytes d rest (_, after, _, (at, end, time, (value, _))) = rw value (grind (arith, time_plain))
+day_plain bytes d rest h = grind (arith, time_plain)
 
 -- ---- the offset of daylight saving time
 -- it is left out if it is an hour more
@@ -246,11 +228,11 @@ by_hour P std dst hour other = let same = Decides-int_eq dst (std +ℤ pos 3_600
 dst_offset_writes : (std dst : ℤ) (rest : List ℕ) → IsWithinDay dst → Writes (tz.dst_offset std) (spelled_dst_offset std dst ++ (comma ∷ [])) dst rest
 unfolding tz.dst_offset tz.next_hour tz.given_offset tz.more
 dst_offset_writes std dst rest h =
-    let first : Begins 45 57 ((spelled_offset dst ++ (comma ∷ [])) ++ rest) = rw append_assoc (offset_begins dst (comma ∷ rest) h) in
+    let first = rw (← append_assoc (spelled_offset dst) (comma ∷ []) rest) at (offset_begins dst (comma ∷ rest) h) in
     by_hour (λ s. Writes (tz.dst_offset std) (s ++ (comma ∷ [])) dst rest) std dst
     (λ v. writes_here (writes_mark refl (rw v (writes_check (let l = h.1 in omega (arith, ints))))))
-    (writes_here (writes_other (grind arith) (writes_first tt (inr (grind arith, (refl, refl)))
-    (writes_then (offset_writes _ (comma_stops rest) dst h) (writes_first tt (inr ((λ e. cc), (refl, refl))) (writes_byte refl (writes_nothing refl)))))))
+    (writes_here (writes_other (grind arith) (writes_first tt (grind arith)
+    (writes_then (offset_writes _ (comma_stops rest) dst h) (writes_first tt (grind arith) (writes_byte refl (writes_nothing refl)))))))
 
 dst_offset_front : {bytes rest : List ℕ} (std dst : ℤ) → Spells (tz.dst_offset std) bytes dst rest → Front (spelled_dst_offset std dst) bytes (comma ∷ rest)
 unfolding tz.dst_offset tz.next_hour tz.given_offset tz.more
@@ -258,15 +240,12 @@ dst_offset_front std dst h = grind (arith, front_nothing, front_unless, int_eq, 
 
 -- ---- what a text that spells a rule shows
 -- the rule can be spelled, has times that need no extensions if the text has none, and its own text is the shortest
-record IsRead (extended : Bool) (bytes : List ℕ) (rule : TransitionRule) : Type 0 where
-  named : CanBeSpelled rule
-  plain : extended ≡ false → AreTimesOf false rule
-  best : AreInPairs bytes → Best (spelled_rule rule) bytes
+pub record IsRead (extended : Bool) (bytes : List ℕ) (rule : TransitionRule) : Type 0 where
+  pub named : CanBeSpelled rule
+  pub plain : extended ≡ false → AreTimesOf false rule
+  pub best : AreInPairs bytes → Best (spelled_rule rule) bytes
 
-day_times : (extended : Bool) (bytes : List ℕ) (d : DayTime) (rest : List ℕ) → Spells (tz.day extended) bytes d rest → extended ≡ false → IsPlainTime d.time
-day_times extended bytes d rest h e = grind (arith, day_plain)
-
-rule_read : (extended : Bool) (bytes : List ℕ) (rule : TransitionRule) → IsTzText extended bytes rule → IsRead extended bytes rule
+pub rule_read : (extended : Bool) (bytes : List ℕ) (rule : TransitionRule) → IsTzText extended bytes rule → IsRead extended bytes rule
 unfolding tz.text tz.rule tz.fixed tz.alternate tz.named tz.days tz.end
 rule_read extended bytes rule (name, after, n, (east, end, o, inl (none, (t, _, (fits, is, _), (value, _))))) = rw (value, is) (record {
   named = ((name, assumption), offset_fits after east end o);
@@ -276,25 +255,22 @@ rule_read extended bytes rule (name, after, n, (east, end, o, inl (none, (t, _, 
 rule_read extended bytes rule (name, after, n, (east, end, o, inr (_, (dst_name, at_dst, d, (dst_east, at_days, f, (days, last, said, ends)))))) =
     let (start, at_comma, p, (_, at_end, c, (stop, fin, q, (both, same)))) = said in
     let (_, _, e, (s, _, (s_fits, s_is, _), (t, _, (t_fits, t_is, _), (value, _)))) = ends in
-    let none : last ≡ [] = elim e [ inl k ↦ k.0 | inr k ↦ absurd k.1 ] in
+    let none : last ≡ [] = grind arith in
     rw (value, s_is, t_is, both) (record {
       named = ((name, assumption), (dst_name, assumption));
-      plain = λ e. (day_times _ _ _ _ p e, day_times _ _ _ _ q e);
-      best = front_whole (front_then (front_then (name_front _ _ _ n) (offset_front _ _ _ o)) (front_then (name_front _ _ _ d)
+      plain = λ e. (day_plain _ _ _ (rw e at p), day_plain _ _ _ (rw e at q));
+      best = front_whole (front_then (name_front _ _ _ n) (front_then (offset_front _ _ _ o) (front_then (name_front _ _ _ d)
           (front_then (dst_offset_front _ _ f) (front_cons refl (front_then (day_front _ _ _ _ p)
-          (front_cons c (rw (same ∙ none) at (day_front _ _ _ _ q))))))));
+          (front_cons c (rw (same ∙ none) at (day_front _ _ _ _ q)))))))));
     })
 
 pub rule_named : (extended : Bool) (bytes : List ℕ) (rule : TransitionRule) → IsTzText extended bytes rule → CanBeSpelled rule
 rule_named extended bytes rule h = (rule_read extended bytes rule h).named
 
 -- ---- its own text
--- the parts of the text, each with what comes after it
+-- the days, each with what comes after it
 abbrev days_of : Alternate → List ℕ
 days_of a = spelled_day a.start ++ (comma ∷ spelled_day a.end)
-
-abbrev from_offset : Alternate → List ℕ
-from_offset a = spelled_dst_offset a.std.offset a.dst.offset ++ (comma ∷ days_of a)
 
 -- the type that the parts say
 type_is : (name : List ℕ) (dst : Bool) (t : LocalType) → IsNamed name dst t → t ≡ named_type name dst t.offset
@@ -318,33 +294,24 @@ rule_writes extended (rules.Fixed t) fits ((name, h), w) times =
     (writes_last (offset_writes [] (tt, tt, tt) t.offset w) (grind (arith, type_is)))))
 rule_writes extended (rules.Alternate a) fits ((m, s), (n, d)) (start, end) =
     let first : name_of a.std ≡ m = ap name_or_none s.named in let second : name_of a.dst ≡ n = ap name_or_none d.named in
-    let std = a.std.offset in let dst = a.dst.offset in let tail = spelled_name n ++ from_offset a in
-    rw (first, second, append_assoc (spelled_name m) (spelled_offset std) tail)
-    (writes_here
+    let std = a.std.offset in let dst = a.dst.offset in let tail = spelled_dst_offset std dst ++ spelled_days a in
+    let begins = rw (← append_assoc (spelled_name n) tail []) at (name_begins n (tail ++ []) d.allowed) in
+    rw (first, second) (writes_here
     (writes_then (name_writes m _ s.allowed (grind (arith, nat_tests, append_assoc, offset_begins)))
-    (writes_then (offset_writes _ (grind (arith, append_assoc, nat_tests, name_begins)) std fits.within.std_offset)
-    (writes_more (grind (arith, append_assoc, name_begins))
+    (writes_then (offset_writes _ (grind (arith, nat_tests)) std fits.within.std_offset)
+    (writes_more (grind arith)
     (writes_here
     (writes_then (name_writes n _ d.allowed (grind (arith, append_assoc, dst_ends_name)))
     (rw (← append_assoc (spelled_dst_offset std dst) (comma ∷ []) (days_of a)) (writes_then (dst_offset_writes std dst _ fits.within.dst_offset)
-    (writes_last (days_write _ a fits start end) (
-      tt,
-      [],
-      inl (refl, (refl, refl)),
-      (_, [], (s.allowed, type_is m false _ s, refl), (_, [], (d.allowed, type_is n true _ d, refl), (refl, refl))),
-    ))))))))))
+    (writes_last (days_write _ a fits start end) (tt, [], inl (refl, (refl, refl)), grind (arith, type_is)))))))))))
 
 -- ---- rules
 -- it begins with a letter or `<`
 pub text_begins : (rule : TransitionRule) → CanBeSpelled rule → Begins 60 122 (spelled_rule rule)
 text_begins rule named = grind (arith, name_begins, append_assoc)
 
--- each of two is the shortest
-both_shortest : (s t : List ℕ) → (t ≡ s) ⊎ (length s < length t) → (s ≡ t) ⊎ (length t < length s) → s ≡ t
-both_shortest s t p q = grind arith
-
 pub text_once : (rule : TransitionRule) (s t : List ℕ) (d e : Bool) → IsWrittenText rule s d → IsWrittenText rule t e → (s ≡ t) × (d ≡ e)
-text_once rule s t d e p q = grind (arith, both_shortest)
+text_once rule s t d e p q = grind arith
 
 -- a rule that a zone can have
 module _ (rule : TransitionRule) (fits : IsRule rule) where
@@ -366,17 +333,15 @@ module _ (rule : TransitionRule) (fits : IsRule rule) where
     pub written : (plain : Bool) → ((plain ≡ true) ↔ AreTimesOf false rule) → IsWrittenText rule (spelled_rule rule) (not plain)
     written plain is = grind (arith, rule_spelled, rule_pairs, rule_read)
 
-    text_is : (needed : Bool) × IsWrittenText rule (spelled_rule rule) needed
-    text_is =
-        let p : (AreTimesOf false rule) ⊎ (¬ (AreTimesOf false rule)) = grind (arith, ints) in
-        elim p [ inl p ↦ (false, grind (arith, written true)) | inr n ↦ (true, grind (arith, written false)) ]
+    pub text_is : IsWrittenText rule (spelled_rule rule) (not (has_plain_times rule))
+    text_is = written _ (grind (arith, ints, nat_tests, both_ways))
 
     pub text_some : (text : List ℕ) × (needed : Bool) × IsWrittenText rule text needed
-    text_some = let s = text_is in (spelled_rule rule, s.0, s.1)
+    text_some = (_, _, text_is)
 
   -- that text is written of it
   module _ (text : List ℕ) (extended : Bool) (h : IsWrittenText rule text extended) where
-    pub rule_text : text ≡ spelled_rule rule
+    pub rule_text : (text ≡ spelled_rule rule) × (extended ≡ not (has_plain_times rule))
     rule_text = grind (arith, text_is, text_once, rule_named)
 
     -- a text has extensions if the rule's times need them
@@ -391,17 +356,16 @@ pub ruleset rule_laws = (extensions, rule_named, text_once, text_some)
 module _ (after : List ℕ) (space : IsSpace after) where
   pairs_before : (bs : List ℕ) → AreInPairs (bs ++ after) → AreInPairs bs
   pairs_before [] h = tt
-  pairs_before (b ∷ bs) h = ((λ e. let two = h.0 e in grind (arith, nat_tests)), pairs_before bs h.1)
+  pairs_before (b ∷ bs) h = grind (arith, nat_tests, pairs_before bs)
 
 -- nothing at both ends, or a longer text
 trimmed_or_longer : (before text after : List ℕ) → (before ++ (text ++ after) ≡ text) ⊎ (length text < length (before ++ (text ++ after)))
-trimmed_or_longer [] text [] = inl (append-nil text)
-trimmed_or_longer [] text (c ∷ cs) = inr (grind (arith, length-append))
-trimmed_or_longer (b ∷ bs) text after = inr (grind (arith, length-append))
+trimmed_or_longer before text after = let nothing = append-nil text in grind (arith, length-append, nil_from_length)
 
-pub written_zone : (types : List LocalType) (rule : TransitionRule) → IsRule rule → HasZoneText types (Some rule)
-    → IsWrittenZone (zone_of_rule types (Some rule)) (spelled_rule rule)
-written_zone types rule fits h =
+pub written_zone : (types : List LocalType) (rule : Option TransitionRule) → IsRuleOrNone rule → HasZoneText types rule
+    → IsWrittenZone (zone_of_rule types rule) (footer_text rule)
+written_zone types None fits h = grind arith
+written_zone types (Some rule) fits h =
     let named = h.1.0 in
     let text = rule_spelled rule fits named false h.1.1 in let first = text_begins rule named in
     let trims = trimmed_text _ (text_are rule fits named) in
@@ -409,32 +373,21 @@ written_zone types rule fits h =
       gives = grind arith;
       pairs = rule_pairs rule fits named;
       shortest = λ other gives pairs.
-          let s : (trimmed : List ℕ) × IsTrimmed other trimmed × IsTzText false trimmed rule = grind arith in
-          let best = (rule_read false _ rule s.2).best (grind (arith, pairs_before, pairs_rest)) in grind (arith, trimmed_or_longer);
+          let s : IsTzText false (trimmed other) rule = grind arith in
+          let (before, after, whole, _, space) = trim_is other in
+          let best = (rule_read false _ rule s).best (pairs_before after space (trimmed other) (pairs_rest before _ (rw whole at pairs))) in
+          grind (arith, trimmed_or_longer);
     }
 
--- ---- which zones a text gives
-pub given : (text : List ℕ) (z : Zone) → IsPosixZone text z → IsOfText z
-given text z gives = grind (arith, rule_read)
-
+-- ---- zones that no text gives
 pub no_zone_text : (types : List LocalType) (rule : Option TransitionRule) → ¬ (HasZoneText types rule) → IsNoPosixZone (zone_of_rule types rule)
-no_zone_text types rule none text gives = none ((given text (zone_of_rule types rule) gives).rule)
-
--- ---- transitions and leap seconds
-pub zone_is : (z : Zone) (types : List LocalType) (rule : Option TransitionRule) → (z.transitions ≡ []) × (z.leaps ≡ []) → types ≡ z.types
-    → rule ≡ z.rule → zone_of_rule types rule ≡ z
-zone_is z types rule h t r = grind arith
-
-rule_some : (types : List LocalType) (rule : Option TransitionRule) → IsRuleOrNone rule → HasZoneText types rule
-    → (text : List ℕ) × IsWrittenZone (zone_of_rule types rule) text
-rule_some types (Some rule) fits h = (_, written_zone types rule fits h)
-rule_some types None fits h = grind arith
+no_zone_text types rule none text gives = grind (arith, rule_read)
 
 pub zone_text_some : (z : Zone) → IsRuleOrNone z.rule → IsOfText z → (text : List ℕ) × IsWrittenZone z text
-zone_text_some z fits h = grind (arith, rule_some)
+zone_text_some z fits h = let text = written_zone z.types z.rule fits h.rule in (footer_text z.rule, grind arith)
 
 pub zone_text_once : (z : Zone) (s t : List ℕ) → IsWrittenZone z s → IsWrittenZone z t → s ≡ t
-zone_text_once z s t p q = grind (arith, both_shortest)
+zone_text_once z s t p q = grind arith
 
 -- ---- running out of memory
 pub on_err : {A E : Type 0} (r : Result A E) (P : Type 0) → P → OnErr r P

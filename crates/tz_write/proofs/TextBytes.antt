@@ -5,18 +5,18 @@ use Rattle.std.proofs.lemmas.{
   Fmt.{decimal-digits_value, decimal_nonempty, digits_decimal, digits_value-decimal},
   Str.Parse.{IsNumeralModel, numerals_by_fold},
 }
-use Rattle.std.proofs.Common.{◌||◌}
+use Rattle.std.proofs.Common.{decimal, ◌||◌}
 use Rattle.tz_base.specs.{
   Fronts.{AllDigits, value_from},
   Grammar.{At, Byte, Check, Ended, Grammar, Here, IsNumber, Marked, Nothing, Number, Optional, Then},
   Refusals.Refusal,
   Tests.Test,
 }
-use Rattle.tz_info.proofs.Words.{BeginsBare, EndsBare}
+use Rattle.tz_info.{proofs.{TrimLaws.{HasNoSpace, trim_whole}, Words.{nil_from_length, trimmed}}, specs.TzGrammar.dot}
 use Rattle.tz_write.{
-  proofs.Words.{[], AllOf, AreInPairs, Bool, HasNoZero, IsTrimmed, List, NoneFirst, Spells, Without, append-nil, append_assoc, arith, both_ways},
-  proofs.Words.{colon, comma, cond, decimal, dot, false, greater, inl, inr, is_digit, is_name_byte, length, length-append, less, nat_tests, not},
-  proofs.Words.{refl, rules, slash, spelled_pair, sym, true, ℕ, ◌%◌, ◌&&◌, ◌++◌, ◌+◌, ◌/◌, ◌<◌, ◌==◌, ◌^◌, ◌∷◌, ◌≡◌, ◌≢◌, ◌≤◌, ◌⊎◌},
+  proofs.Words.{[], AllOf, AreInPairs, Bool, HasNoZero, List, NoneFirst, Spells, Without, append-nil, append_assoc, arith, both_ways, colon, comma},
+  proofs.Words.{cond, false, greater, inl, is_digit, is_name_byte, length, length-append, less, nat_tests, not, refl, rules, slash, spelled_pair},
+  proofs.Words.{true, ℕ, ◌%◌, ◌&&◌, ◌++◌, ◌+◌, ◌/◌, ◌<◌, ◌==◌, ◌^◌, ◌∷◌, ◌≡◌, ◌≢◌, ◌≤◌, ◌⊎◌},
   specs.WrittenTexts.TwoDigits,
 }
 
@@ -35,18 +35,13 @@ pub pairs_rest : (front rest : List ℕ) → AreInPairs (front ++ rest) → AreI
 pairs_rest [] rest h = h
 pairs_rest (b ∷ bs) rest h = pairs_rest bs rest h.1
 
--- nothing is the shortest
-best_nothing : (x : List ℕ) → Best [] x
-best_nothing [] = inl refl
-best_nothing (b ∷ bs) = inr (omega arith)
-
 -- the bytes, and the rest after their front
 module _ {bytes rest : List ℕ} where
   pub front_nothing : bytes ≡ rest → Front [] bytes rest
   front_nothing e = grind arith
 
   front_any : {a : List ℕ} → Front a bytes rest → Front [] bytes rest
-  front_any p = grind (arith, best_nothing)
+  front_any p = record { front = p.front; whole = p.whole; best = grind (arith, nil_from_length) }
 
   front_byte : {t : ℕ} → bytes ≡ t ∷ rest → Front (t ∷ []) bytes rest
   front_byte {t = t} e = record { front = t ∷ []; whole = e; best = λ _. inl refl }
@@ -133,18 +128,17 @@ module _ {X : Type 0} {x : X} {rest : List ℕ} where
 
   -- the text a spells it
   module _ {a : List ℕ} where
-    pub writes_then : {Y : Type 0} {g : Grammar Y} {f : Y → Grammar X} {b : List ℕ} {y : Y} → Writes g b y (a ++ rest) → Writes (f y) a x rest
-        → Writes (Then g f) (b ++ a) x rest
-    writes_then p q = grind (arith, nat_tests, append_assoc, all_append)
+    module _ {Y : Type 0} {g : Grammar Y} {f : Y → Grammar X} where
+      pub writes_then : {b : List ℕ} {y : Y} → Writes g b y (a ++ rest) → Writes (f y) a x rest → Writes (Then g f) (b ++ a) x rest
+      writes_then p q = grind (arith, nat_tests, append_assoc, all_append)
 
-    -- what comes last has no bytes
-    pub writes_last : {Y : Type 0} {g : Grammar Y} {f : Y → Grammar X} {y : Y} → Writes g a y rest → Spells (f y) rest x rest → Writes (Then g f) a x rest
-    writes_last p q = grind arith
+      -- what comes last has no bytes
+      pub writes_last : {y : Y} → Writes g a y rest → Spells (f y) rest x rest → Writes (Then g f) a x rest
+      writes_last p q = grind arith
 
-    -- what comes first has none either
-    pub writes_first : {Y : Type 0} {g : Grammar Y} {f : Y → Grammar X} (y : Y) → Spells g (a ++ rest) y (a ++ rest) → Writes (f y) a x rest
-        → Writes (Then g f) a x rest
-    writes_first y p q = grind arith
+      -- what comes first has none either
+      pub writes_first : (y : Y) → Spells g (a ++ rest) y (a ++ rest) → Writes (f y) a x rest → Writes (Then g f) a x rest
+      writes_first y p q = grind arith
 
     -- a fault has a place, and what is spelled has none
     pub writes_here : {f : List ℕ → Grammar X} → Writes (f (a ++ rest)) a x rest → Writes (Here f) a x rest
@@ -173,16 +167,12 @@ module _ {X : Type 0} {x : X} {rest : List ℕ} where
     writes_optional b same none given = grind (arith, writes_other, writes_nothing)
 
 -- ---- no white space
-pub begins_bare : (text : List ℕ) → AreTextBytes text → BeginsBare text
-begins_bare text h = grind (arith, nat_tests)
+pub no_space : (text : List ℕ) → AreTextBytes text → HasNoSpace text
+no_space [] h = tt
+no_space (b ∷ bs) h = (grind (arith, nat_tests), no_space bs h.1)
 
-pub ends_bare : (text : List ℕ) → AreTextBytes text → EndsBare text
-ends_bare [] h = tt
-ends_bare (b ∷ bs) h = grind (arith, nat_tests, ends_bare bs)
-
-pub trimmed_text : (text : List ℕ) → AreTextBytes text → IsTrimmed text text
-trimmed_text text h =
-    record { before = []; after = []; whole = sym (append-nil text); space_before = tt; space_after = tt; first = begins_bare text h; last = ends_bare text h }
+pub trimmed_text : (text : List ℕ) → AreTextBytes text → trimmed text ≡ text
+trimmed_text text h = rw append-nil at (trim_whole [] text [] tt (no_space text h) tt)
 
 own : IsNumeralModel AllDigits (value_from 0)
 own = numerals_by_fold AllDigits (search rules) value_from (search rules)
@@ -194,7 +184,7 @@ Begins low high [] = ⊥
 Begins low high (first ∷ others) = (low ≤ first) × (first ≤ high)
 
 digits_begin : (ds rest : List ℕ) → AllDigits ds → 0 < length ds → Begins 48 57 (ds ++ rest)
-digits_begin [] rest each some = absurd (omega arith)
+digits_begin [] rest each some = grind arith
 digits_begin (d ∷ ds) rest each some = grind (arith, nat_tests)
 
 pub number_begins : (n : ℕ) (rest : List ℕ) → n < 2 ^ 64 → Begins 48 57 (decimal n ++ rest)
@@ -205,12 +195,12 @@ pub two_digits : (n : ℕ) (rest : List ℕ) → n < 100 → NoneFirst is_digit 
 two_digits n rest h none = grind (arith, nat_tests)
 
 -- the number n is within its limit, and no digit follows it
-module _ {max n : ℕ} {rest : List ℕ} (l : n ≤ max) (none : NoneFirst is_digit rest) where
+module _ {max n : ℕ} {rest : List ℕ} (l : (n ≤ max) × (n < 2 ^ 64)) (none : NoneFirst is_digit rest) where
   digits_write : (ds : List ℕ) → AllDigits ds → 0 < length ds → value_from 0 ds ≡ n → Writes (Number max) ds n rest
   digits_write ds each some value = grind (arith, all_others is_digit is_text_byte (λ b h. grind (arith, nat_tests)), pairs_over)
 
-  pub number_writes : n < 2 ^ 64 → Writes (Number max) (decimal n) n rest
-  number_writes h = digits_write (decimal n) (digits_decimal own n h) (decimal_nonempty n h) (digits_value-decimal own n h)
+  pub number_writes : Writes (Number max) (decimal n) n rest
+  number_writes = let h = l.1 in digits_write (decimal n) (digits_decimal own n h) (decimal_nonempty n h) (digits_value-decimal own n h)
 
   pub pair_writes : n < 100 → Writes (Number max) ((48 + n / 10) ∷ (48 + n % 10) ∷ []) n rest
   pair_writes h = let d = two_digits n [] h tt in digits_write _ (d.0, (d.1, tt)) (omega arith) (omega arith)
@@ -218,12 +208,10 @@ module _ {max n : ℕ} {rest : List ℕ} (l : n ≤ max) (none : NoneFirst is_di
 -- ---- no fewer digits do
 -- zeros in front may go, and then the digits are those of the number
 decimal_best : (n : ℕ) (ds : List ℕ) → n < 2 ^ 64 → AllDigits ds → 0 < length ds → value_from 0 ds ≡ n → Best (decimal n) ds
-decimal_best n [] h each some value = absurd (omega arith)
-decimal_best n (d ∷ []) h each some value = inl (cc (decimal-digits_value own (d ∷ []) each some (λ _. refl) (omega arith)))
-decimal_best n (d ∷ e ∷ ds) h each some value = elim (cases_eq d 48) [
-  | inl zero ↦ let b = decimal_best n (e ∷ ds) h each.1 (omega arith) (rw zero at value) in inr (grind arith)
-  | inr other ↦ inl (cc (decimal-digits_value own (d ∷ e ∷ ds) each some (λ z. absurd (other z)) (omega arith)))
-]
+decimal_best n [] h each some value = grind arith
+decimal_best n (d ∷ ds) h each some value =
+    let digits = decimal-digits_value own (d ∷ ds) each some in let shorter = decimal_best n ds h each.1 in
+    let zero = cases_eq d 48 in grind (arith, nil_from_length)
 
 pub number_front : {max n : ℕ} {bytes rest : List ℕ} → max < 2 ^ 64 → IsNumber max bytes n rest → Front (decimal n) bytes rest
 number_front h p = grind (arith, decimal_best)
@@ -231,10 +219,10 @@ number_front h p = grind (arith, decimal_best)
 -- two digits and no third are those of the number
 paired : (ds rest : List ℕ) (n : ℕ) → AllDigits ds → 0 < length ds → NoneFirst is_digit rest → value_from 0 ds ≡ n → TwoDigits (ds ++ rest)
     → ds ≡ (48 + n / 10) ∷ (48 + n % 10) ∷ []
-paired [] rest n each some none value pair = absurd (omega arith)
+paired [] rest n each some none value pair = grind arith
 paired (d ∷ []) rest n each some none value pair = grind (arith, nat_tests, both_ways)
 paired (d ∷ e ∷ []) rest n each some none value pair = grind arith
 paired (d ∷ e ∷ f ∷ ds) rest n each some none value pair = grind (arith, both_ways)
 
 pub pair_front : {max n : ℕ} {bytes after rest : List ℕ} → bytes ≡ colon ∷ after → IsNumber max after n rest → Front (spelled_pair n) bytes rest
-pair_front {n = n} {rest = rest} e p = record { front = colon ∷ p.digits; whole = grind arith; best = grind (arith, paired) }
+pair_front {n = n} e p = record { front = colon ∷ p.digits; whole = grind arith; best = grind (arith, paired) }

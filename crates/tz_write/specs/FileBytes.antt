@@ -1,111 +1,15 @@
--- The bytes of a TZif file (RFC 8536 section 3), laid as small as the section lets them be: no indicators, and before the block that
--- says the zone a first one with the least counts.
-use Rattle.std.specs.{Prelude.{ℕ, ℤ, Bool, if◌then◌else◌, List, [], ◌∷◌, ◌++◌, length}, Int.{Width, w32, w64, to_be_bytes, cast_unsigned}, List.{flat_map}}
-use Rattle.tz_base.specs.LocalTypes.{LocalType}
-use Rattle.tz_info.specs.{FileBlocks.{Parts}, FileHeaders.{magic}, Zones.{Zone}, declared.file.header.Counts.{Counts}}
-use Rattle.tz_info.specs.declared.zone.lists.{leap_second.LeapSecond.{LeapSecond}, transition.Transition.{Transition}}
-use Rattle.tz_write.specs.FileDesignations.{name_of, place_of}
-
--- ---- numbers, the highest byte first
--- a number of four bytes
-unfoldable pub number_bytes : ℕ → List ℕ
-number_bytes n = to_be_bytes w32 n
-
--- a number in two's complement
-unfoldable pub signed_bytes : Width → ℤ → List ℕ
-signed_bytes w z = to_be_bytes w (cast_unsigned w z)
-
--- ---- headers
--- the six counts, in the order in which a header gives them
-unfoldable pub counts_bytes : Counts → List ℕ
-counts_bytes c =
-    number_bytes c.ut_local
-    ++ (number_bytes c.standard_wall
-    ++ (number_bytes c.leap_seconds
-    ++ (number_bytes c.transitions
-    ++ (number_bytes c.types ++ number_bytes c.designations))))
-
--- fifteen bytes that say nothing
-abbrev pub unused : List ℕ
-unused = 0 ∷ 0 ∷ 0 ∷ 0 ∷ 0 ∷ 0 ∷ 0 ∷ 0 ∷ 0 ∷ 0 ∷ 0 ∷ 0 ∷ 0 ∷ 0 ∷ 0 ∷ []
+-- Bytes that each written TZif file has (RFC 8536 section 3).
+use Rattle.std.specs.Prelude.{ℕ, Bool, if◌then◌else◌, List, [], ◌∷◌, ◌++◌}
+use Rattle.tz_info.specs.declared.file.header.Counts.{Counts}
 
 -- the byte of version 2, or of version 3, whose footer may have extensions
 abbrev pub version_byte : Bool → ℕ
 version_byte extended = if extended then 51 else 50
 
-unfoldable pub header_bytes : Bool → Counts → List ℕ
-header_bytes extended c = magic ++ (version_byte extended ∷ (unused ++ counts_bytes c))
-
--- no indicators
-abbrev pub counts_of : ℕ → ℕ → ℕ → ℕ → Counts
-counts_of leap_seconds transitions types designations = record {
-  ut_local = 0;
-  standard_wall = 0;
-  leap_seconds = leap_seconds;
-  transitions = transitions;
-  types = types;
-  designations = designations;
-}
-
--- ---- the first block, with the least counts: one type and one byte of designations
+-- the least counts of a block: one type and one byte of designations
 abbrev pub least_counts : Counts
-least_counts = counts_of 0 0 1 1
+least_counts = record { ut_local = 0; standard_wall = 0; leap_seconds = 0; transitions = 0; types = 1; designations = 1 }
 
--- six bytes of the type and one of the designations
-abbrev pub least_block : List ℕ
-least_block = 0 ∷ 0 ∷ 0 ∷ 0 ∷ 0 ∷ 0 ∷ 0 ∷ []
-
--- ---- the second block
-abbrev pub time_bytes : Transition → List ℕ
-time_bytes t = signed_bytes w64 t.unix_leap_time
-
-abbrev pub index_bytes : Transition → List ℕ
-index_bytes t = t.type_index ∷ []
-
-abbrev pub mark_byte : Bool → ℕ
-mark_byte dst = if dst then 1 else 0
-
--- the offset, the mark of daylight saving time, and where in the designations its text begins
-unfoldable pub type_bytes : List ℕ → LocalType → List ℕ
-type_bytes designations t = signed_bytes w32 t.offset ++ (mark_byte t.dst ∷ place_of (name_of t) designations ∷ [])
-
-unfoldable pub leap_bytes : LeapSecond → List ℕ
-leap_bytes leap = signed_bytes w64 leap.unix_leap_time ++ signed_bytes w32 leap.correction
-
-abbrev pub zone_counts : List ℕ → Zone → Counts
-zone_counts designations z = counts_of (length z.leaps) (length z.transitions) (length z.types) (length designations)
-
-abbrev pub zone_parts : List ℕ → Zone → Parts
-zone_parts designations z = record {
-  times = flat_map time_bytes z.transitions;
-  type_indexes = flat_map index_bytes z.transitions;
-  types = flat_map (type_bytes designations) z.types;
-  designations = designations;
-  leap_seconds = flat_map leap_bytes z.leaps;
-  standard_wall = [];
-  ut_local = [];
-}
-
--- parts laid end to end, and the rest
-abbrev pub in_order : List (List ℕ) → List ℕ → List ℕ
-in_order [] rest = rest
-in_order (part ∷ parts) rest = part ++ in_order parts rest
-
-abbrev pub block_bytes : Parts → List ℕ → List ℕ
-block_bytes p rest = in_order (p.times ∷ p.type_indexes ∷ p.types ∷ p.designations ∷ p.leap_seconds ∷ p.standard_wall ∷ p.ut_local ∷ []) rest
-
--- ---- the whole
 -- a text between newlines
 abbrev pub footer_bytes : List ℕ → List ℕ
 footer_bytes text = 10 ∷ (text ++ 10 ∷ [])
-
-unfoldable pub first_half : Bool → List ℕ
-first_half extended = header_bytes extended least_counts ++ least_block
-
-unfoldable pub second_half : Bool → List ℕ → List ℕ → Zone → List ℕ
-second_half extended text designations z =
-    header_bytes extended (zone_counts designations z) ++ block_bytes (zone_parts designations z) (footer_bytes text)
-
--- the file of that zone with those designations, whose footer has that text
-unfoldable pub file_bytes : Bool → List ℕ → List ℕ → Zone → List ℕ
-file_bytes extended text designations z = first_half extended ++ second_half extended text designations z

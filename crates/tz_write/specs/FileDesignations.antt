@@ -1,8 +1,18 @@
 -- The designations of a TZif file (RFC 8536 section 3.2): texts that each end before a 0 byte, and the place at which the text of a type begins.
-use Rattle.std.specs.Prelude.{ℕ, suc, ◌<◌, ◌≤◌, Bool, ◌&&◌, ◌==◌, nat_lt, if◌then◌else◌, List, [], ◌∷◌, length, slice_index, All, Option, Some, None}
-use Rattle.std.specs.{Bool.{nat_eq}, List.{starts_with}}
+use Rattle.std.specs.Prelude.{ℕ, ◌≡◌, ◌≢◌, ◌<◌, ◌≤◌, List, [], ◌∷◌, ◌++◌, length, All, Option, Some, None}
 use Rattle.tz_base.specs.LocalTypes.{LocalType}
-use Rattle.tz_info.specs.FileContents.{StandsAt}
+
+abbrev pub HasNoZero : List ℕ → Type 0
+HasNoZero [] = Unit {0}
+HasNoZero (b ∷ bs) = (b ≢ 0) × HasNoZero bs
+
+-- the text that begins at that place of the designations and ends before the next 0 byte
+pub record StandsAt (designations : List ℕ) (place : ℕ) (text : List ℕ) : Type 0 where
+  pub before : List ℕ
+  pub after : List ℕ
+  pub whole : designations ≡ before ++ (text ++ (0 ∷ after))
+  pub at : length before ≡ place
+  pub ends : HasNoZero text
 
 -- a type without a name has the empty text
 abbrev pub name_or_none : Option (List ℕ) → List ℕ
@@ -30,12 +40,3 @@ AreNamesIn designations types = All (IsNamedIn designations) types
 pub record AreShortest (designations : List ℕ) (types : List LocalType) : Type 0 where
   pub names : AreNamesIn designations types
   pub shortest : (other : List ℕ) → AreNamesIn other types → length designations ≤ length other
-
--- the bytes begin with the text and a 0 byte
-unfoldable pub begins : List ℕ → List ℕ → Bool
-begins text bytes = starts_with nat_eq bytes text && (nat_lt (length text) (length bytes) && (slice_index bytes (length text) == 0))
-
--- the first place of the text, or the end
-abbrev pub place_of : List ℕ → List ℕ → ℕ
-place_of text [] = 0
-place_of text (b ∷ bs) = if begins text (b ∷ bs) then 0 else suc (place_of text bs)

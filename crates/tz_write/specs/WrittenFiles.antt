@@ -1,9 +1,10 @@
 -- Which zones are written as files, and what is written.
 use Rattle.std.specs.{Prelude.{ℕ, ◌≡◌, ◌<◌, ◌^◌, Bool, false, List, [], length, slice_index, All, FitsSigned, Option, Some, None}, Int.{w32, w64}}
-use Rattle.tz_base.specs.{LocalTypes.{LocalType, IsUtOffset}, Names.{IsNameOrNone}}
-use Rattle.tz_info.specs.{TzFiles.{IsTzFile}, Zones.{Zone}, declared.rule.transition_rule.TransitionRule.{TransitionRule}}
+use Rattle.tz_base.specs.{Grammar.{Spells}, LocalTypes.{LocalType, IsUtOffset}, Names.{IsNameOrNone}}
+use Rattle.tz_info.specs.{FileHeaders.{header}, FilePieces.{FilePieces, HasPieces}, TzFiles.{IsTzFile}, Zones.{Zone}}
+use Rattle.tz_info.specs.declared.{file.header.{Place.TheVariants.{First}, Version.{Version}}, rule.transition_rule.TransitionRule.{TransitionRule}}
 use Rattle.tz_info.specs.declared.zone.lists.{leap_second.LeapSecond.{LeapSecond}, transition.Transition.{Transition}}
-use Rattle.tz_write.specs.{FileBytes.{version_byte, file_bytes}, FileDesignations.{AreNamesIn, AreShortest}, FileLayouts.{IsLaid}}
+use Rattle.tz_write.specs.{FileBytes.{version_byte, least_counts, footer_bytes}, FileDesignations.{AreNamesIn, AreShortest}, Steps.LaidFiles.{laid_file}}
 use Rattle.tz_write.specs.WrittenTexts.{CanBeSpelled, AreTimesOf, IsWrittenText}
 
 -- a number of four bytes
@@ -54,18 +55,28 @@ pub record HaveVersion (extended : Bool) (bytes : List ℕ) : Type 0 where
   pub first : slice_index bytes 4 ≡ version_byte extended
   pub second : slice_index bytes 55 ≡ version_byte extended
 
--- the one file that is written of a zone: it spells the zone; both headers have version 3 if the footer has extensions, else 2; and
--- names and bytes are laid so
+-- the first header counts one type and one byte of designations, the least that a block may have
+abbrev pub HasLeastBlock : List ℕ → Type 0
+HasLeastBlock bytes = (version : Version) × (rest : List ℕ) × Spells (header First) bytes (record { version = version; counts = least_counts }) rest
+
+-- the pieces that spell the types have no indicators, the shortest designations, and that text between newlines as the footer
+pub record AreWrittenPieces (types : List LocalType) (text : List ℕ) (p : FilePieces) : Type 0 where
+  pub standard_wall : p.counts.standard_wall ≡ 0
+  pub ut_local : p.counts.ut_local ≡ 0
+  pub names : AreShortest p.parts.designations types
+  pub footer : p.footer ≡ Some (footer_bytes text)
+
+-- the file that is written of a zone: such pieces spell the zone; both headers have version 3 if the footer has extensions, else 2. The
+-- bytes are those of one function of the zone, so equal zones have equal files: which function it is need not be believed
 pub record IsWrittenFile (z : Zone) (bytes : List ℕ) : Type 0 where
   pub spells : IsTzFile bytes z
   pub text : List ℕ
   pub extended : Bool
   pub footer : IsFooterText z.rule text extended
+  pub pieces : (p : FilePieces) → HasPieces bytes p → AreWrittenPieces z.types text p
   pub version : HaveVersion extended bytes
-  pub designations : List ℕ
-  pub names : AreShortest designations z.types
-  pub order : IsLaid z.types designations
-  pub layout : bytes ≡ file_bytes extended text designations z
+  pub first : HasLeastBlock bytes
+  pub same : bytes ≡ laid_file z
 
 -- no text without extensions has room for the times of the zone's rule
 abbrev pub NeedsExtensions : Option TransitionRule → Type 0

@@ -62,6 +62,7 @@ impl ToTzData for TimeZone {
     ///     let again = TimeZone::from_tz_data(alloc, &bytes)?; // equal to zone
     /// }
     /// ```
+    #[tactic(auto, using(crate::proofs::FileWritten::can_be_written, crate::proofs::FileWritten::footer_spelled))]
     fn to_tz_data(&self, alloc: Global) -> Result<Option<Vec<u8>>, Error> {
         let Some(room) = room_for(self) else {
             return Ok(None);
@@ -92,6 +93,7 @@ fn footer_of(alloc: Global, rule: Option<&TransitionRule>) -> Result<Option<TzTe
     }
 }
 
+#[tactic(auto, using(crate::proofs::FileWritten::written_is))]
 fn file_of(
     alloc: Global,
     zone: &TimeZone,

@@ -1,7 +1,7 @@
 -- What the parts of a written file rest on.
-use Rattle.std.specs.Prelude.{◌≡◌, All}
+use Rattle.std.specs.Prelude.{◌≡◌, All, Some}
 use Rattle.tz_info.specs.{Zones.{Zone}, declared.file.header.Counts.{Counts}}
-use Rattle.tz_write.specs.{FileBytes.{counts_of, zone_counts}, FileDesignations.{AreShortest}, FileLayouts.{HavePlaces, IsLaid}}
+use Rattle.tz_write.specs.{FileDesignations.{AreShortest}, Steps.{LaidFiles.{counts_of, zone_counts}, LaidNames.{HavePlaces, laid_names}}}
 use Rattle.tz_write.specs.{WrittenFiles.{HasCounts, HasIndex}, declared.file.{header.Sizes.{Sizes}, writer.Room.{Room}}}
 
 abbrev pub counts_in : Sizes → Counts
@@ -12,6 +12,6 @@ pub record IsRoomOf (z : Zone) (room : Room) : Type 0 where
   pub counts : HasCounts z
   pub indexes : All HasIndex z.transitions
   pub places : HavePlaces room.designations z.types
-  pub laid : IsLaid z.types room.designations
+  pub laid : laid_names z.types ≡ Some room.designations
   pub shortest : AreShortest room.designations z.types
   pub counts_are : counts_in room.sizes ≡ zone_counts room.designations z

@@ -1,5 +1,5 @@
 -- The texts of the pieces of a TZ string.
-use Rattle.std.specs.Prelude.{ℕ, ℤ, pos, int_lt, ◌+ℤ◌, ◌+◌, ◌/◌, ◌%◌, ◌==◌, ◌&&◌, Bool, if◌then◌else◌, List, [], ◌∷◌, ◌++◌, decimal}
+use Rattle.std.specs.Prelude.{ℕ, ℤ, pos, int_lt, ◌+ℤ◌, ◌+◌, ◌/◌, ◌%◌, ◌==◌, ◌&&◌, int_le, Bool, true, if◌then◌else◌, List, [], ◌∷◌, ◌++◌, decimal}
 use Rattle.std.specs.{Int.RustNames.{unsigned_abs}, Ordering.{int_eq}, List.{list_all}}
 use Rattle.tz_base.specs.LocalTypes.{LocalType}
 use Rattle.tz_info.specs.{TzGrammar.{comma, minus, dot, slash, colon, less, greater, letter_J, letter_M, is_letter}, Rules.{Alternate}}
@@ -78,8 +78,18 @@ abbrev pub spelled_days : Alternate → List ℕ
 spelled_days a = comma ∷ spelled_day a.start ++ (comma ∷ spelled_day a.end)
 
 abbrev pub spelled_alternate : Alternate → List ℕ
-spelled_alternate a = spelled_type a.std ++ (spelled_name (name_of a.dst) ++ (spelled_dst_offset a.std.offset a.dst.offset ++ spelled_days a))
+spelled_alternate a =
+    spelled_name (name_of a.std) ++ (spelled_offset a.std.offset
+    ++ (spelled_name (name_of a.dst) ++ (spelled_dst_offset a.std.offset a.dst.offset ++ spelled_days a)))
 
 abbrev pub spelled_rule : TransitionRule → List ℕ
 spelled_rule (rules.Fixed t) = spelled_type t
 spelled_rule (rules.Alternate a) = spelled_alternate a
+
+-- ---- times that need no extensions: from 0 to 24:59:59
+abbrev pub is_plain_time : ℤ → Bool
+is_plain_time time = int_le (pos 0) time && int_lt time (pos 90_000)
+
+abbrev pub has_plain_times : TransitionRule → Bool
+has_plain_times (rules.Fixed t) = true
+has_plain_times (rules.Alternate a) = is_plain_time a.start.time && is_plain_time a.end.time

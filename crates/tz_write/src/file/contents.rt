@@ -1,7 +1,7 @@
 //! Transitions and leap seconds of a data block (RFC 8536 section 3.2).
 
 ghost use Rattle.std.specs.{List.{flat_map}, Prelude.{◌≡◌, ◌↔◌, ◌<◌, ◌++◌, length, slice_index_or, All, IsTrue, OnOk}};
-ghost use Rattle.tz_write.specs.{FileBytes.{index_bytes, leap_bytes, time_bytes}, WrittenFiles.{HasIndex, HasTimeOf64Bits, IsEntry}};
+ghost use Rattle.tz_write.specs.{Steps.LaidFiles.{index_bytes, leap_bytes, time_bytes}, WrittenFiles.{HasIndex, HasTimeOf64Bits, IsEntry}};
 
 use crate::file::numbers::{push_signed_32, push_signed_64};
 use std::alloc::AllocError;
@@ -62,7 +62,7 @@ pub fn push_indexes(bytes: &mut Vec<u8>, zone: &TimeZone) -> Result<(), AllocErr
     Ok(())
 }
 
-#[tactic(auto, unfolding(crate::specs::FileBytes::leap_bytes))]
+#[tactic(auto, unfolding(crate::specs::Steps::LaidFiles::leap_bytes))]
 fn push_leap_second(bytes: &mut Vec<u8>, leap: LeapSecond) -> Result<(), AllocError>
     ensures appended { OnOk result (bytes.new.items ≡ bytes.old.items ++ leap_bytes leap) }
     ensures sound { OnOk result (IsEntry leap) }
@@ -72,7 +72,7 @@ fn push_leap_second(bytes: &mut Vec<u8>, leap: LeapSecond) -> Result<(), AllocEr
 }
 
 /// Appends the leap seconds.
-#[tactic(auto, using(std::proofs::lemmas::List::take_all))]
+#[tactic(auto, using(std::proofs::lemmas::Grind::elements, std::proofs::lemmas::List::flat_map_more, std::proofs::lemmas::List::take_more, std::proofs::lemmas::List::take_all))]
 pub fn push_leap_seconds(bytes: &mut Vec<u8>, leaps: &[LeapSecond]) -> Result<(), AllocError>
     ensures appended { OnOk result
         (bytes.new.items ≡ bytes.old.items ++ flat_map leap_bytes leaps.now) }

@@ -1,12 +1,12 @@
 //! The designations of a data block (RFC 8536 section 3.2), in which types with the same name, or
 //! with names of which one ends the other, share bytes.
 
-ghost use Rattle.std.specs.Prelude.{◌≡◌, ◌↔◌, ◌<◌, ◌≤◌, ◌+◌, ◌++◌, [], length, All, IsTrue, List, MatchOption, ℕ};
+ghost use Rattle.std.specs.Prelude.{◌≡◌, ◌<◌, ◌≤◌, ◌+◌, ◌++◌, [], length, All, List, MatchOption, Some, ℕ};
 ghost use Rattle.{
   tz_base.specs.Names.{IsNameOrNone},
-  tz_write.specs.FileDesignations.{begins, name_of, place_of, AreNamesIn, AreShortest},
-  tz_write.specs.FileLayouts.{before_last, laid, laid_from, text_at, with_text, with_text_of, with_texts},
-  tz_write.specs.FileLayouts.{AreNotPlacedBefore, ArePlaced, HasPlace, HavePlaces, IsFirstPlaced, IsLaid, IsPlacedFrom},
+  tz_write.specs.FileDesignations.{name_of, AreNamesIn, AreShortest},
+  tz_write.specs.Steps.LaidNames.{are_placed, before_last, begins, has_place, have_places, laid, laid_names, place_of, placed_otherwise},
+  tz_write.specs.Steps.LaidNames.{placed_with, text_at, with_text, with_text_of, with_texts, HavePlaces},
 };
 
 use std::marker::Model;
@@ -71,7 +71,7 @@ pub fn name_of(local: &LocalTimeType) -> &[u8]
     }
 }
 
-#[tactic(auto, unfolding(crate::specs::FileDesignations::begins))]
+#[tactic(auto, unfolding(crate::specs::Steps::LaidNames::begins))]
 fn begins(text: &[u8], bytes: &[u8]) -> bool
     ensures { result ≡ begins text.now bytes.now }
 {
@@ -79,6 +79,7 @@ fn begins(text: &[u8], bytes: &[u8]) -> bool
 }
 
 /// Returns the first place of the text, or the end.
+#[tactic(auto, using(crate::proofs::LaidNames::next_place))]
 pub fn place_of(text: &[u8], designations: &[u8]) -> usize
     ensures { result ≡ place_of text.now designations.now }
 {
@@ -104,7 +105,7 @@ fn text_at(designations: &[u8], place: usize) -> &[u8]
     rest
 }
 
-#[tactic(auto, unfolding(crate::specs::FileLayouts::with_text))]
+#[tactic(auto, unfolding(crate::specs::Steps::LaidNames::with_text))]
 fn push_text(designations: &mut Designations, text: &[u8])
     ensures { designations.new ≡ with_text designations.old text.now }
 {
@@ -126,7 +127,7 @@ fn push_text_of(designations: &mut Designations, last: &[u8], local: &LocalTimeT
     }
 }
 
-#[tactic(auto, unfolding(crate::specs::FileLayouts::with_texts))]
+#[tactic(auto, using(std::proofs::lemmas::Grind::elements, std::proofs::lemmas::List::Sums::fold_more), unfolding(crate::specs::Steps::LaidNames::with_texts))]
 fn push_texts(designations: &mut Designations, last: &[u8], types: &[LocalTimeType], size: usize)
     ensures put { designations.new ≡ with_texts last.now size designations.old types.now }
     ensures sound { All (λ t. IsNameOrNone t.name) types.now }
@@ -137,7 +138,7 @@ fn push_texts(designations: &mut Designations, last: &[u8], types: &[LocalTimeTy
 }
 
 // The names of the types, each followed by a 0 byte, the longest first; but that text is the last.
-#[tactic(auto, unfolding(crate::specs::FileLayouts::laid, crate::specs::FileLayouts::before_last))]
+#[tactic(auto, unfolding(crate::specs::Steps::LaidNames::laid, crate::specs::Steps::LaidNames::before_last))]
 fn laid(types: &[LocalTimeType], last: &[u8]) -> Designations
     ensures laid { result ≡ laid last.now types.now }
     ensures sound { All (λ t. IsNameOrNone t.name) types.now }
@@ -153,7 +154,7 @@ fn laid(types: &[LocalTimeType], last: &[u8]) -> Designations
 }
 
 fn has_place(designations: &[u8], local: &LocalTimeType) -> bool
-    ensures { IsTrue result ↔ HasPlace designations.now local.now }
+    ensures { result ≡ has_place designations.now local.now }
 {
     let place = place_of(name_of(local), designations);
     place < designations.len() && place < 256
@@ -161,26 +162,26 @@ fn has_place(designations: &[u8], local: &LocalTimeType) -> bool
 
 /// Returns whether the text of each type is in the designations, at a place that a byte can name.
 pub fn have_places(designations: &[u8], types: &[LocalTimeType]) -> bool
-    ensures places { IsTrue result ↔ HavePlaces designations.now types.now }
+    ensures places { result ≡ have_places designations.now types.now }
 {
     types.iter().all(|local| has_place(designations, local))
 }
 
 // Whether each type has its place, and no more bytes are laid than in order.
+#[tactic(auto, unfolding(crate::specs::Steps::LaidNames::are_placed))]
 fn are_placed(designations: &[u8], types: &[LocalTimeType], most: usize) -> bool
     requires { most ≡ length (laid [] types.now) }
-    ensures { IsTrue result ↔ ArePlaced designations.now types.now }
+    ensures { result ≡ are_placed designations.now types.now }
 {
     designations.len() <= most && have_places(designations, types)
 }
 
 // The names with the one at that place of those in order as the last. Names have three bytes.
+#[tactic(auto, unfolding(crate::specs::Steps::LaidNames::placed_with))]
 fn laid_from(types: &[LocalTimeType], in_order: &[u8], place: usize) -> Option<Designations>
     requires order { in_order.now ≡ laid [] types.now }
     requires place { place ≤ length in_order.now }
-    ensures { MatchOption result
-        (¬ (IsPlacedFrom types.now place))
-        (λ d. IsPlacedFrom types.now place × (d ≡ laid_from types.now place)) }
+    ensures { result ≡ placed_with types.now (text_at in_order.now place) }
 {
     let last = text_at(in_order, place);
     if last.len() < 3 {
@@ -195,12 +196,10 @@ fn laid_from(types: &[LocalTimeType], in_order: &[u8], place: usize) -> Option<D
 
 // With another name as the last: in order the last one, or a text that ends it, begins past byte
 // 255.
-#[tactic(auto, using(crate::proofs::FileLayouts::one_place_more))]
+#[tactic(auto, using(crate::proofs::LaidNames::next_text))]
 fn laid_otherwise(types: &[LocalTimeType], in_order: &[u8]) -> Option<Designations>
     requires { in_order.now ≡ laid [] types.now }
-    ensures { MatchOption result
-        (AreNotPlacedBefore types.now (length in_order.now))
-        (λ d. IsFirstPlaced types.now d) }
+    ensures { result ≡ placed_otherwise types.now in_order.now }
 {
     for place in 0..in_order.len() {
         if let Some(designations) = laid_from(types, in_order, place) {
@@ -211,12 +210,10 @@ fn laid_otherwise(types: &[LocalTimeType], in_order: &[u8]) -> Option<Designatio
 }
 
 /// The designations of the types, if any has them at places that a byte can name.
-#[tactic(auto, using(crate::proofs::FileLayouts::laid_if_any))]
+#[tactic(auto, unfolding(crate::specs::Steps::LaidNames::laid_names))]
 pub fn designations_of(types: &[LocalTimeType]) -> Option<Designations>
-    requires { 0 < length types.now }
-    ensures { MatchOption result
-        ((d : List ℕ) → ¬ (AreNamesIn d types.now))
-        (λ d. HavePlaces d types.now × IsLaid types.now d × AreShortest d types.now) }
+    ensures laid { result ≡ laid_names types.now }
+    ensures sound { All (λ t. IsNameOrNone t.name) types.now }
 {
     let in_order = laid(types, &[]);
     if have_places(in_order.as_slice(), types) {

@@ -1,7 +1,7 @@
 //! The headers of a file (RFC 8536 section 3.1).
 
 ghost use Rattle.std.specs.Prelude.{◌≡◌, ◌++◌, OnOk};
-ghost use Rattle.tz_write.specs.{FileBytes.{counts_bytes, version_byte, header_bytes, first_half}, Steps.FileParts.{counts_in}};
+ghost use Rattle.tz_write.specs.{FileBytes.{version_byte}, Steps.{FileParts.{counts_in}, LaidFiles.{counts_bytes, header_bytes, first_half}}};
 
 use crate::file::numbers::push_count;
 use std::alloc::AllocError;
@@ -15,7 +15,7 @@ pub struct Sizes {
     pub designations: u32,
 }
 
-#[tactic(auto, unfolding(crate::specs::FileBytes::header_bytes))]
+#[tactic(auto, unfolding(crate::specs::Steps::LaidFiles::header_bytes))]
 pub fn push_header(bytes: &mut Vec<u8>, extended: bool, sizes: Sizes) -> Result<(), AllocError>
     ensures { OnOk result
         (bytes.new.items ≡ bytes.old.items ++ header_bytes extended (counts_in sizes)) }
@@ -33,7 +33,7 @@ fn version_byte(extended: bool) -> u8
     if extended { b'3' } else { b'2' }
 }
 
-#[tactic(auto, unfolding(crate::specs::FileBytes::counts_bytes))]
+#[tactic(auto, unfolding(crate::specs::Steps::LaidFiles::counts_bytes))]
 fn push_counts(bytes: &mut Vec<u8>, sizes: Sizes) -> Result<(), AllocError>
     ensures { OnOk result (bytes.new.items ≡ bytes.old.items ++ counts_bytes (counts_in sizes)) }
 {
@@ -47,7 +47,7 @@ fn push_counts(bytes: &mut Vec<u8>, sizes: Sizes) -> Result<(), AllocError>
 
 /// The first header and its block, which say nothing of the zone: readers of version 2 and 3 pass
 /// them over. One type and one byte of designations are the least that a block may have.
-#[tactic(auto, unfolding(crate::specs::FileBytes::first_half))]
+#[tactic(auto, unfolding(crate::specs::Steps::LaidFiles::first_half))]
 pub fn push_first_half(bytes: &mut Vec<u8>, extended: bool) -> Result<(), AllocError>
     ensures { OnOk result (bytes.new.items ≡ bytes.old.items ++ first_half extended) }
 {

@@ -1,7 +1,7 @@
 //! The local time types of a data block (RFC 8536 section 3.2).
 
 ghost use Rattle.std.specs.{List.{flat_map}, Prelude.{◌≡◌, ◌++◌, All, OnOk}};
-ghost use Rattle.tz_write.specs.{FileBytes.{mark_byte, type_bytes}, FileLayouts.{HasPlace, HavePlaces}, WrittenFiles.{IsType}};
+ghost use Rattle.tz_write.specs.{Steps.{LaidFiles.{mark_byte, type_bytes}, LaidNames.{HasPlace, HavePlaces}}, WrittenFiles.{IsType}};
 
 use crate::file::designations::{name_of, place_of};
 use crate::file::numbers::push_signed_32;
@@ -14,7 +14,7 @@ fn mark_byte(is_dst: bool) -> u8
     if is_dst { 1 } else { 0 }
 }
 
-#[tactic(auto, unfolding(crate::specs::FileBytes::type_bytes))]
+#[tactic(auto, unfolding(crate::specs::Steps::LaidFiles::type_bytes))]
 fn push_type_record(
     bytes: &mut Vec<u8>,
     designations: &[u8],
@@ -31,7 +31,7 @@ fn push_type_record(
 }
 
 /// Appends the types.
-#[tactic(auto, using(std::proofs::lemmas::List::take_all))]
+#[tactic(auto, using(std::proofs::lemmas::Grind::elements, std::proofs::lemmas::List::flat_map_more, std::proofs::lemmas::List::take_more, std::proofs::lemmas::List::take_all))]
 pub fn push_types(
     bytes: &mut Vec<u8>,
     designations: &[u8],

@@ -3,8 +3,8 @@
 ghost use Rattle.std.specs.Prelude.{◌≡◌, ◌≤◌, ◌++◌, [], length, All, IfOk, MatchOption, OnOk};
 ghost use Rattle.{
   tz_info.specs.Zones.{IsRuleOrNone, IsValid},
-  tz_write.specs.FileBytes.{block_bytes, file_bytes, footer_bytes, second_half, zone_counts, zone_parts},
-  tz_write.specs.{FileLayouts.{HavePlaces}, Steps.FileParts.{counts_in, IsRoomOf}},
+  tz_write.specs.{FileBytes.{footer_bytes}, Steps.LaidFiles.{block_bytes, file_bytes, second_half, zone_counts, zone_parts}},
+  tz_write.specs.Steps.{FileParts.{counts_in, IsRoomOf}, LaidNames.{HavePlaces}},
   tz_write.specs.WrittenFiles.{FitsBlock, HasCounts, HasIndex, IsCount, IsSound},
 };
 
@@ -48,7 +48,7 @@ fn sizes_of(zone: &TimeZone, designations: &[u8]) -> Option<Sizes>
 }
 
 /// The contents of the second block, if it has room for the zone.
-#[tactic(auto, using(crate::proofs::FileLayouts::laid_size))]
+#[tactic(auto, using(crate::proofs::LaidNames::laid_size, crate::proofs::LaidNames::none_laid, crate::proofs::LaidNames::laid_is))]
 pub fn room_for(zone: &TimeZone) -> Option<Room>
     ensures { MatchOption result
         (¬ (FitsBlock zone.now))
@@ -91,7 +91,7 @@ fn push_footer(bytes: &mut Vec<u8>, text: &[u8]) -> Result<(), AllocError>
     bytes.extend_from_slice(b"\n")
 }
 
-#[tactic(auto, unfolding(crate::specs::FileBytes::second_half))]
+#[tactic(auto, unfolding(crate::specs::Steps::LaidFiles::second_half))]
 fn push_second_half(
     bytes: &mut Vec<u8>,
     zone: &TimeZone,
@@ -110,7 +110,7 @@ fn push_second_half(
 }
 
 /// The bytes of the zone's file with that text in its footer.
-#[tactic(auto, unfolding(crate::specs::FileBytes::file_bytes))]
+#[tactic(auto, unfolding(crate::specs::Steps::LaidFiles::file_bytes))]
 pub fn write_file(
     alloc: Global,
     zone: &TimeZone,

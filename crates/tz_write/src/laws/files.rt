@@ -1,70 +1,15 @@
 //! Theorems of the files that are written.
 
-ghost use Rattle.std.specs.Prelude.{◌≡◌, ◌∷◌, [], codes, false, neg_ℤ, pos, slice_index, true, IfOk, IfSome, List, MatchOption, MatchResult, ℕ};
+ghost use Rattle.std.specs.Prelude.{◌≡◌, slice_index, IfOk, IfSome, List, MatchOption, MatchResult, ℕ};
 ghost use Rattle.{
   tz_base.specs.Errors.{IsOutOfMemory},
   tz_info.specs.{TzFiles.{IsTzFile}, Zones.{IsRuleOrNone, IsValid, Zone}},
-  tz_write.specs.FileBytes.{counts_of, header_bytes},
   tz_write.specs.WrittenFiles.{NeedsExtensions, AreBytes, IsInNoFile, IsSound, IsWritable, IsWrittenFile},
-  tz_write.specs.FileLayouts.{laid},
 };
 
 use crate::ToTzData;
 use std::alloc::Global;
 use tz_info::{Error, TimeZone};
-
-/// The header of Honolulu's file (RFC 8536 appendix B.2), of version 2, and the first one of
-/// Jerusalem's (appendix B.4), of version 3.
-#[tactic(auto, unfolding(crate::specs::FileBytes::header_bytes, crate::specs::FileBytes::counts_bytes, crate::specs::FileBytes::number_bytes,))]
-pub fn headers()
-    ensures honolulu { header_bytes false (record {
-      ut_local = 6;
-      standard_wall = 6;
-      leap_seconds = 0;
-      transitions = 7;
-      types = 6;
-      designations = 20;
-    }) ≡
-        84 ∷ 90 ∷ 105 ∷ 102 ∷
-        50 ∷ 0 ∷ 0 ∷ 0 ∷ 0 ∷ 0 ∷ 0 ∷ 0 ∷ 0 ∷ 0 ∷ 0 ∷ 0 ∷ 0 ∷ 0 ∷ 0 ∷ 0 ∷
-        0 ∷ 0 ∷ 0 ∷ 6 ∷
-        0 ∷ 0 ∷ 0 ∷ 6 ∷
-        0 ∷ 0 ∷ 0 ∷ 0 ∷
-        0 ∷ 0 ∷ 0 ∷ 7 ∷
-        0 ∷ 0 ∷ 0 ∷ 6 ∷
-        0 ∷ 0 ∷ 0 ∷ 20 ∷
-        [] }
-    ensures jerusalem { header_bytes true (counts_of 0 0 1 4) ≡
-        84 ∷ 90 ∷ 105 ∷ 102 ∷
-        51 ∷ 0 ∷ 0 ∷ 0 ∷ 0 ∷ 0 ∷ 0 ∷ 0 ∷ 0 ∷ 0 ∷ 0 ∷ 0 ∷ 0 ∷ 0 ∷ 0 ∷ 0 ∷
-        0 ∷ 0 ∷ 0 ∷ 0 ∷
-        0 ∷ 0 ∷ 0 ∷ 0 ∷
-        0 ∷ 0 ∷ 0 ∷ 0 ∷
-        0 ∷ 0 ∷ 0 ∷ 0 ∷
-        0 ∷ 0 ∷ 0 ∷ 1 ∷
-        0 ∷ 0 ∷ 0 ∷ 4 ∷
-        [] }
-{}
-
-/// The names of Honolulu's file (RFC 8536 appendix B.2) are in the order of its types, of which two
-/// have the name `HST`.
-#[tactic(auto, unfolding(crate::specs::FileLayouts::laid, crate::specs::FileLayouts::before_last, crate::specs::FileLayouts::with_texts, crate::specs::FileLayouts::with_text, crate::specs::FileDesignations::begins,))]
-pub fn names()
-    ensures { laid [] (
-        record { offset = neg_ℤ (pos 37_886); dst = false; name = Some (codes "LMT") } ∷
-        record { offset = neg_ℤ (pos 37_800); dst = false; name = Some (codes "HST") } ∷
-        record { offset = neg_ℤ (pos 34_200); dst = true; name = Some (codes "HDT") } ∷
-        record { offset = neg_ℤ (pos 34_200); dst = true; name = Some (codes "HWT") } ∷
-        record { offset = neg_ℤ (pos 34_200); dst = true; name = Some (codes "HPT") } ∷
-        record { offset = neg_ℤ (pos 36_000); dst = false; name = Some (codes "HST") } ∷
-        []) ≡
-        76 ∷ 77 ∷ 84 ∷ 0 ∷
-        72 ∷ 83 ∷ 84 ∷ 0 ∷
-        72 ∷ 68 ∷ 84 ∷ 0 ∷
-        72 ∷ 87 ∷ 84 ∷ 0 ∷
-        72 ∷ 80 ∷ 84 ∷ 0 ∷
-        [] }
-{}
 
 /// Both headers of a written file have version `3` (51) if and only if the zone's rule needs the
 /// extensions of RFC 8536 section 3.3.1; else both have `2` (50).

@@ -5,5 +5,5 @@ pub returns : goal.returns
 returns c =
     let is = rw c.as_bytes.ensures.value at c.in_ok-bytes.ensures.bytes in
     let room = c.requires.room in
-    written_is _ c.in_ok-bytes.ensures.valid.some c.in_ok-bytes.ensures.rule c.in_ok-bytes.ensures.sound _ _ _ _
-    room.counts (room.places, room.laid, room.shortest) c.requires.footer is
+    rw is (written_is _ c.in_ok-bytes.ensures.valid.some c.in_ok-bytes.ensures.rule c.in_ok-bytes.ensures.sound _ _ _
+    room.counts (room.places, room.laid, room.shortest) c.requires.footer)

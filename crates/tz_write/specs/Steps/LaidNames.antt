@@ -1,10 +1,19 @@
 -- The order of the names in the designations that are written (RFC 8536 section 3.2 leaves it open): the longest first, those of one
 -- length in the order of their types, and none that is there already, even as the end of a longer one. If a name would begin past byte
 -- 255 then, another one is put last.
-use Rattle.std.specs.{Prelude.{ℕ, ◌≡◌, ◌<◌, ◌≤◌, ◌+◌, Bool, ◌&&◌, ◌==◌, nat_lt, not, if◌then◌else◌, List, [], ◌∷◌, ◌++◌, length, drop, All}, Bool.{nat_eq}}
-use Rattle.std.specs.List.{fold, ends_with}
+use Rattle.std.specs.Prelude.{ℕ, suc, ◌<◌, ◌+◌, Bool, ◌&&◌, ◌==◌, nat_lt, nat_le, not, if◌then◌else◌, List, [], ◌∷◌, ◌++◌, length, slice_index, drop, All}
+use Rattle.std.specs.{Prelude.{Option, Some, None}, Bool.{nat_eq}, List.{fold, starts_with, ends_with, list_all}}
 use Rattle.tz_base.specs.LocalTypes.{LocalType}
-use Rattle.tz_write.specs.FileDesignations.{name_of, place_of, place_limit}
+use Rattle.tz_write.specs.FileDesignations.{name_of, place_limit}
+
+-- the bytes begin with the text and a 0 byte
+unfoldable pub begins : List ℕ → List ℕ → Bool
+begins text bytes = starts_with nat_eq bytes text && (nat_lt (length text) (length bytes) && (slice_index bytes (length text) == 0))
+
+-- the first place of the text, or the end
+abbrev pub place_of : List ℕ → List ℕ → ℕ
+place_of text [] = 0
+place_of text (b ∷ bs) = if begins text (b ∷ bs) then 0 else suc (place_of text bs)
 
 -- the type's text is in the designations, and its first place is one that a byte can name
 pub record HasPlace (designations : List ℕ) (t : LocalType) : Type 0 where
@@ -13,6 +22,14 @@ pub record HasPlace (designations : List ℕ) (t : LocalType) : Type 0 where
 
 abbrev pub HavePlaces : List ℕ → List LocalType → Type 0
 HavePlaces designations types = All (HasPlace designations) types
+
+-- the tests of them
+abbrev pub has_place : List ℕ → LocalType → Bool
+has_place designations t =
+    nat_lt (place_of (name_of t) designations) (length designations) && nat_lt (place_of (name_of t) designations) place_limit
+
+abbrev pub have_places : List ℕ → List LocalType → Bool
+have_places designations types = list_all (has_place designations) types
 
 -- a text of seven bytes at place 255, and its 0 byte
 abbrev pub room : ℕ
@@ -55,32 +72,24 @@ before_zero (b ∷ bs) = if b == 0 then [] else b ∷ before_zero bs
 abbrev pub text_at : List ℕ → ℕ → List ℕ
 text_at designations place = before_zero (drop place designations)
 
--- the designations with the text at that place of those in order as the last
-abbrev pub laid_from : List LocalType → ℕ → List ℕ
-laid_from types place = laid (text_at (laid [] types) place) types
-
 -- each type has a place in the designations, and they are no longer than those in order
-pub record ArePlaced (designations : List ℕ) (types : List LocalType) : Type 0 where
-  pub places : HavePlaces designations types
-  pub short : length designations ≤ length (laid [] types)
+unfoldable pub are_placed : List ℕ → List LocalType → Bool
+are_placed designations types = nat_le (length designations) (length (laid [] types)) && have_places designations types
 
--- a name can be laid as the last: the text at that place of the designations in order
-pub record IsPlacedFrom (types : List LocalType) (place : ℕ) : Type 0 where
-  pub name : 3 ≤ length (text_at (laid [] types) place)
-  pub placed : ArePlaced (laid_from types place) types
+-- the designations with that text as the last, if it is a name and they are placed then
+unfoldable pub placed_with : List LocalType → List ℕ → Option (List ℕ)
+placed_with types last = if nat_lt (length last) 3 then None else (if are_placed (laid last types) types then Some (laid last types) else None)
 
--- no text at a place in front of that one can
-abbrev pub AreNotPlacedBefore : List LocalType → ℕ → Type 0
-AreNotPlacedBefore types place = (k : ℕ) → k < place → ¬ (IsPlacedFrom types k)
+-- the first of two, if there is one
+abbrev pub or_else : Option (List ℕ) → Option (List ℕ) → Option (List ℕ)
+or_else None other = other
+or_else (Some designations) other = Some designations
 
--- the text at the first place that can
-pub record IsFirstPlaced (types : List LocalType) (designations : List ℕ) : Type 0 where
-  pub place : ℕ
-  pub placed : IsPlacedFrom types place
-  pub laid_is : designations ≡ laid_from types place
-  pub first : AreNotPlacedBefore types place
+-- the designations with the first of these texts as the last that they can have: the texts that begin at each byte
+abbrev pub placed_otherwise : List LocalType → List ℕ → Option (List ℕ)
+placed_otherwise types [] = None
+placed_otherwise types (b ∷ bs) = or_else (placed_with types (before_zero (b ∷ bs))) (placed_otherwise types bs)
 
--- the designations that are laid: those in order, if a byte can name each place; else the first of the others
-pub data IsLaid (types : List LocalType) (designations : List ℕ) : Type 0 where
-  In_order : HavePlaces designations types → designations ≡ laid [] types → IsLaid types designations
-  Otherwise : ¬ (HavePlaces (laid [] types) types) → IsFirstPlaced types designations → IsLaid types designations
+-- the designations of the types, if any have each name at a place that a byte can name: those in order, or else the first of the others
+unfoldable pub laid_names : List LocalType → Option (List ℕ)
+laid_names types = if have_places (laid [] types) types then Some (laid [] types) else placed_otherwise types (laid [] types)

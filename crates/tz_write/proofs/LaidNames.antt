@@ -1,21 +1,25 @@
 -- If any designations have the names of the types at places that a byte can name, those that are laid have them: each text that is put in
 -- has bytes of its own in any others that have the texts.
 use Rattle.std.proofs.{
-  Common.length-take,
+  Common.{Decides, length-take},
   Math.Seq.drop-append_seam,
-  lemmas.{Bool.{Decides.Decides-by_and, eq-eqb}, List.{Elements.All-weaker, get_or_at, take-append-drop}, Slice.Eq.{ends_is, starts_is}},
+  lemmas.{Bool.{Decides.Decides-by_and, eq-eqb}, List.{append_cancel_left, drop_more, get_or_at, take-append-drop}, Slice.Eq.{ends_is, starts_is}},
 }
 use Rattle.tz_base.proofs.RunLaws.{all_of}
-use Rattle.tz_info.proofs.Words.{Decides-eqb, StandsAt, cases_lt, nat_eq, nat_lt, nil_from_length, starts_with}
+use Rattle.tz_info.proofs.Words.{Decides-eqb, cases_lt, nat_eq, nil_from_length, zero}
 use Rattle.tz_write.{
-  proofs.Words.{[], All, All-cons, All-nil, AreNamesIn, AreNotPlacedBefore, AreShortest, Bool, Decides, HasNoZero, HasPlace, HavePlaces},
-  proofs.Words.{IsNameOrNone, List, LocalType, MatchOption, Option, ap, append-nil, append_assoc, arith, before_zero, begins, drop, drop_more},
-  proofs.Words.{get_or, inl, inr, length, length-append, list_all, name_of, name_or_none, nat_tests, place_of, refl, suc, sym, take, true},
-  proofs.Words.{with_text_of, zero, ℕ, ◌&&◌, ◌*◌, ◌++◌, ◌+◌, ◌<◌, ◌∷◌, ◌≡◌, ◌≤◌, ◌⊎◌},
+  proofs.Words.{[], All, HasNoZero, HasPlace, HavePlaces, IsNameOrNone, List, LocalType, None, Option, Some, ap, append-nil},
+  proofs.Words.{append_assoc, arith, before_zero, cond, drop, get_or, inl, inr, length, length-append, list_all, name_of, name_or_none, nat_tests, place_of},
+  proofs.Words.{placed_otherwise, refl, suc, sym, take, true, with_text_of, ℕ, ◌*◌, ◌++◌, ◌+◌, ◌<◌, ◌∷◌, ◌≡◌, ◌≤◌, ◌⊎◌},
   proofs.TextBytes.{names_are, no_zeros},
-  specs.FileLayouts.{ArePlaced, In_order, IsFirstPlaced, IsLaid, IsPlacedFrom, before_last, ends, laid, laid_from, text_at, with_text, with_texts},
+  specs.FileDesignations.{AreNamesIn, AreShortest, StandsAt},
+  specs.Steps.LaidNames.{are_placed, before_last, begins, ends, has_place, have_places, laid, laid_names, or_else, placed_with, text_at, with_text, with_texts},
 }
-use borrow.Author.Count.{below_more}
+
+-- the text at the place of a text
+front_is : (text rest : List ℕ) → HasNoZero text → before_zero (text ++ (0 ∷ rest)) ≡ text
+front_is [] rest none = refl
+front_is (b ∷ bs) rest none = grind (arith, nat_tests, front_is bs rest none.1)
 
 -- ---- where a text is
 begins_is : (text bytes : List ℕ) → begins text bytes ≡ true → bytes ≡ text ++ (0 ∷ drop (length text + 1) bytes)
@@ -23,91 +27,14 @@ unfolding begins
 begins_is text bytes h = grind (arith, nat_tests, starts_is, drop_more)
 
 begins_there : (text bytes : List ℕ) → place_of text bytes < length bytes → begins text (drop (place_of text bytes) bytes) ≡ true
-begins_there text [] h = absurd (omega arith)
+begins_there text [] h = grind arith
 begins_there text (b ∷ bs) h = grind (arith, nat_tests, begins_there text bs)
-
-pub has_text : (text designations : List ℕ) → HasNoZero text → place_of text designations < length designations
-    → StandsAt designations (place_of text designations) text
-has_text text designations none h = let at = place_of text designations in record {
-  before = take at designations;
-  after = drop (length text + 1) (drop at designations);
-  whole = cc (take-append-drop at designations, begins_is text (drop at designations) (begins_there text designations h));
-  at = omega (arith, length-take {A = ℕ});
-  ends = none;
-}
-
-pub no_zero : (name : Option (List ℕ)) → IsNameOrNone name → HasNoZero (name_or_none name)
-no_zero name h = grind (arith, no_zeros, names_are, all_of)
 
 -- a text and its 0 byte are in the bytes
 pub record Stands (bytes text : List ℕ) : Type 0 where
   pub before : List ℕ
   pub after : List ℕ
   pub whole : bytes ≡ before ++ (text ++ (0 ∷ after))
-
--- the text is the end of that one
-pub record Ends (whole text : List ℕ) : Type 0 where
-  pub front : List ℕ
-  pub is : whole ≡ front ++ text
-
--- how y, between c and d, lies to x, between b and a
-data Meeting (b x a c y d : List ℕ) : Type 0 where
-  In_front : (e : List ℕ) → b ≡ c ++ (y ++ (0 ∷ e)) → Meeting b x a c y d
-  Behind : (e : List ℕ) → a ≡ e ++ (y ++ (0 ∷ d)) → Meeting b x a c y d
-  Is_end : (m : List ℕ) → x ≡ m ++ y → a ≡ d → Meeting b x a c y d
-  Has_end : (m : List ℕ) → y ≡ m ++ x → a ≡ d → Meeting b x a c y d
-
--- in front of the first 0 byte is one text
-same_text : (x a y d : List ℕ) → HasNoZero x → HasNoZero y → x ++ (0 ∷ a) ≡ y ++ (0 ∷ d) → (x ≡ y) × (a ≡ d)
-same_text [] a [] d n k e = (refl, cc)
-same_text [] a (y ∷ ys) d n k e = grind arith
-same_text (x ∷ xs) a [] d n k e = grind arith
-same_text (x ∷ xs) a (y ∷ ys) d n k e = grind (arith, same_text xs a ys d)
-
--- x is at the front
-data Front (x a c y d : List ℕ) : Type 0 where
-  Past : (e : List ℕ) → c ≡ x ++ (0 ∷ e) → a ≡ e ++ (y ++ (0 ∷ d)) → Front x a c y d
-  Inside : (m : List ℕ) → x ≡ m ++ y → a ≡ d → Front x a c y d
-
-from_front : (x a c y d : List ℕ) → HasNoZero x → HasNoZero y → x ++ (0 ∷ a) ≡ c ++ (y ++ (0 ∷ d)) → Front x a c y d
-from_front x a [] y d n k e = let r = same_text x a y d n k e in Inside [] r.0 r.1
-from_front [] a (c ∷ cs) y d n k e = Past cs (cc) (cc)
-from_front (x ∷ xs) a (c ∷ cs) y d n k e = elim (from_front xs a cs y d n.1 k (cc)) [ Past f h l ↦ Past f (cc) l | Inside m h l ↦ Inside (x ∷ m) (cc) l ]
-
-meet : (b x a c y d : List ℕ) → HasNoZero x → HasNoZero y → b ++ (x ++ (0 ∷ a)) ≡ c ++ (y ++ (0 ∷ d)) → Meeting b x a c y d
-meet [] x a c y d n k e = elim (from_front x a c y d n k e) [ Past f h l ↦ Behind f l | Inside f h l ↦ Is_end f h l ]
-meet (p ∷ b) x a [] y d n k e = elim (from_front y d (p ∷ b) x a k n (sym e)) [ Past f h l ↦ In_front f h | Inside f h l ↦ Has_end f h (sym l) ]
-meet (p ∷ b) x a (q ∷ c) y d n k e = elim (meet b x a c y d n k (cc)) [
-  | In_front f h ↦ In_front f (cc)
-  | Behind f h ↦ Behind f h
-  | Is_end f h l ↦ Is_end f h l
-  | Has_end f h l ↦ Has_end f h l
-]
-
--- ---- the end of the last text
-ends_decided : (last text : List ℕ) → Decides (ends last text) (Ends last text)
-ends_decided last text = let e = ends_is {E = nat_eq} Decides-eqb last text (ends last text) refl in
-    grind arith
-
--- ---- the place of a text
-begins_again : (text rest : List ℕ) → begins text (text ++ (0 ∷ rest)) ≡ true
-unfolding begins
-begins_again text rest =
-    let starts = (starts_is {E = nat_eq} Decides-eqb (text ++ (0 ∷ rest)) text (starts_with nat_eq (text ++ (0 ∷ rest)) text) refl).1 (0 ∷ rest) refl in
-    grind (arith, nat_tests, length-append, get_or_at)
-
-place_behind : (text front rest : List ℕ) → place_of text (front ++ (text ++ (0 ∷ rest))) ≤ length front
-place_behind [] [] rest = grind (arith, nat_tests, begins_again [] rest)
-place_behind (c ∷ cs) [] rest = grind (arith, nat_tests, begins_again (c ∷ cs) rest)
-place_behind text (b ∷ bs) rest = grind (arith, nat_tests, place_behind text bs rest)
-
--- bytes put after it don't move it
-still_begins : (text bytes more : List ℕ) → begins text bytes ≡ true → begins text (bytes ++ more) ≡ true
-still_begins text bytes more h = let whole = begins_is text bytes h in grind (arith, append_assoc, begins_again)
-
-place_kept : (text bytes more : List ℕ) → place_of text bytes < length bytes → place_of text (bytes ++ more) ≤ place_of text bytes
-place_kept text [] more h = absurd (omega arith)
-place_kept text (b ∷ bs) more h = grind (arith, nat_tests, still_begins text (b ∷ bs) more, place_kept text bs more)
 
 -- the text is in the designations, or it isn't
 abbrev In : List ℕ → List ℕ → Type 0
@@ -116,12 +43,68 @@ In bytes text = place_of text bytes < length bytes
 abbrev Out : List ℕ → List ℕ → Type 0
 Out bytes text = length bytes ≤ place_of text bytes
 
+-- the text at its first place
+abbrev in_stands : (bytes text : List ℕ) → In bytes text → Stands bytes text
+in_stands bytes text l = let at = place_of text bytes in record {
+  before = take at bytes;
+  after = drop (length text + 1) (drop at bytes);
+  whole = cc (take-append-drop at bytes, begins_is text (drop at bytes) (begins_there text bytes l));
+}
+
+pub has_text : (text designations : List ℕ) → HasNoZero text → place_of text designations < length designations
+    → StandsAt designations (place_of text designations) text
+has_text text designations none l = let s = in_stands designations text l in grind (arith, length-take)
+
+pub no_zero : (name : Option (List ℕ)) → IsNameOrNone name → HasNoZero (name_or_none name)
+no_zero name h = grind (arith, no_zeros, names_are, all_of)
+
+-- the text is the end of that one
+pub record Ends (whole text : List ℕ) : Type 0 where
+  pub front : List ℕ
+  pub is : whole ≡ front ++ text
+
+-- how y, between c and d, lies to x, between b and a
+abbrev Meeting : (b x a c y d : List ℕ) → Type 0
+Meeting b x a c y d =
+    ((e : List ℕ) × (b ≡ c ++ (y ++ (0 ∷ e)))) ⊎ ((e : List ℕ) × (a ≡ e ++ (y ++ (0 ∷ d))))
+    ⊎ ((m : List ℕ) × (x ≡ m ++ y) × (a ≡ d)) ⊎ ((m : List ℕ) × (y ≡ m ++ x) × (a ≡ d))
+
+-- x is at the front
+from_front : (x a c y d : List ℕ) → HasNoZero x → HasNoZero y → x ++ (0 ∷ a) ≡ c ++ (y ++ (0 ∷ d))
+    → ((e : List ℕ) × (c ≡ x ++ (0 ∷ e)) × (a ≡ e ++ (y ++ (0 ∷ d)))) ⊎ ((m : List ℕ) × (x ≡ m ++ y) × (a ≡ d))
+from_front x a [] y d n k e = let p = front_is x a n in let q = front_is y d k in inr ([], grind arith, grind (arith, append_cancel_left))
+from_front [] a (c ∷ cs) y d n k e = inl (cs, cc, cc)
+from_front (x ∷ xs) a (c ∷ cs) y d n k e = elim (from_front xs a cs y d n.1 k (cc)) [ inl (f, h, l) ↦ inl (f, cc, l) | inr (m, h, l) ↦ inr (x ∷ m, cc, l) ]
+
+meet : (b x a c y d : List ℕ) → HasNoZero x → HasNoZero y → b ++ (x ++ (0 ∷ a)) ≡ c ++ (y ++ (0 ∷ d)) → Meeting b x a c y d
+meet [] x a c y d n k e = grind (arith, from_front x a c y d n k e)
+meet (p ∷ b) x a [] y d n k e = grind (arith, from_front y d (p ∷ b) x a k n (sym e))
+meet (p ∷ b) x a (q ∷ c) y d n k e = grind (arith, meet b x a c y d n k (cc))
+
+-- ---- the end of the last text
+ends_decided : (last text : List ℕ) → Decides (ends last text) (Ends last text)
+ends_decided last text = let e = ends_is {E = nat_eq} Decides-eqb last text _ refl in grind arith
+
+-- ---- the place of a text
+begins_again : (text rest : List ℕ) → begins text (text ++ (0 ∷ rest)) ≡ true
+unfolding begins
+begins_again text rest =
+    let starts = (starts_is {E = nat_eq} Decides-eqb (text ++ (0 ∷ rest)) text _ refl).1 (0 ∷ rest) refl in
+    grind (arith, nat_tests, length-append, get_or_at)
+
+place_behind : (text front rest : List ℕ) → place_of text (front ++ (text ++ (0 ∷ rest))) ≤ length front
+place_behind [] [] rest = grind (arith, nat_tests, begins_again [] rest)
+place_behind (c ∷ cs) [] rest = grind (arith, nat_tests, begins_again (c ∷ cs) rest)
+place_behind text (b ∷ bs) rest = grind (arith, nat_tests, place_behind text bs rest)
+
+-- bytes put after it don't move it
+place_kept : (text bytes more : List ℕ) → In bytes text → place_of text (bytes ++ more) ≤ place_of text bytes
+place_kept text bytes more l = let s = in_stands bytes text l in let behind = place_behind text s.before (s.after ++ more) in
+    grind (arith, append_assoc, length-take)
+
 -- the text and its 0 byte are put at the end
 abbrev added : List ℕ → List ℕ → List ℕ
 added bytes text = bytes ++ (text ++ 0 ∷ [])
-
-in_longer : (bytes more text : List ℕ) → In bytes text → In (bytes ++ more) text
-in_longer bytes more text h = grind (arith, place_kept, length-append)
 
 -- a text comes no later than there
 place_of_stands : (bytes text : List ℕ) (s : Stands bytes text) → place_of text bytes ≤ length s.before
@@ -145,18 +128,11 @@ module _ (bytes text : List ℕ) where
   put_in : (other : List ℕ) → Ends text other → In (added bytes text) other
   put_in other h = grind (arith, stands_in, end_stands, put_stands)
 
-  in_stands : HasNoZero text → In bytes text → Stands bytes text
-  in_stands none l = let s = has_text text bytes none l in grind arith
-
   -- what a text that is there ends with is there too
-  end_in : (other : List ℕ) → HasNoZero text → Ends text other → In bytes text → In bytes other
-  end_in other none h l = grind (arith, stands_in, end_stands, in_stands)
+  end_in : (other : List ℕ) → Ends text other → In bytes text → In bytes other
+  end_in other h l = grind (arith, stands_in, end_stands, in_stands)
 
   -- a text that isn't there is put in if there is room for it; else all stays as it is
-  put_is : Out bytes text → length bytes + length text < 263 → with_text bytes text ≡ added bytes text
-  unfolding with_text
-  put_is out room = grind (arith, nat_tests)
-
   by_text : (P : List ℕ → Type 0) → P bytes → (Out bytes text → length bytes + length text < 263 → P (added bytes text))
       → P (with_text bytes text)
   unfolding with_text
@@ -164,11 +140,16 @@ module _ (bytes text : List ℕ) where
 
   kept : (other : List ℕ) → In bytes other → In (with_text bytes text) other
   unfolding with_text
-  kept other h = grind (arith, in_longer)
+  kept other h = grind (arith, place_kept, length-append)
+
+  kept_low : (other : List ℕ) → In bytes other → place_of other (with_text bytes text) ≤ place_of other bytes
+  unfolding with_text
+  kept_low other h = grind (arith, place_kept)
 
   -- a text for which there is room is put in
   pub put : (Out bytes text → length bytes + length text < 263) → In (with_text bytes text) text
-  put room = grind (arith, kept, put_is, put_in)
+  unfolding with_text
+  put room = grind (arith, nat_tests, put_in)
 
 -- ---- the texts of types
 -- to be put in at that size
@@ -199,19 +180,18 @@ before_keeps P step last types h = let all = λ (n : ℕ). keeps_all P last n st
 
 -- ---- room in other bytes
 no_front : (m text : List ℕ) → length (m ++ text) ≤ length text → m ++ text ≡ text
-no_front [] text l = refl
-no_front (x ∷ xs) text l = grind (arith, length-append)
+no_front m text l = grind (arith, length-append, nil_from_length)
 
 -- y between c and d is left when the text between b and a is cut out
 module _ (last text y b a c d : List ℕ) (free : Ends last text → ⊥) (apart : Ends text y → ⊥) (small : (length y ≤ length text) ⊎ Ends last y) where
   cut : Meeting b text a c y d → Stands (b ++ a) y
-  cut (In_front e h) = grind (arith, append_assoc)
-  cut (Behind e h) = record { before = b ++ e; after = d; whole = cc (append_assoc b e (y ++ (0 ∷ d))) }
-  cut (Is_end m h l) = absurd (grind arith)
-  cut (Has_end m h l) = elim small [
-    | inl s ↦ absurd (apart (record { front = []; is = cc (no_front m text (omega (arith, ap length h))) }))
-    | inr k ↦ absurd (free (record { front = k.front ++ m; is = cc (append_assoc k.front m text) }))
-  ]
+  cut (inl (e, h)) = grind (arith, append_assoc)
+  cut (inr (inl (e, h))) = let assoc = append_assoc b e (y ++ (0 ∷ d)) in grind arith
+  cut (inr (inr (inl p))) = absurd (grind arith)
+  cut (inr (inr (inr (m, h, l)))) = absurd (elim small [
+    | inl s ↦ apart (record { front = []; is = cc (no_front m text (omega (arith, ap length h))) })
+    | inr k ↦ free (record { front = k.front ++ m; is = cc (append_assoc k.front m text) })
+  ])
 
 -- the last text is to be `last`, and the others are bytes that have the texts
 module _ (last others : List ℕ) where
@@ -239,8 +219,8 @@ module _ (last others : List ℕ) where
         left = s.before ++ s.after;
         fits = grind (arith, length-append);
         rest = λ y nothing small there still.
-            let q = r.rest y nothing small there (let l = in_longer bytes (text ++ 0 ∷ []) y in grind arith) in
-            cut last text y _ _ _ _ turn.1 (λ e. absurd (omega (arith, put_in bytes text y e))) (rw (← turn.0) at small)
+            let q = r.rest y nothing small there (grind (arith, place_kept, length-append)) in
+            cut last text y _ _ _ _ turn.1 (grind (arith, put_in)) (rw (← turn.0) at small)
             (meet s.before _ s.after q.before _ q.after g.none nothing (cc));
       }
 
@@ -250,13 +230,12 @@ module _ (last others : List ℕ) where
   put_all : (size : ℕ) (types : List LocalType) (bytes : List ℕ) → length others ≤ 263 → All Given types → Room bytes size
       → All (λ t. Turn last size t → In (with_texts last size bytes types) (name_of t)) types
   unfolding with_texts
-  put_all size [] bytes short g r i d l turn = absurd (omega arith)
+  put_all size [] bytes short g r i d l turn = grind arith
   put_all size (t ∷ ts) bytes short g r (suc i) d l turn =
       put_all size ts _ short (λ k e m. g (suc k) e (omega arith)) (type_room _ _ t (g 0 t (omega arith)) r) i d (omega arith) turn
   put_all size (t ∷ ts) bytes short g r zero d l turn =
       let given = g 0 t (omega arith) in let out = room_of bytes (name_of t) size r given.none (inl (omega arith)) (given.stands turn.1) in
-      let first : In (with_text_of last size bytes t) (name_of t) = grind (arith, put, ends_decided, eq-eqb) in
-      keeps_all (λ d. In d (name_of t)) _ _ (λ d other. kept d other _) ts _ first
+      keeps_all (λ d. In d (name_of t)) _ _ (λ d other. kept d other _) ts (with_text_of last size bytes t) (grind (arith, put, ends_decided, eq-eqb))
 
   -- ---- in front of the last
   -- the others have room for the texts of that size, and the longer ones have been put in
@@ -268,8 +247,8 @@ module _ (last others : List ℕ) where
   -- the others have the texts of all these types
   module _ (types : List LocalType) (g : All Given types) where
     pass : (size : ℕ) (bytes : List ℕ) → Passed types (suc size) bytes → Passed types size (with_texts last size bytes types)
-    pass size bytes p = let r : Room bytes size = let wider = p.room in grind arith in record {
-      room = by_types (λ d. Room d size) _ _ types bytes (λ i e l d k. type_room d size _ (g i e l) k) r;
+    pass size bytes p = let wider = p.room in let r : Room bytes size = grind arith in record {
+      room = by_types (λ d. Room d size) _ _ types bytes (λ i e l d. type_room d size _ (g i e l)) r;
       inside = λ short i e l low high free.
           let all = put_all size types bytes short g r i e l in
           let keep = keeps_all (λ d. In d (name_of (get_or types i e))) last size (λ d other. kept d other _) types bytes in grind (arith, cases_lt);
@@ -294,10 +273,6 @@ no_text : {bytes text : List ℕ} → Stands bytes text → Stands bytes []
 no_text {text = text} s = end_stands s (ends_nothing text)
 
 -- the text at the place of a text
-front_is : (text rest : List ℕ) → HasNoZero text → before_zero (text ++ (0 ∷ rest)) ≡ text
-front_is [] rest none = refl
-front_is (b ∷ bs) rest none = grind (arith, nat_tests, front_is bs rest none.1)
-
 text_found : (bytes text : List ℕ) → HasNoZero text → In bytes text → text_at bytes (place_of text bytes) ≡ text
 text_found bytes text none h = let s = has_text text bytes none h in grind (arith, nat_tests, drop-append_seam, front_is)
 
@@ -320,22 +295,12 @@ module _ (others : List ℕ) where
   greatest d t [] = (0, omega arith, grind arith)
   greatest d t (u ∷ us) =
       let (place, inside, above) = greatest d u us in let m = get_or (u ∷ us) place d in elim (cases_lt (key_in m) (key_in t)) [
-        | inl l ↦ (0, omega arith, All-cons (IsBelow t) t (u ∷ us) (omega arith) (λ i e k. let low = above i e k in omega arith))
-        | inr k ↦ (suc place, omega arith, All-cons (IsBelow m) t (u ∷ us) k above)
+        | inl l ↦ (0, omega arith, grind arith)
+        | inr k ↦ (suc place, omega arith, grind arith)
       ]
 
--- ---- laid with that text as the last
-module _ (bytes last : List ℕ) where
-  kept_low : (text : List ℕ) → In bytes text → place_of text (with_text bytes last) ≤ place_of text bytes
-  unfolding with_text
-  kept_low text h = grind (arith, place_kept)
-
-  at_end : (t : LocalType) → Ends last (name_of t) → Out bytes last → length bytes + length last < 263
-      → length bytes + length last < 256 + length (name_of t) → HasPlace (with_text bytes last) t
-  at_end t e out room low = let there = place_of_stands _ _ (end_stands (put_stands bytes last) e) in grind (arith, put_is, put_in, length-append)
-
-decided : {P : Type 0} (b : Bool) → Decides b P → P ⊎ (¬ P)
-decided b d = grind (arith, nat_tests)
+ends_or_not : (last text : List ℕ) → Ends last text ⊎ (¬ (Ends last text))
+ends_or_not last text = let e = ends_decided last text in grind (arith, nat_tests)
 
 laid_short : (last others : List ℕ) (types : List LocalType) → HasNoZero last → Stands others last → All (Given last others) types
     → length (laid last types) ≤ length others
@@ -354,31 +319,26 @@ module _ (others : List ℕ) (m : LocalType) (sm : Served others m) where
   where_is : (t : LocalType) → Served others t → IsBelow others m t → Where t
   unfolding key_in
   where_is t st top =
-      let a = sm.stands in let b = st.stands in let m_size = at_size a in let t_size = at_size b in
-      elim (meet a.before _ a.after b.before _ b.after a.ends b.ends (cc)) [
-        | In_front e h ↦ inl (grind arith)
-        | Behind e h ↦ absurd (grind (arith, length-append))
-        | Is_end f h l ↦ inr (record { front = f; is = h }, omega (arith, ap length l))
-        | Has_end f h l ↦ grind (arith, no_front)
-      ]
+      let a = sm.stands in let b = st.stands in
+      grind (arith, length-append, no_front, at_size a, at_size b, meet a.before _ a.after b.before _ b.after a.ends b.ends (cc))
 
   -- t is another one, and the designations are those in front of the last name
   module _ (t : LocalType) (st : Served others t) (where_t : Where t) (bytes : List ℕ) (r : Room (name_of m) sm.stands.before bytes 3)
       (filled : Filled bytes) where
     at_the_end : Out bytes (name_of m) → Out bytes (name_of t) → Ends (name_of m) (name_of t) → HasPlace (with_text bytes (name_of m)) t
+    unfolding with_text
     at_the_end out away e =
-        let size = st.size.1 in let put = at_end bytes (name_of m) t e out in
+        let size = st.size.1 in let there = place_of_stands _ _ (end_stands (put_stands bytes (name_of m)) e) in
+        let put = put_in bytes (name_of m) (name_of t) e in
         let room = λ (s : Stands sm.stands.before (name_of t)). room_of _ _ _ _ _ r st.stands.ends (inr e) s away in
-        grind (arith, nat_tests, nil_from_length)
+        grind (arith, nat_tests, nil_from_length, length-append)
 
     laid_place : (3 ≤ length (name_of t) → length (name_of t) ≤ 7 → (Ends (name_of m) (name_of t) → ⊥) → In bytes (name_of t))
         → HasPlace (with_text bytes (name_of m)) t
-    laid_place inside = elim (cases_lt (place_of (name_of t) bytes) (length bytes)) [
-      | inl l ↦ grind (arith, kept, kept_low)
-      | inr away ↦
-          let e : Ends (name_of m) (name_of t) = let d = decided _ (ends_decided (name_of m) (name_of t)) in grind (arith, nil_from_length, ends_nothing) in
-          let end = end_in bytes _ _ sm.stands.ends e in let out = at_the_end in grind (arith, cases_lt)
-    ]
+    laid_place inside =
+        let in_front = kept bytes (name_of m) (name_of t) in let low = kept_low bytes (name_of m) (name_of t) in
+        let e = ends_or_not (name_of m) (name_of t) in let end = end_in bytes (name_of m) (name_of t) in
+        let out = at_the_end in grind (arith, cases_lt, nil_from_length, ends_nothing)
 
   -- ---- all types, of which m has the greatest key
   module _ (types : List LocalType) (s : All (Served others) types) (top : All (IsBelow others m) types) where
@@ -386,12 +346,12 @@ module _ (others : List ℕ) (m : LocalType) (sm : Served others m) where
     places i d l = where_is _ (s i d l) (top i d l)
 
     places_with : HavePlaces (laid (name_of m) types) types
-    unfolding laid
+    unfolding laid with_text
     places_with i d l =
         let given : All (Given (name_of m) sm.stands.before) types = λ i d l. let st = s i d l in let where_t = places i d l in grind arith in
         let p = before_passed _ _ types given in
         laid_place _ (s i d l) (places i d l) _ p.room
-        (before_keeps Filled (λ d text h. by_text d text Filled h (λ _ _. inr (put_in d text [] (ends_nothing text)))) _ types (inl refl))
+        (before_keeps Filled (λ d text h. grind (arith, nat_tests, put_in, ends_nothing)) _ types (inl refl))
         (p.inside (omega arith) i d l)
 
     -- the texts are in what is laid in order
@@ -405,31 +365,75 @@ module _ (others : List ℕ) (m : LocalType) (sm : Served others m) where
         ] in
         let short : length whole ≤ 263 = grind (arith, length-append) in
         let t = get_or types i d in let size = (s i d l).size in
-        let p = before_passed [] whole types (λ i d l. record { none = (s i d l).stands.ends; stands = λ free. stands i d l }) in
-        elim size.1 [
-          | inl none ↦ let out = room_of [] whole (before_last [] types) [] 3 p.room tt (inl (omega arith)) (no_text (stands i d l)) in
-              grind (arith, nil_from_length, put)
-          | inr three ↦ kept (before_last [] types) [] (name_of t)
-              (p.inside short i d l three size.0 (λ e. omega (arith, ap length e.is, length-append e.front (name_of t))))
-        ]
+        let p = before_passed [] whole types (λ i d l. let st = s i d l in let there = stands i d l in grind arith) in
+        let out = room_of [] whole (before_last [] types) [] 3 p.room tt (inl (omega arith)) (no_text (stands i d l)) in
+        let inside = p.inside short i d l in let keep = kept (before_last [] types) [] (name_of t) in
+        let nothing = λ (e : Ends [] (name_of t)). length-append e.front (name_of t) in grind (arith, nil_from_length, put)
 
-    placed_with : In (laid [] types) (name_of m) → ArePlaced (laid (name_of m) types) types
-    placed_with found = grind (arith, laid_short, in_stands, in_order_in, places_with)
+    short_with : In (laid [] types) (name_of m) → length (laid (name_of m) types) ≤ length (laid [] types)
+    short_with found = grind (arith, laid_short, in_stands, in_order_in)
 
 -- ---- no shorter ones
 in_order_short : (types : List LocalType) (others : List ℕ) → 0 < length types → AreNamesIn others types → length (laid [] types) ≤ length others
-in_order_short [] others some names = absurd (omega arith)
+in_order_short [] others some names = grind arith
 in_order_short (t ∷ ts) others some names = laid_short [] _ (t ∷ ts) tt (no_text (stands_of (names 0 t some).stands))
-    (λ i d l. record { none = (names i d l).stands.ends; stands = λ free. stands_of (names i d l).stands })
+    (λ i d l. let named = names i d l in grind arith)
 
 -- ---- what is laid
 abbrev AreNames : List LocalType → Type 0
 AreNames types = All (λ t. IsNameOrNone t.name) types
 
-none_laid : (types : List LocalType) (others : List ℕ) → AreNames types → AreNamesIn others types → ¬ (HavePlaces (laid [] types) types)
-    → AreNotPlacedBefore types (length (laid [] types)) → ⊥
-none_laid [] others named names unplaced none = unplaced (All-nil _)
-none_laid (t ∷ ts) others named names unplaced none =
+have_places_decided : (bytes : List ℕ) (types : List LocalType) → Decides (have_places bytes types) (HavePlaces bytes types)
+have_places_decided bytes types =
+    Decides-by_and _ (HasPlace bytes) (list_all (has_place bytes)) (λ t. grind (arith, nat_tests)) refl (λ _ _. refl) types
+
+-- each type has its place, and the designations are no longer than those in order
+record ArePlaced (types : List LocalType) (d : List ℕ) : Type 0 where
+  places : HavePlaces d types
+  short : length d ≤ length (laid [] types)
+
+with_placed : (types : List LocalType) (last d : List ℕ) → placed_with types last ≡ Some d → ArePlaced types d
+unfolding placed_with are_placed
+with_placed types last d e = grind (arith, nat_tests, have_places_decided)
+
+otherwise_placed : (types : List LocalType) (texts d : List ℕ) → placed_otherwise types texts ≡ Some d → ArePlaced types d
+otherwise_placed types [] d e = grind arith
+otherwise_placed types (b ∷ bs) d e =
+    let here = with_placed types (before_zero (b ∷ bs)) d in let later = otherwise_placed types bs d in grind arith
+
+laid_placed : (types : List LocalType) (d : List ℕ) → laid_names types ≡ Some d → ArePlaced types d
+unfolding laid_names
+laid_placed types d e =
+    let here = have_places_decided d types in let later = otherwise_placed types (laid [] types) d in grind arith
+
+-- the text is at the place, or at the same place of the rest
+pub next_place : (text bytes : List ℕ) (i : ℕ) → i < length bytes
+    → place_of text (drop i bytes) ≡ cond (begins text (drop i bytes)) 0 (suc (place_of text (drop (i + 1) bytes)))
+next_place text bytes i l = rw (drop_more bytes i 0 l) refl
+
+-- the text at a place comes first of those that are left
+pub next_text : (types : List LocalType) (texts : List ℕ) (place : ℕ) → place < length texts
+    → placed_otherwise types (drop place texts) ≡ or_else (placed_with types (text_at texts place)) (placed_otherwise types (drop (place + 1) texts))
+next_text types texts place l = rw (drop_more texts place 0 l) refl
+
+-- none is placed with a text as the last
+none_with : (types : List LocalType) (texts : List ℕ) (place : ℕ) → placed_otherwise types texts ≡ None → place < length texts
+    → placed_with types (text_at texts place) ≡ None
+none_with types [] place e l = grind arith
+none_with types (b ∷ bs) zero e l = grind arith
+none_with types (b ∷ bs) (suc place) e l = grind (arith, none_with types bs place)
+
+none_placed : (types : List LocalType) (last : List ℕ) → (length last ≡ 0) ⊎ (3 ≤ length last) → laid_names types ≡ None → HasNoZero last
+    → In (laid [] types) last → ArePlaced types (laid last types) → ⊥
+unfolding laid_names placed_with are_placed
+none_placed types last size e whole found p =
+    let text = text_found _ last whole found in let none = none_with types (laid [] types) (place_of last (laid [] types)) in
+    let every = have_places_decided (laid last types) types in
+    grind (arith, nat_tests, nil_from_length)
+
+pub none_laid : (types : List LocalType) (others : List ℕ) → 0 < length types → AreNames types → AreNamesIn others types → laid_names types ≡ None → ⊥
+none_laid [] others some named names none = grind arith
+none_laid (t ∷ ts) others some named names none =
     let types = t ∷ ts in
     let s : All (Served others) types = λ i d l.
     let h = names i d l in let name = named i d l in let at = place_of_stands _ _ (stands_of h.stands) in let size = at_size h.stands in
@@ -437,68 +441,34 @@ none_laid (t ∷ ts) others named names unplaced none =
     let (place, inside, above) = greatest others t t ts in
     let m = get_or types place t in let sm = s place t inside in
     let found = in_order_in _ m sm types s above place t inside in
-    let placed = placed_with _ m sm types s above found in
-    let text = text_found _ _ sm.stands.ends found in grind arith
+    none_placed types (name_of m) sm.size.1 none sm.stands.ends found
+    (record { places = places_with _ m sm types s above; short = short_with _ m sm types s above found })
 
 -- the designations that are laid
 abbrev pub AreLaid : List LocalType → List ℕ → Type 0
-AreLaid types d = HavePlaces d types × IsLaid types d × AreShortest d types
-
--- what holds of each place before one, and of that one
-pub ruleset one_place_more = (below_more)
-
-places_or_not : (bytes : List ℕ) (types : List LocalType) → HavePlaces bytes types ⊎ (¬ (HavePlaces bytes types))
-places_or_not bytes types =
-    let has_place = λ (t : LocalType). nat_lt (place_of (name_of t) bytes) (length bytes) && nat_lt (place_of (name_of t) bytes) 256 in
-    decided _ (Decides-by_and has_place (HasPlace bytes) (list_all has_place) (λ t. grind (arith, nat_tests)) refl (λ _ _. refl) types)
-
-first_placed : (types : List LocalType) (place : ℕ) → AreNotPlacedBefore types place ⊎ ((d : List ℕ) × IsFirstPlaced types d)
-first_placed types zero = inl (grind arith)
-first_placed types (suc n) = elim (first_placed types n) [
-  | inr f ↦ inr f
-  | inl none ↦
-      let places = places_or_not (laid_from types n) types in
-      let placed : IsPlacedFrom types n ⊎ (¬ (IsPlacedFrom types n)) = grind (arith, cases_lt) in elim placed [
-        | inl h ↦ inr (_, record { place = n; placed = h; laid_is = refl; first = none })
-        | inr not ↦ inl (grind (arith, below_more))
-      ]
-]
+AreLaid types d = HavePlaces d types × (laid_names types ≡ Some d) × AreShortest d types
 
 -- there are types, and each has a name
 module _ (types : List LocalType) (some : 0 < length types) (names : AreNames types) where
-  shortest : (bytes : List ℕ) → HavePlaces bytes types → length bytes ≤ length (laid [] types) → AreShortest bytes types
-  shortest bytes h short =
-      let named : AreNamesIn bytes types = λ i d l. let p = h i d l in
+  shortest : (bytes : List ℕ) → ArePlaced types bytes → AreShortest bytes types
+  shortest bytes h =
+      let named : AreNamesIn bytes types = λ i d l. let p = h.places i d l in
       record { place = _; stands = has_text _ bytes (no_zero _ (names i d l)) p.stands; named = p.named } in
       grind (arith, in_order_short)
 
-  pub laid_in_order : (bytes : List ℕ) → bytes ≡ laid [] types → HavePlaces bytes types → AreLaid types bytes
-  laid_in_order bytes e h = (h, In_order h e, shortest bytes h (omega (arith, ap length e)))
-
-  -- the names aren't placed in order
-  module _ (unplaced : ¬ (HavePlaces (laid [] types) types)) where
-    laid_with_last : (bytes : List ℕ) → IsFirstPlaced types bytes → AreLaid types bytes
-    laid_with_last bytes h = grind (arith, shortest)
-
-    pub laid_if_any : (r : Option (List ℕ)) → MatchOption r (AreNotPlacedBefore types (length (laid [] types))) (λ d. IsFirstPlaced types d)
-        → MatchOption r ((d : List ℕ) → ¬ (AreNamesIn d types)) (λ d. AreLaid types d)
-    laid_if_any r h = grind (arith, none_laid, laid_with_last)
+  pub laid_is : (d : List ℕ) → laid_names types ≡ Some d → AreLaid types d
+  laid_is d e = let placed = laid_placed types d e in (placed.places, e, shortest d placed)
 
   -- some designations are laid, if any have the names
-  pub laid_of : (bytes : List ℕ) → AreNamesIn bytes types → (d : List ℕ) × AreLaid types d
-  laid_of bytes named = elim (places_or_not (laid [] types) types) [
-    | inl h ↦ (_, laid_in_order (laid [] types) refl h)
-    | inr unplaced ↦ elim (first_placed types (length (laid [] types))) [
-      | inl none ↦ grind (arith, none_laid)
-      | inr f ↦ (_, laid_with_last unplaced _ f.1)
-    ]
-  ]
+  pub laid_of : (bytes : List ℕ) → AreNamesIn bytes types → AreLaid types (name_or_none (laid_names types))
+  laid_of bytes named = let none = none_laid types bytes some names named in laid_is _ (grind arith)
 
 -- ---- they have room
 size_with : (bytes text : List ℕ) → length bytes ≤ 263 → length (with_text bytes text) ≤ 263
 unfolding with_text
 size_with bytes text h = grind (arith, length-append)
 
-pub laid_size : (types : List LocalType) (bytes : List ℕ) → IsLaid types bytes → length bytes ≤ 263
+pub laid_size : (types : List LocalType) (bytes : List ℕ) → laid_names types ≡ Some bytes → length bytes ≤ 263
 unfolding laid
-laid_size types bytes h = let size = λ (last : List ℕ). size_with _ last (before_keeps (λ d. length d ≤ 263) size_with last types (omega arith)) in grind arith
+laid_size types bytes h =
+    let size = size_with _ [] (before_keeps (λ d. length d ≤ 263) size_with [] types (omega arith)) in let placed = laid_placed types bytes h in omega arith
