@@ -2,7 +2,8 @@
 use Rattle.std.specs.declared.fmt.Debug as debug
 use Rattle.std.specs.Prelude.{ℕ, ℤ, ◌≡◌, ◌≤◌, ⊤, Contains, Option, MatchOption}
 use Rattle.zoned.specs.{DateOf.{day_of_month}, DateTime.{zoned}, DayPlans.{IsPlannedOnItsDay}, Fires.{IsZonedNextFire, NoneFiresAfter}, KeptZone.{law_of}}
-use Rattle.zoned.specs.{NaiveTime.{second_of}, Weekday.{weekday_of, weekday_number}, declared.{Instant.{Instant}, NaiveTime.{NaiveTime}, ZoneOffset.{ZoneOffset}}}
+use Rattle.zoned.specs.{NaiveTime.{second_of}, Weekday.{weekday_of, weekday_number}}
+use Rattle.zoned.specs.declared.{Instant.{Instant}, NaiveTime.{NaiveTime}, ZoneOffset.{ZoneOffset}}
 use Rattle.demo_examples.specs.declared.scheduler.{job.Job.{Job}, run_days.RunDays.{RunDays, TheVariants.{Every, Workdays, Weekday, MonthDay}}}
 use Rattle.demo_examples.specs.declared.scheduler.schedule.Schedule.{Schedule}
 use Rattle.zoned.specs.declared.Offset as offset

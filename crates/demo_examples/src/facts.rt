@@ -2,7 +2,7 @@
 ghost use Rattle.std.specs.Int.{w64};
 ghost use Rattle.std.specs.Prelude.{IfOk, IfSome, ℤ, ◌≡◌, ◌<ℤ◌, ◌≤ℤ◌, ◌+ℤ◌, ◌++◌, ◌∷◌, option_map, pos, string_bytes, FitsSigned, IfErr};
 ghost use Rattle.{
-  zoned.specs.{Choice.{IsUnresolved}, InstantFields.{IsOnly}, Laws.{IsMultiple}, LocalTypes.{LocalType}},
+  zoned.specs.{Choice.{IsUnresolved}, Relocal.{IsOnly}, Laws.{IsMultiple}, LocalTypes.{LocalType}},
   zoned.specs.{DateTime.{wall_of, zoned, IsIn}, NaiveDateTime.{reading}, Reading.{reading_at, total}},
   zoned.specs.{FixedOffset.{printed_offset, seconds_of}, KeptZone.{change_of, law_of, off_of, zone_of}},
   zoned.specs.{NaiveDate.{day_of}, Range.{IsInRange}, Zone.{ShowsByOffset}, Zoned.{in_seconds}, Zones.{TypeAt}},

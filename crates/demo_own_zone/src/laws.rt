@@ -11,6 +11,7 @@ use crate::{Odd, OddOffset};
 
 /// The clocks of the odd zone show no odd second, and each even one twice: first with the offset 1,
 /// then with 0.
+#[tactic(auto, using(crate::proofs::Walls::shown_twice))]
 pub fn odd_seconds_are_gaps_and_even_ones_folds()
     ensures odd { (l : ℤ) → floor_mod l 2 ≡ 1 → IsNeverShown (ShowsByOffset odd_offset l) }
     ensures even { (l : ℤ) → IsWide l → floor_mod l 2 ≡ 0

@@ -45,6 +45,7 @@ impl TimeZone for Odd {
         }
     }
 
+    #[tactic(auto, using(crate::proofs::Walls::shown_twice))]
     fn offset_before_gap(&self, local: &NaiveDateTime) -> Option<OddOffset> {
         match offset_at(local.secs_since_epoch()) {
             OddOffset::Even => None,
@@ -63,6 +64,7 @@ impl ZoneDays for Odd {
         })
     }
 
+    #[tactic(auto, using(crate::proofs::OddDays::reached_early, crate::proofs::OddDays::reached_itself, zoned_time::proofs::Words::casts))]
     fn first_second_at_or_after(&self, local: &NaiveDateTime) -> i64 {
         let second = local.secs_since_epoch();
         match offset_at(second) {

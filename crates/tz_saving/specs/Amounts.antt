@@ -1,9 +1,30 @@
 -- The amount of daylight saving time in force. A zone says whether it is daylight saving time, not how much: the amount follows from
 -- standard time before and after. If that leaves two amounts, the next use of the same type decides, or else what is usual.
-use Rattle.std.specs.{Prelude.{ℤ, pos, ◌≡◌, ◌≢◌, ◌≤ℤ◌, ◌<ℤ◌, ◌⊎◌, int_lt, ◌&&◌, if◌then◌else◌, true, false, Option, Some, None}, Ordering.{int_eq}}
+use Rattle.std.specs.{Prelude.{ℤ, pos, ◌≡◌, ◌≢◌, ◌≤ℤ◌, ◌<ℤ◌, ◌⊎◌, int_lt, ◌&&◌, if◌then◌else◌, true, false, Option, Some, None, ◌-ℤ◌}, Ordering.{int_eq}}
 use Rattle.tz_base.specs.{LocalTypes.{LocalType}, declared.change.Change.{Change}}
-use Rattle.tz_info.specs.{Changes.{IsChange}, declared.rule.transition_rule.TransitionRule.{TransitionRule}}
-use Rattle.tz_saving.specs.{Candidates.{AreCandidates, IsOnly}, Reach.{IsWithinReach}}
+use Rattle.tz_info.specs.{Changes.{IsChange}, declared.rule.transition_rule.TransitionRule.{TransitionRule}, Zones.{Zone, TypeAt}}
+use Rattle.tz_saving.specs.{Sides.{IsWithinReach, IsAfter, IsBefore, IsFound}, declared.saving.Saving.{Saving}}
+use Rattle.offset_core.specs.Offset.{IsWithinDay}
+
+-- how far the offset is from the standard offset of that side: not 0, and less than a day
+pub record IsCandidate (side : ℤ → Type 0) (offset a : ℤ) : Type 0 where
+  pub standard : ℤ
+  pub of_side : side standard
+  pub difference : a ≡ offset -ℤ standard
+  pub some : a ≢ pos 0
+  pub within : IsWithinDay a
+
+-- the two candidates of the offset at the second u: by standard time before it, and by standard time after it
+pub record AreCandidates (in_force : ℤ → LocalType → Type 0) (rule : Option TransitionRule) (u offset : ℤ) (early late : Option ℤ) : Type 0 where
+  pub early_is : IsFound (IsCandidate (IsBefore in_force u) offset) early
+  pub late_is : IsFound (IsCandidate (IsAfter in_force rule u) offset) late
+
+-- there is one candidate, or two that are equal
+abbrev pub IsOnly : Option ℤ → Option ℤ → ℤ → Type 0
+IsOnly None None a = ⊥
+IsOnly (Some early) None a = a ≡ early
+IsOnly None (Some late) a = a ≡ late
+IsOnly (Some early) (Some late) a = (a ≡ early) × (a ≡ late)
 
 -- the first change after u to the type t, if that is within reach
 pub record IsNextUse (in_force : ℤ → LocalType → Type 0) (t : LocalType) (u : ℤ) (c : Change) : Type 0 where
@@ -60,3 +81,8 @@ pub record IsAmount (in_force : ℤ → LocalType → Type 0) (rule : Option Tra
   pub in_force_then : in_force u type
   pub standard : type.dst ≡ false → a ≡ pos 0
   pub flagged : type.dst ≡ true → IsFlaggedAmount in_force rule u type a
+
+-- the amount in force at the second u, and the offset without it
+pub record IsSavingAt (z : Zone) (u : ℤ) (s : Saving) : Type 0 where
+  pub amount_is : IsAmount (TypeAt z) z.rule u s.amount
+  pub standard_is : (t : LocalType) → TypeAt z u t → s.standard_offset ≡ t.offset -ℤ s.amount

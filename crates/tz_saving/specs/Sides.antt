@@ -1,8 +1,22 @@
--- Standard time on both sides of a second, within reach.
-use Rattle.std.specs.{Prelude.{ℤ, ◌≡◌, ◌≤ℤ◌, ◌<ℤ◌, FitsSigned, false, Option, Some, None, MatchOption}, Int.{w64}}
-use Rattle.tz_base.specs.LocalTypes.{LocalType}
-use Rattle.tz_info.specs.declared.rule.transition_rule.TransitionRule.{TransitionRule, TheVariants.{Fixed, Alternate}}
-use Rattle.tz_saving.specs.Reach.{IsWithinReach}
+-- Standard time on both sides of a second, within reach: how many clock changes away it may be.
+use Rattle.std.specs.{Prelude.{ℤ, ◌≡◌, ◌≤ℤ◌, ◌<ℤ◌, FitsSigned, false, Option, Some, None, MatchOption, ℕ, zero, suc, pos, ◌-ℤ◌, ⊤}, Int.{w64}}
+use Rattle.tz_base.specs.{LocalTypes.{LocalType}, declared.change.Change.{Change}}
+use Rattle.tz_info.specs.declared.rule.transition_rule.TransitionRule.{TransitionRule}
+use Rattle.tz_info.specs.{declared.rule.transition_rule.TransitionRule.TheVariants.{Fixed, Alternate}, Changes.{IsChange}}
+
+-- at least n clock changes come after the second `from` and no later than `to`
+unfoldable pub HasChanges : (ℤ → LocalType → Type 0) → ℕ → ℤ → ℤ → Type 0
+HasChanges in_force zero from to = ⊤
+HasChanges in_force (suc n) from to =
+    (last : Change) × IsChange in_force last × (from <ℤ last.at) × (last.at ≤ℤ to) × HasChanges in_force n from (last.at -ℤ pos 1)
+
+-- the most clock changes that lie between
+abbrev pub reach : ℕ
+reach = 64
+
+-- no more clock changes than that come after the second `from` and no later than `to`
+abbrev pub IsWithinReach : (ℤ → LocalType → Type 0) → ℤ → ℤ → Type 0
+IsWithinReach in_force from to = HasChanges in_force (suc reach) from to → ⊥
 
 -- the second v of 64 bits is standard: a type of that offset is in force, without the DST flag
 pub record IsStandard (in_force : ℤ → LocalType → Type 0) (offset v : ℤ) : Type 0 where

@@ -4,7 +4,7 @@ ghost use Rattle.std.specs.Prelude.{◌≡◌, ◌≢◌, ◌↔◌, pos, true, 
 ghost use Rattle.{
   offset_core.specs.Offset.{IsWithinDay},
   tz_info.specs.Zones.{TypeAt},
-  tz_saving.specs.{Candidates.{AreCandidates, IsCandidate, IsOnly}, Sides.{IsFound}},
+  tz_saving.specs.{Amounts.{AreCandidates, IsCandidate, IsOnly}, Sides.{IsFound}},
 };
 
 use crate::sides::{Side, nearest_standard, standard_after};
@@ -27,7 +27,7 @@ pub(crate) fn candidates_at(
 
 // How far the type's offset is from a standard offset that was found, unless that is 0, or a day or
 // more.
-#[tactic(auto, using(crate::proofs::Words::fitted))]
+#[tactic(auto, using(tz_info::proofs::Fits::fits))]
 fn candidate_of(local: &LocalTimeType, standard: Option<i32>) -> Option<i32>
     ensures { IsFound (IsCandidate (λ s. standard ≡ Some s) local.now.offset) result }
 {

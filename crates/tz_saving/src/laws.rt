@@ -3,7 +3,7 @@
 ghost use Rattle.std.specs.Prelude.{◌≡◌, ◌↔◌, IsTrue, ℤ};
 ghost use Rattle.{
   tz_info.specs.Zones.{TypeAt, Zone},
-  tz_saving.specs.{Amounts.{IsAmount}, Savings.{IsSavingAt}},
+  tz_saving.specs.{Amounts.{IsAmount}, Amounts.{IsSavingAt}},
 };
 
 use crate::Saving;

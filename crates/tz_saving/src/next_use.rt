@@ -12,7 +12,7 @@ use tz_info::{LocalTimeType, TimeZone};
 
 // The only candidate that the type, which has the DST flag, has when it is next used after the
 // second; none if that is never, or out of reach.
-#[tactic(auto, using(crate::proofs::Words::fitted, crate::proofs::AmountLaws::no_next))]
+#[tactic(auto, using(tz_info::proofs::Fits::fits, crate::proofs::AmountLaws::no_next))]
 pub(crate) fn next_candidate(zone: &TimeZone, second: i64, local: &LocalTimeType) -> Option<i32>
     requires flagged { local.now.dst ≡ true }
     ensures { IsFound (IsNextCandidate (TypeAt zone.now) zone.now.rule local.now second) result }

@@ -3,7 +3,7 @@
 ghost use Rattle.std.specs.Prelude.{◌≡◌, ◌≢◌, ◌↔◌, true, IsTrue, MatchResult};
 ghost use Rattle.{
   tz_info.specs.Zones.{IsTypeError, TypeAt},
-  tz_saving.specs.{Amounts.{usual, IsAmount, IsFlaggedAmount, IsNextCandidate, IsOfTwo}, Savings.{IsSavingAt}},
+  tz_saving.specs.{Amounts.{usual, IsAmount, IsFlaggedAmount, IsNextCandidate, IsOfTwo}, Amounts.{IsSavingAt}},
 };
 
 use crate::candidates::candidates_at;
@@ -101,7 +101,7 @@ fn amount_of_two(zone: &TimeZone, second: i64, local: &LocalTimeType, early: i32
 }
 
 // Of two amounts the one that was found, or else the usual one.
-#[tactic(auto, using(crate::proofs::Words::fitted))]
+#[tactic(auto, using(tz_info::proofs::Fits::fits))]
 fn chosen_of(next: Option<i32>, early: i32, late: i32) -> i32
     requires { early ≢ late }
     ensures { IsOfTwo (λ a. next ≡ Some a) early late result }

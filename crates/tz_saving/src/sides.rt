@@ -29,7 +29,7 @@ pub(crate) enum Wanted<'a> {
 
 // The offset of the first standard second after that one, at which a type with the DST flag is in
 // force, or, if none is within reach, that of the rule's standard time.
-#[tactic(auto, using(crate::proofs::Words::fitted, crate::proofs::SideLaws::after_found))]
+#[tactic(auto, using(tz_info::proofs::Fits::fits, crate::proofs::SideLaws::after_found))]
 pub(crate) fn standard_after(zone: &TimeZone, second: i64) -> Option<i32>
     requires { HasFlag zone.now true second }
     ensures { IsFound (IsAfter (TypeAt zone.now) zone.now.rule second) result }
@@ -118,7 +118,7 @@ fn far_type<'a>(change: HeldChange<'a>, side: Side) -> &'a LocalTimeType
 }
 
 // The offset on the far side of the change, if there is one.
-#[tactic(auto, using(crate::proofs::Words::fitted))]
+#[tactic(auto, using(tz_info::proofs::Fits::fits))]
 fn far_offset(change: Option<HeldChange<'_>>, side: Side) -> Option<i32>
     ensures { result ≡ option_map (λ c. (far_type (is_forward side) c).offset)
         (option_map change_held change.entry) }

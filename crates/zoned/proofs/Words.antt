@@ -12,4 +12,4 @@ pub use Rattle.zoned_ref.proofs.Words.{HasInstant, IsAfter, IsAt, IsFirst, IsInR
 pub use Rattle.zoned_ref.proofs.Words.{all_or_none, floor_div, instant_of, map_of, reading, type_once, zoned, ◌-ℤ◌}
 pub use Rattle.tz_write.proofs.Words.{List, MatchOption, Zone, ap, arith, get_or, inr, ints, length, pos, refl, subst, suc, sym, unsigned_abs, zero, ℕ, ℤ, []}
 pub use Rattle.tz_write.proofs.Words.{◌+ℤ◌, ◌<ℤ◌, ◌<◌, ◌∙◌, ◌∷◌, ◌≡◌, ◌≢◌, ◌≤ℤ◌, ◌⊎◌}
-pub use Rattle.zoned.specs.Within.{IsFromFirstToLast}
+pub use Rattle.zoned.specs.Headline.{IsFromFirstToLast}

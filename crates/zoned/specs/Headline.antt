@@ -1,24 +1,31 @@
 -- The headline as one statement: what bytes give, what clocks show, which zones are lawful, and what calls of an instant mean.
-use Rattle.std.specs.Prelude.{◌≡◌, ◌↔◌, ◌⊎◌, ℕ, ℤ, pos, neg_ℤ, List, Bool, option_map, Result, IfOk, IfErr, MatchResult, SomeIff, IsTrue, FitsSigned}
+use Rattle.std.specs.Prelude.{◌≡◌, ◌↔◌, ◌⊎◌, ℕ, ℤ, pos, neg_ℤ, List, Bool, option_map, Result, IfOk, IfErr, MatchResult, SomeIff, IsTrue, FitsSigned, ⊤, ◌≤ℤ◌}
 use Rattle.std.specs.Int.{w64}
 use Rattle.offset_core.specs.{LocalResult.{map_of}, Offset.{IsWithinDay}, TimeDelta.{nanos_of}, WallAnswer.{IsWallAnswer}}
-use Rattle.offset_core.specs.declared.local_result.LocalResult.{LocalResult}
+use Rattle.offset_core.specs.{declared.local_result.LocalResult.{LocalResult}, declared.local_result.LocalResult.TheVariants.{Single, Ambiguous, None}}
 use Rattle.naive_base.specs.{Months.{days_of, months_of}, NaiveDateTime.{reading}, NaiveTime.{second_of, fraction_of}, Range.{IsWide}}
 use Rattle.naive_base.specs.Reading.{reading_at, day_at, moved, difference, total}
-use Rattle.tz_base.specs.{LocalTypes.{LocalType}, declared.error.Error.{Error, TheVariants.{OutOfMemory}}}
+use Rattle.tz_base.specs.{LocalTypes.{LocalType}, declared.error.Error.{Error}, declared.error.Error.TheVariants.{OutOfMemory}}
 use Rattle.tz_info.specs.{FilePieces.{FilePieces, HasPieces}, Looks.{RoseByWallClock}, PosixZones.{IsPosixZone, IsPosixFault}, RuleTypes.{RuleAt}}
 use Rattle.tz_info.specs.{TzFiles.{IsTzFile, IsFileFault}, TzGrammar.{IsTzText, IsTextFault}, WallClocks.{Shows}, Zones.{Zone, IsValid, TypeAt}}
 use Rattle.tz_info.specs.declared.rule.transition_rule.TransitionRule.{TransitionRule}
 use Rattle.zoned_time.specs.{declared.datetime.Instant.{Instant}, Choice.{IsOffsetBeforeGap, IsResolved, IsUnresolved}}
-use Rattle.zoned_time.specs.{DateTime.{zoned, wall_of, home_law_of, IsOnlyMonthsLater, IsOnlyDaysLater, IsDaysAdded}, Order.{compared}, Relocal.{IsRelocal}}
+use Rattle.zoned_time.specs.{DateTime.{zoned, wall_of, home_law_of, IsOnlyMonthsLater, IsOnlyDaysLater, IsDaysAdded, compared}, Relocal.{IsRelocal}}
 use Rattle.zoned_time.specs.{Stamps.{millis_of, micros_of, in_utc}, Years.{IsYearsSince}}
 use Rattle.zoned_time.specs.{Zone.{Meaning, Law, IsOffsetAt, IsZoneSecond, AreOffsetsFor, ShowsByOffset}, Zoned.{IsAt, IsAtInRange, IsFixedFrom}}
 use Rattle.zoned_round.specs.{Durations.{IsRoundedTo}, declared.error.RoundingError.{RoundingError}}
 use Rattle.zoned_round.specs.Multiples.{multiple_below, nearest_multiple, multiple_above}
 use Rattle.zoned_ref.specs.Offsets.{IsNarrow, AreOffsetsOf}
-use Rattle.zoned.specs.declared.headline.answers.{Answers.{Answers}, Asked.{Asked}, Calls.{Calls}, InLaw.{InLaw}, InZone.{InZone}}
+use Rattle.zoned.specs.{declared.headline.answers.Answers.{Answers}, declared.headline.answers.Asked.{Asked}, declared.headline.answers.Calls.{Calls}}
+use Rattle.zoned.specs.{declared.headline.answers.InLaw.{InLaw}, declared.headline.answers.InZone.{InZone}}
 use Rattle.std.specs.declared.fmt.Debug as debug
 use Rattle.zoned_time.specs.declared.offset.Offset as offset
+
+-- the second u is the only one, or not before the first and not after the last; of no seconds nothing is said
+abbrev pub IsFromFirstToLast : ℤ → LocalResult ℤ → Type 0
+IsFromFirstToLast u None = ⊤
+IsFromFirstToLast u (Single s) = u ≡ s
+IsFromFirstToLast u (Ambiguous s t) = (s ≤ℤ u) × (u ≤ℤ t)
 
 -- What is answered in the one thing that bytes spell. `spells z` says that they spell z, `fault e` that e is their first fault, and
 -- `answers z a` that a is right in z; `whole` must hold where memory runs out.

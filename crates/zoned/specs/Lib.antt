@@ -32,10 +32,10 @@ pub use Rattle.naive_base.specs.MonthNames
 pub use Rattle.naive_base.specs.Named
 pub use Rattle.naive_base.specs.Runs
 pub use Rattle.naive_base.specs.Week
+pub use Rattle.naive_plans.specs.PartsOfDay
 pub use Rattle.naive_plans.specs.Plans
 pub use Rattle.naive_plans.specs.DayPlans
 pub use Rattle.naive_plans.specs.Cron
-pub use Rattle.naive_plans.specs.PartsOfDay
 pub use Rattle.naive_plans.specs.ClockSteps
 pub use Rattle.naive_plans.specs.PlanSets
 pub use Rattle.naive_plans.specs.RecurrenceRules
@@ -49,10 +49,8 @@ pub use Rattle.tz_info.specs.RuleDayOf
 pub use Rattle.tz_info.specs.Rules
 pub use Rattle.tz_info.specs.Moments
 pub use Rattle.tz_info.specs.RuleTypes
-pub use Rattle.tz_info.specs.RuleEquality
 pub use Rattle.tz_info.specs.Lists
 pub use Rattle.tz_info.specs.Leaps
-pub use Rattle.tz_info.specs.Digits as BinaryDigits
 pub use Rattle.tz_info.specs.Counts
 pub use Rattle.tz_info.specs.Transitions
 pub use Rattle.tz_info.specs.Zones
@@ -67,7 +65,6 @@ pub use Rattle.tz_info.specs.ChangesLeft
 pub use Rattle.tz_info.specs.Spans
 pub use Rattle.tz_info.specs.SpanSteps
 pub use Rattle.tz_info.specs.ShownSeconds
-pub use Rattle.tz_info.specs.Reached as ZoneReached
 pub use Rattle.tz_info.specs.Differences
 pub use Rattle.tz_info.specs.Windows
 pub use Rattle.tz_info.specs.Looks
@@ -86,51 +83,36 @@ pub use Rattle.tz_info.specs.Footers
 pub use Rattle.tz_info.specs.FilePieces
 pub use Rattle.tz_info.specs.TzFiles
 pub use Rattle.tz_info.specs.FilePlaces
-pub use Rattle.tz_saving.specs.Reach
 pub use Rattle.tz_saving.specs.Sides
-pub use Rattle.tz_saving.specs.Candidates
 pub use Rattle.tz_saving.specs.Amounts
-pub use Rattle.tz_saving.specs.Savings
 pub use Rattle.tz_write.specs.WrittenTexts
 pub use Rattle.tz_write.specs.FileDesignations
-pub use Rattle.tz_write.specs.FileLayouts
 pub use Rattle.tz_write.specs.FileBytes
 pub use Rattle.tz_write.specs.WrittenFiles
 pub use Rattle.zoned_time.specs.Choice
 pub use Rattle.zoned_time.specs.Days
 pub use Rattle.zoned_time.specs.DayEnds
 pub use Rattle.zoned_time.specs.DateTime
-pub use Rattle.zoned_time.specs.Fields as InstantFields
 pub use Rattle.zoned_time.specs.Fires
 pub use Rattle.zoned_time.specs.Moves
 pub use Rattle.zoned_time.specs.Nearest
-pub use Rattle.zoned_time.specs.Order
 pub use Rattle.zoned_time.specs.Policies
-pub use Rattle.zoned_time.specs.Reached
 pub use Rattle.zoned_time.specs.Relocal
 pub use Rattle.zoned_time.specs.Stamps
-pub use Rattle.zoned_time.specs.Stretches
 pub use Rattle.zoned_time.specs.StepBounds
 pub use Rattle.zoned_time.specs.Years
 pub use Rattle.zoned_time.specs.Zone
 pub use Rattle.zoned_time.specs.Zoned
 pub use Rattle.zoned_ref.specs.Instants
-pub use Rattle.zoned_ref.specs.KeepError
 pub use Rattle.zoned_ref.specs.KeptZone
-pub use Rattle.zoned_ref.specs.OpenError
 pub use Rattle.zoned_ref.specs.OffsetAt
 pub use Rattle.zoned_ref.specs.Offsets
 pub use Rattle.zoned_ref.specs.TimeZoneRef
-pub use Rattle.zoned_ref.specs.WallClock
 pub use Rattle.zoned_ref.specs.ZoneChange
 pub use Rattle.zoned_ref.specs.ZoneOffset
 pub use Rattle.zoned_round.specs.Multiples
 pub use Rattle.zoned_round.specs.Subseconds
 pub use Rattle.zoned_round.specs.Durations
-pub use Rattle.zoned_round.specs.Errors as RoundingErrors
 pub use Rattle.zoned_round.specs.Laws
-pub use Rattle.zoned_series.specs.DailySeries
-pub use Rattle.zoned_series.specs.Numbers
 pub use Rattle.zoned_series.specs.Series
 pub mod Headline
-pub mod Within

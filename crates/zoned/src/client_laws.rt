@@ -6,7 +6,7 @@ ghost use Rattle.{
   naive_base.specs.{NaiveDateTime.{reading}, Range.{last_second, IsInRange}, Reading.{total, Reading}},
   offset_core.specs.{LocalResult.{map_of}, WallAnswer.{IsNeverShown, IsWallAnswer}, TimeDelta.{nanos_of}},
   tz_info.specs.{Changes.{AreChanges, IsFirst}, Zones.{TypeAt, Zone}},
-  zoned.specs.Within.{IsFromFirstToLast},
+  zoned.specs.Headline.{IsFromFirstToLast},
   zoned_ref.specs.ZoneChange.{IsAfter},
   zoned_round.specs.{Durations.{IsRoundedTo}, Laws.{IsMultiple}, Multiples.{multiple_below, IsItselfOr}},
   zoned_time.specs.{Choice.{IsResolved}, Relocal.{IsRelocal}, Zone.{Each, ShowsByOffset}},

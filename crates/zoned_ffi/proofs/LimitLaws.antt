@@ -1,6 +1,6 @@
 -- Files above the limits of a caller.
 use Rattle.std.proofs.lemmas.Option.{none-some, same_Some}
-use Rattle.tz_info.proofs.{Words.{◌↔◌, FilePieces, value_once}, FilePieceLaws.{pieces_law}}
+use Rattle.tz_info.proofs.{Words.{◌↔◌, FilePieces}, TzFileLaws.{one_pieces}}
 use Rattle.zoned_ffi.proofs.Words.{FileCounts, HasCounts, IsAboveLimits, List, None, Some, arith, inl, inr, refl, ap, sym, ℕ, ◌<◌, ◌∙◌, ◌≡◌, ◌⊎◌}
 use Rattle.zoned_ffi.specs.Kinds.{kind_number}
 use Rattle.zoned_ffi.specs.declared.kind.Kind.TheVariants as kinds
@@ -20,7 +20,7 @@ module _ (kind : ℕ) (bytes : List ℕ) (m n : ℕ) where
 
 -- a file has one pair of counts
 counts_once : (bytes : List ℕ) (c d : FileCounts) → HasCounts bytes c → HasCounts bytes d → (c.transitions ≡ d.transitions) × (c.leap_seconds ≡ d.leap_seconds)
-counts_once bytes c d h k = let one = value_once (pieces_law bytes) h.pieces k.pieces h.has k.has in (
+counts_once bytes c d h k = let one = one_pieces bytes h.pieces k.pieces h.has k.has in (
   h.transitions_are ∙ ap (λ (x : FilePieces). x.counts.transitions) one ∙ sym k.transitions_are,
   h.leap_seconds_are ∙ ap (λ (x : FilePieces). x.counts.leap_seconds) one ∙ sym k.leap_seconds_are,
 )

@@ -1,5 +1,5 @@
 -- The spans around a local time.
-use Rattle.zoned_ffi.{proofs.Words.{LocalType, Shows, TypeAt, Zone, arith, ints, pos, subst, ℤ, ◌-ℤ◌, ◌≡◌, IsShownOnce}, specs.LocalInfos.{IsLocalInfo}}
+use Rattle.zoned_ffi.{proofs.Words.{LocalType, Shows, TypeAt, Zone, arith, ints, pos, subst, ℤ, ◌-ℤ◌, ◌≡◌, IsShownOnce}, specs.WrittenSpans.{IsLocalInfo}}
 use Rattle.zoned_ffi.specs.{WrittenSpans.{IsWrittenSpanAt}, declared.local_info.WrittenLocalInfo.{WrittenLocalInfo}}
 use Rattle.offset_core.specs.WallAnswer.{IsShownBetween}
 

@@ -3,7 +3,7 @@ use Rattle.zoned_ffi.proofs.Words.{Error, IfErr, IsErrorOfKind, IsExtendedFault,
 use Rattle.zoned_ffi.proofs.Words.{IsStringError, IsUtf8, IsZoneFault, Kind, List, Refusal, Result, Zone, arith, error_number, inl, inr, true, ℕ, ◌≡◌, ◌⊎◌}
 use Rattle.zoned_ffi.specs.{Kinds.{IsZoneOf, SpellsZone, kind_number}, Refusals.{IsReaderNumber, refusal_number, IsErrorOfKind.{Unknown_kind}}}
 use Rattle.zoned_ffi.specs.Refusals.{IsFileError.{In_file}, IsStringError.{Not_utf8}}
-use Rattle.tz_info.specs.{PosixZones.{IsExtendedZone}, TzGrammar.{IsTextFault}}
+use Rattle.tz_info.{proofs.ForCallers.{file_pieces}, specs.{PosixZones.{IsExtendedZone}, TzGrammar.{IsTextFault}}}
 use Rattle.tz_base.specs.declared.error.Error.TheVariants as errors
 use Rattle.zoned_ffi.specs.declared.kind.Kind.TheVariants as kinds
 
@@ -28,7 +28,7 @@ detail_in_range e = grind arith
 
 -- if there is no memory for a zone that is spelled, that is the fault
 no_memory : (kind : Kind) (bytes : List ℕ) (z : Zone) → SpellsZone kind bytes z → IsFault kind bytes 17
-no_memory kinds.File bytes z spells = IsFileError.In_file errors.OutOfMemory (IsZoneFault.No_memory spells.0.0 spells.0.1)
+no_memory kinds.File bytes z spells = let has = file_pieces bytes z spells.0 in IsFileError.In_file errors.OutOfMemory (IsZoneFault.No_memory has.0 has.1)
 no_memory kinds.Text bytes z spells = IsStringError.No_memory z spells.0 spells.1
 no_memory kinds.ExtendedText bytes z spells = IsExtendedFault.No_memory z spells
 

@@ -1,5 +1,5 @@
 -- The string of a rule, by what was found of it.
-use Rattle.zoned_ffi.{proofs.Words.{List, None, Option, Some, TransitionRule, sym, ℕ, [], ◌≡◌}, specs.RuleStrings.{IsRuleString}}
+use Rattle.zoned_ffi.{proofs.Words.{List, None, Option, Some, TransitionRule, sym, ℕ, [], ◌≡◌}, specs.Texts.{IsRuleString}}
 use Rattle.std.specs.Prelude.{Bool}
 use Rattle.tz_write.specs.WrittenTexts.{IsUnspelled, IsWrittenText}
 

@@ -36,7 +36,7 @@ pub use Rattle.tz_info.proofs.Words.{w32, w64, zero, ℕ, ℤ, [], ◌&&◌, ◌
 pub use Rattle.tz_info.specs.{Windows.{IsGreatest, IsLeast, offsets}, declared.rule.transition_rule.TransitionRule.{TransitionRule}}
 pub use Rattle.tz_info.specs.{declared.{file.counts.FileCounts.{FileCounts}, zone.ask.offset_stretch.OffsetStretch.{OffsetStretch}}, FilePieces.{HasCounts}}
 unfoldable pub use Rattle.tz_info.proofs.Words.{changes_left}
-pub use Rattle.zoned_ffi.specs.{Columns.{IsNoInstant}, Instants.{AreOffsetsAt, IsWrittenOffsetAt}, Limits.{IsAboveLimits}, Owned.{boxed, held, lent, loan}}
+pub use Rattle.zoned_ffi.specs.{Columns.{IsNoInstant}, WrittenTypes.{AreOffsetsAt, IsWrittenOffsetAt}, Kinds.{IsAboveLimits}, Owned.{boxed, held, lent, loan}}
 pub use Rattle.zoned_ffi.specs.{Owned.{shared_row}, Refusals.{IsErrorOfKind, IsExtendedFault, IsFault, IsFileError, IsStringError, detail_number}}
 pub use Rattle.zoned_ffi.specs.{Resolved.{AreReached, AreResolved, IsReachedAt, IsResolvedAt, IsTakenType, policy_of}, Steps.KeptTimes.{AreKept, AreKeptTimes}}
 pub use Rattle.zoned_ffi.specs.Steps.{KeptTimes.{AreWritten, IsKept, IsWritten}, ResolvedInstants.{IsResolvedStamp, IsTakenAs, taken_instant}, Told.{told_of}}

@@ -1,15 +1,10 @@
 pub mod Kinds
-pub mod Limits
 pub mod Refusals
 pub mod FaultPlaces
-pub mod Instants
 pub mod WallClocks
 pub mod WrittenTypes
 pub mod WrittenChanges
 pub mod WrittenSpans
-pub mod LocalInfos
-pub mod RuleStrings
-pub mod WrittenSavings
 pub mod Resolved
 pub mod Texts
 pub mod Units

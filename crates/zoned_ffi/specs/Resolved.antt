@@ -5,7 +5,7 @@ use Rattle.offset_core.specs.{Around.{Takes}, ResolveNumbers.{resolve_error_numb
 use Rattle.offset_core.specs.declared.{choice.FoldChoice.{FoldChoice}, resolve_error.ResolveError.{ResolveError}}
 use Rattle.tz_base.specs.{LocalTypes.{LocalType}, declared.change.Change.{Change}}
 use Rattle.tz_info.specs.{Around.{Skips}, ShownSeconds.{IsFirstAtOrAfter}, WallClocks.{Shows}, Zones.{Zone, TypeAt}}
-use Rattle.zoned_ffi.specs.{Instants.{IsWrittenOffsetAt}, declared.{choice.{Choice.{Choice}, ChoiceInGap.{ChoiceInGap}}, resolved.Resolved.{Resolved}}}
+use Rattle.zoned_ffi.specs.{WrittenTypes.{IsWrittenOffsetAt}, declared.{choice.{Choice.{Choice}, ChoiceInGap.{ChoiceInGap}}, resolved.Resolved.{Resolved}}}
 use Rattle.offset_core.specs.declared.choice.Choice as any_choice
 use Rattle.offset_core.specs.declared.choice.FoldChoice.TheVariants as folds
 use Rattle.offset_core.specs.declared.choice.GapChoice as any_gap

@@ -1,5 +1,7 @@
--- What numbers say in words, and how a text is written into the room that C gives.
-use Rattle.std.specs.Prelude.{ℕ, ◌≡◌, ◌⊎◌, List, [], ◌∷◌, ◌++◌, take, drop, length, codes}
+-- What numbers say in words, how a text is written into the room that C gives, and the TZ string that is written of a rule.
+use Rattle.std.specs.Prelude.{ℕ, ◌≡◌, ◌⊎◌, List, [], ◌∷◌, ◌++◌, take, drop, length, codes, Bool, Option, None, Some}
+use Rattle.tz_info.specs.declared.rule.transition_rule.TransitionRule.{TransitionRule}
+use Rattle.tz_write.specs.WrittenTexts.{IsUnspelled, IsWrittenText}
 
 -- the numbers of this library, and what each says
 pub data IsSaidOf : ℕ → List ℕ → Type 0 where
@@ -45,3 +47,9 @@ IsTextOf n text = IsSaidOf n text ⊎ (((said : List ℕ) → ¬ (IsSaidOf n sai
 abbrev pub written_over : List ℕ → List ℕ → List ℕ
 written_over said [] = []
 written_over said (b ∷ bs) = take (length bs) said ++ (0 ∷ drop (length (take (length bs) said)) bs)
+
+-- the shortest string that spells the rule; nothing without a rule, and nothing of a rule that no string spells
+pub data IsRuleString : Option TransitionRule → List ℕ → Type 0 where
+  no_rule : IsRuleString None []
+  unspelled : (rule : TransitionRule) → IsUnspelled rule → IsRuleString (Some rule) []
+  spelled : (rule : TransitionRule) (text : List ℕ) (extended : Bool) → IsWrittenText rule text extended → IsRuleString (Some rule) text

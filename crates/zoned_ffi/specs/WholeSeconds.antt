@@ -4,7 +4,7 @@ use Rattle.naive_base.specs.{Range.{IsInRange}, Stamp.{of_secs}, Weekday.{weekda
 use Rattle.naive_plans.specs.{ClockSteps.{BeginsStep}, declared.clock_step.ClockStep.{ClockStep, TheVariants.{Day, Week, Month, Year, Part}}}
 use Rattle.tz_info.specs.Zones.{Zone}
 use Rattle.zoned_ref.specs.Offsets.{AreOffsetsOf, IsNarrow}
-use Rattle.zoned_time.specs.{Days.{IsInDay}, Fires.{IsLastFire, IsNextFire, NoneFiresAfter, NoneFiresUntil}, Reached.{IsReachedAt}}
+use Rattle.zoned_time.specs.{Days.{IsInDay}, Fires.{IsLastFire, IsNextFire, NoneFiresAfter, NoneFiresUntil}, Zone.{IsReachedAt}}
 use Rattle.zoned_time.specs.StepBounds.{AreStepBounds, IsStepOutOfRange}
 use Rattle.zoned_ffi.specs.declared.{days.WrittenDay.{WrittenDay}, whole_second.WholeSecond.{WholeSecond, TheVariants.{Reached, Floor, Ceil}}}
 

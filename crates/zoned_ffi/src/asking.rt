@@ -7,7 +7,7 @@ ghost use Rattle.std.specs.Prelude.{◌≡◌, ◌≢◌, ◌⊎◌, length, pos
 ghost use Rattle.{
   tz_info.specs.Zones.{IsTypeRefused, Zone},
   zoned_ffi.specs.{Columns.{AreAnswered, IsFirstWithout}, Handles.{IsLent, IsNoneLent, IsUnanswered}},
-  zoned_ffi.specs.{Fields.{AreFieldsAt, AreNoFieldsAt}, Instants.{AreOffsetsAt, IsWrittenOffsetAt}},
+  zoned_ffi.specs.{Fields.{AreFieldsAt, AreNoFieldsAt}, WrittenTypes.{AreOffsetsAt, IsWrittenOffsetAt}},
   zoned_ffi.specs.{Units.{per_second, IsUnit}, WallClocks.{AreWallClocks, IsWallClockAt}},
   zoned_ffi.specs.{WrittenSpans.{IsWrittenSpanAt}, WrittenTypes.{AreWrittenTypesAt, IsWrittenTypeAt}},
 };

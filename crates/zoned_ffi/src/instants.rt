@@ -1,7 +1,7 @@
 //! The offsets at instants.
 
 ghost use Rattle.std.specs.Prelude.{◌≡◌, length};
-ghost use Rattle.zoned_ffi.specs.Instants.{AreOffsetsAt, IsWrittenOffsetAt};
+ghost use Rattle.zoned_ffi.specs.WrittenTypes.{AreOffsetsAt, IsWrittenOffsetAt};
 
 use tz_info::{Lookups, TimeZone};
 

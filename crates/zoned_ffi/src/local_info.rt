@@ -5,7 +5,7 @@ ghost use Rattle.std.specs.Prelude.{◌≡◌, ◌<ℤ◌, ◌+ℤ◌, ◌-ℤ�
 ghost use Rattle.{
   naive_base.specs.{NaiveDateTime.{reading}, Range.{IsInRange}},
   tz_info.specs.{WallClocks.{Shows}, Zones.{TypeAt}},
-  zoned_ffi.specs.{LocalInfos.{IsLocalInfo}, WrittenSpans.{IsWrittenSpanAt}},
+  zoned_ffi.specs.{WrittenSpans.{IsLocalInfo}, WrittenSpans.{IsWrittenSpanAt}},
 };
 
 use crate::local_result::{NEVER, ONCE, SEVERAL_TIMES};

@@ -4,7 +4,7 @@ ghost use Rattle.std.specs.{Arc.{arc_value}, Prelude.{◌≡◌, ◌≢◌, ◌�
 ghost use Rattle.{
   tz_base.specs.LocalTypes.{IsUtOffset},
   tz_info.specs.Zones.{plain_zone, Zone},
-  zoned_ffi.specs.{Handles.{IsClosed, IsLent, IsNoneLent, IsOpen}, Kinds.{IsZoneOf}, Limits.{IsAboveLimits}},
+  zoned_ffi.specs.{Handles.{IsClosed, IsLent, IsNoneLent, IsOpen}, Kinds.{IsZoneOf}, Kinds.{IsAboveLimits}},
   zoned_ffi.specs.Refusals.{refusal_number, IsErrorOfKind},
 };
 

@@ -4,7 +4,7 @@ ghost use Rattle.std.specs.Prelude.{◌≡◌, ◌≢◌, ◌⊎◌, length, str
 ghost use Rattle.{
   tz_base.specs.Errors.{IsOutOfMemory},
   tz_info.specs.Zones.{Zone},
-  zoned_ffi.specs.{Handles.{IsLent, IsNoneLent}, RuleStrings.{IsRuleString}, Texts.{written_over}},
+  zoned_ffi.specs.{Handles.{IsLent, IsNoneLent}, Texts.{IsRuleString}, Texts.{written_over}},
 };
 
 use crate::lent::Lent;

@@ -4,7 +4,7 @@
 ghost use Rattle.std.specs.Prelude.{◌≡◌, ◌≢◌, ◌⊎◌};
 ghost use Rattle.{
   tz_info.specs.Zones.{IsTypeRefused, Zone},
-  zoned_ffi.specs.{Handles.{IsLent, IsNoneLent}, WrittenSavings.{written_saving, IsWrittenSavingAt}},
+  zoned_ffi.specs.{Handles.{IsLent, IsNoneLent}, WrittenTypes.{written_saving, IsWrittenSavingAt}},
 };
 
 use crate::lent::Lent;

@@ -1,5 +1,5 @@
 -- When clocks show certain local times: by the types in force as by their offsets.
-use Rattle.tz_info.{proofs.Words.{AreEndsWithin, IsFirstAtOrAfter, IsNeverWithin, ShowsWithin}, specs.Reached.{IsLastReached}}
+use Rattle.tz_info.{proofs.Words.{AreEndsWithin, IsFirstAtOrAfter, IsNeverWithin, ShowsWithin}, specs.ShownSeconds.{IsLastReached}}
 use Rattle.zoned_time.proofs.Words.{HasReached, IsFirstToReach, IsFirstSecondOutOfRange, IsZonedFirst, IsOffsetStretch, IsOnDay, IsWideDay, ◌<ℤ◌}
 use Rattle.zoned_ref.proofs.Words.{AreEndsOfDay, AreOffsetsOf, IsNarrow, IsNeverOnDay, IsAt, IsInRange, IsReachedAt, IsWithinDay, Law, MatchOption, Meaning}
 use Rattle.zoned_ref.proofs.Words.{None, Option, Some, Zoned, of_secs, refl, IsWide, IsZoneSecond, LocalType, ShownSeconds, TypeAt, Zone, ap}

@@ -1,11 +1,8 @@
 pub mod Instants
-pub mod KeepError
 pub mod KeptZone
-pub mod OpenError
 pub mod OffsetAt
 pub mod Offsets
 pub mod Steps
 pub mod TimeZoneRef
-pub mod WallClock
 pub mod ZoneChange
 pub mod ZoneOffset

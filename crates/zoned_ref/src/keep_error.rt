@@ -1,6 +1,6 @@
 //! Why a zone isn't kept.
 ghost use Rattle.std.specs.Prelude.{◌≡◌};
-ghost use Rattle.zoned_ref.specs.{KeepError.{given_back}, OpenError.{reason_of}};
+ghost use Rattle.zoned_ref.specs.{KeptZone.{given_back}, KeptZone.{reason_of}};
 
 use thiserror::Error;
 use tz_info::TimeZone;

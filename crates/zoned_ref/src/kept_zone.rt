@@ -2,8 +2,8 @@
 ghost use Rattle.std.specs.Prelude.{◌≡◌, IfErr, IfOk, MatchResult};
 ghost use Rattle.{
   tz_info.specs.{TzFiles.{IsTzFile}, Zones.{IsValid, Zone}},
-  zoned_ref.specs.{KeepError.{IsRefused}, KeptZone.{off_of, zone_of}, Offsets.{AreOffsetsOf, IsNarrow}},
-  zoned_ref.specs.OpenError.{IsNotOpened},
+  zoned_ref.specs.{KeptZone.{IsRefused}, KeptZone.{off_of, zone_of}, Offsets.{AreOffsetsOf, IsNarrow}},
+  zoned_ref.specs.KeptZone.{IsNotOpened},
 };
 ghost use Rattle.zoned_ref.specs.TimeZoneRef as borrowed;
 

@@ -34,7 +34,7 @@ pub struct WallClock {
 }
 
 impl WallClock {
-    ghost use Rattle.zoned_ref.specs.WallClock.{IsWallClockOf};
+    ghost use Rattle.zoned_ref.specs.Instants.{IsWallClockOf};
 
     /// Returns when the clocks of a TZif file's zone show a local time. The probes that find the
     /// types are counted, as by [`WallClock::in_zone`].

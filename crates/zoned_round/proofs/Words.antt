@@ -5,7 +5,7 @@ pub use Rattle.naive_base.proofs.Words.{moved, of_total, total, unsigned_abs, �
 pub use Rattle.zoned_time.proofs.Words.{IsInRange, Reading, ap, arith, by_lt_z, floor_div, floors, inl, inr, ints, neg_ℤ, pos, reading, w64, ℕ, ℤ, ◌*ℤ◌, ◌+ℤ◌}
 pub use Rattle.zoned_time.proofs.Words.{◌-ℤ◌, ◌<ℤ◌, ◌∙◌, ◌≡◌, ◌≤ℤ◌, ◌⊎◌}
 pub use Rattle.zoned_round.specs.Durations.{IsGone}
-pub use Rattle.zoned_round.specs.Errors.{IsRoundingFault}
+pub use Rattle.zoned_round.specs.Durations.{IsRoundingFault}
 pub use Rattle.zoned_round.specs.Laws.{IsGreatestWith, IsLeastWith, IsMultiple, apart}
 pub use Rattle.zoned_round.specs.Multiples.{IsItselfOr, multiple_above, multiple_below, nearest_multiple}
 pub use Rattle.zoned_round.specs.Subseconds.{nanos_per_digit, rounded}

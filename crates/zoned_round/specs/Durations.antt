@@ -1,7 +1,20 @@
--- Values rounded to multiples of a length of time.
-use Rattle.std.specs.{Prelude.{◌≡◌, ℕ, ℤ, pos, ◌-ℤ◌, ◌<ℤ◌, unsigned_abs, FitsSigned, Result, Ok, Err}, Int.{w64}}
+-- Values rounded to multiples of a length of time, why one is not, and what the reasons print.
+use Rattle.std.specs.{Prelude.{◌≡◌, ℕ, ℤ, pos, ◌-ℤ◌, ◌<ℤ◌, unsigned_abs, FitsSigned, Result, Ok, Err, List, codes}, Int.{w64}}
 use Rattle.naive_base.specs.{declared.datetime.NaiveDateTime.{NaiveDateTime}, NaiveDateTime.{reading}, Reading.{moved}}
-use Rattle.zoned_round.specs.{declared.error.RoundingError.{RoundingError}, Errors.{IsRoundingFault}, Multiples.{IsItselfOr}}
+use Rattle.zoned_round.specs.{declared.error.RoundingError.{RoundingError}, Multiples.{IsItselfOr}}
+use Rattle.zoned_round.specs.declared.error.RoundingError.TheVariants.{DurationExceedsTimestamp, DurationExceedsLimit, TimestampExceedsLimit}
+
+-- The span's fault comes first, the stamp's only if the span has none.
+abbrev pub IsRoundingFault : Type 0 → Type 0 → RoundingError → Type 0
+IsRoundingFault span_fits stamp_fits DurationExceedsLimit = span_fits → ⊥
+IsRoundingFault span_fits stamp_fits TimestampExceedsLimit = span_fits × (stamp_fits → ⊥)
+IsRoundingFault span_fits stamp_fits DurationExceedsTimestamp = ⊥
+
+-- what each error prints
+abbrev pub message : RoundingError → List ℕ
+message DurationExceedsTimestamp = codes "duration in nanoseconds exceeds timestamp"
+message DurationExceedsLimit = codes "duration exceeds num_nanoseconds limit"
+message TimestampExceedsLimit = codes "timestamp exceeds num_nanoseconds limit"
 
 -- a span in nanoseconds
 abbrev pub IsRoundingLength : ℤ → Type 0

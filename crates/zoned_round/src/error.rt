@@ -1,6 +1,6 @@
 //! Why a value is not rounded.
 ghost use Rattle.std.specs.Prelude.{Some};
-ghost use Rattle.zoned_round.specs.Errors.{message};
+ghost use Rattle.zoned_round.specs.Durations.{message};
 
 use std::fmt;
 use thiserror::Error;

@@ -1,3 +1,1 @@
-pub mod DailySeries
-pub mod Numbers
 pub mod Series

@@ -1,9 +1,11 @@
 -- A time of day on each day from a first one on, by the clocks of a zone, under a choice for gaps and folds.
 use Rattle.std.specs.Prelude.{◌≡◌, ℕ, ◌+◌, ◌-◌, ◌<◌, ◌≤◌, ℤ, pos, ◌+ℤ◌, ◌≤ℤ◌, Option, MatchOption, Result, MatchResult}
-use Rattle.offset_core.specs.declared.{choice.Choice.{Choice}, resolve_error.ResolveError.{ResolveError}}
-use Rattle.naive_base.specs.{Range.{IsDayInRange}, Reading.{Reading, reading_at}}
+use Rattle.offset_core.specs.{declared.choice.Choice.{Choice}, declared.resolve_error.ResolveError.{ResolveError}}
+use Rattle.offset_core.specs.ResolveNumbers.{resolve_error_number as number_within}
+use Rattle.naive_base.specs.{Range.{IsDayInRange}, Reading.{Reading, reading_at}, NaiveDate.{day_of}, NaiveTime.{second_of, fraction_of}}
 use Rattle.zoned_time.specs.{Choice.{IsResolved, IsUnresolved}, Zone.{Meaning, Law}, Zoned.{Zoned}}
-use Rattle.zoned_series.specs.declared.series_error.SeriesError.{SeriesError, TheVariants.{Date, Resolve}}
+use Rattle.zoned_series.specs.{declared.series_error.SeriesError.{SeriesError}, declared.series_error.SeriesError.TheVariants.{Date, Resolve}}
+use Rattle.zoned_series.specs.{declared.items.DailyItems.{DailyItems}, declared.series.DailySeries.{DailySeries}}
 
 -- days are day numbers, counted from 1970-01-01; second and fraction are those of the time of day
 pub record Series (Z : Type 0) : Type 0 where
@@ -56,3 +58,16 @@ GivesBack law zoned before answer after = MatchOption answer
     ((before.end ≤ before.next) × (after ≡ before))
     (λ item. (before.next < before.end) × IsItemOrError law zoned before.series (before.end - 1) item
     × (after ≡ record before { end = before.end - 1 }))
+
+-- the number of an error of a series
+abbrev pub series_error_number : SeriesError → ℕ
+series_error_number Date = 24
+series_error_number (Resolve cause) = number_within cause
+
+-- the series that a `DailySeries` shows: its zone, first day, time of day and choice
+abbrev pub series_of : {Z : Type 0} → DailySeries Z → Series Z
+series_of s = record { zone = s.zone; first = day_of s.first; second = second_of s.time; fraction = fraction_of s.time; choice = s.choice }
+
+-- the items of a series that a `DailyItems` has left
+abbrev pub items_of : {Z : Type 0} → DailyItems Z → Items Z
+items_of i = record { series = series_of i.series; next = i.next; end = i.end }

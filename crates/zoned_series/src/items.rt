@@ -1,7 +1,7 @@
 //! The days of a series, one after another.
 ghost use Rattle.std.specs.{Iterator.{at_most, UpTo, SizeHint.{IsWithinCount}}, Prelude.{◌≡◌, ◌-◌, IfSome}};
 ghost use Rattle.{
-  zoned_series.specs.{DailySeries.{items_of, series_of}, Series.{GivesBack, GivesNext}},
+  zoned_series.specs.{Series.{items_of, series_of}, Series.{GivesBack, GivesNext}},
   zoned_time.specs.DateTime.{zoned},
 };
 

@@ -1,7 +1,7 @@
 //! Theorems: each function is empty, its contract is proved; never called.
 ghost use Rattle.std.specs.{Iterator.{at_most}, Prelude.{◌≡◌, ◌↔◌, ◌≤◌, ◌-◌, ◌+ℤ◌, pos, IsTrue, ℕ, ℤ}};
 ghost use Rattle.{
-  zoned_series.specs.{DailySeries.{items_of, series_of}, Series.{IsItem, IsMissing, IsPlannedOn, Series}},
+  zoned_series.specs.{Series.{items_of, series_of}, Series.{IsItem, IsMissing, IsPlannedOn, Series}},
   zoned_time.specs.Zoned.{in_seconds, Zoned},
 };
 

@@ -3,7 +3,7 @@ ghost use Rattle.std.specs.Prelude.{◌≡◌};
 ghost use Rattle.{
   naive_base.specs.{NaiveDate.{day_of}, NaiveDateTime.{reading}, NaiveTime.{second_of}, Reading.{reading_at}},
   naive_plans.specs.DayPlans.{IsPlannedOnItsDay},
-  zoned_series.specs.{DailySeries.{series_of}, Series.{IsPlannedOn}},
+  zoned_series.specs.{Series.{series_of}, Series.{IsPlannedOn}},
 };
 
 use crate::DailySeries;

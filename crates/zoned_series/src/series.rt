@@ -2,7 +2,7 @@
 ghost use Rattle.std.specs.Prelude.{◌≡◌, ◌+ℤ◌, pos, MatchResult};
 ghost use Rattle.{
   naive_base.specs.{NaiveDate.{day_of, IsDateOfDay}, NaiveTime.{fraction_of, second_of}},
-  zoned_series.specs.{DailySeries.{items_of, series_of}, Series.{IsItem, IsMissing}},
+  zoned_series.specs.{Series.{items_of, series_of}, Series.{IsItem, IsMissing}},
   zoned_time.specs.DateTime.{zoned},
 };
 

@@ -1,6 +1,6 @@
 //! Why a day has no instant of a series.
 ghost use Rattle.std.specs.Prelude.{◌≡◌};
-ghost use Rattle.zoned_series.specs.Numbers.{series_error_number};
+ghost use Rattle.zoned_series.specs.Series.{series_error_number};
 
 use thiserror::Error;
 use zoned_time::ResolveError;

@@ -1,11 +1,15 @@
--- What a `DateTime` shows.
-use Rattle.std.specs.declared.fmt.Debug as debug
-use Rattle.zoned_time.specs.declared.offset.Offset as offset
-use Rattle.std.specs.Prelude.{ℕ, ◌<◌, ◌≡◌, ℤ, pos, Option, Some, option_map}
+-- What a `DateTime` shows, and the order of instants: that of their date-times in UTC.
+use Rattle.std.specs.{Prelude.{ℕ, ◌<◌, ◌≡◌, ℤ, pos, Option, Some, option_map}, declared.cmp.Ordering.{Ordering}, Ordering.{on, int_cmp, nat_cmp, then_cmp}}
 use Rattle.naive_base.specs.{Fields.{TimeOfDay, IsMonthsLater, IsDaysLater, reading_on}, Range.{IsInRange}}
 use Rattle.naive_base.specs.Reading.{Reading, reading_at, day_at, second_at, moved}
-use Rattle.zoned_time.specs.{declared.datetime.Instant.{Instant}, Fields.{IsOnlyWhere}, Zone.{Meaning, Law, home_law, IsOffsetAt}}
+use Rattle.zoned_time.specs.{declared.datetime.Instant.{Instant}, Relocal.{IsOnlyWhere}, Zone.{Meaning, Law, home_law, IsOffsetAt}}
 use Rattle.zoned_time.specs.Zoned.{Zoned, shown, local_of, IsAt}
+use Rattle.std.specs.declared.fmt.Debug as debug
+use Rattle.zoned_time.specs.declared.offset.Offset as offset
+
+-- the order of date-times: by the second, then by the nanoseconds
+abbrev pub compared : Reading → Reading → Ordering
+compared = then_cmp (on (λ r. r.s) int_cmp) (on (λ r. r.f) nat_cmp)
 
 -- the instant's date-time in UTC, and its offset
 abbrev pub zoned : {Tz O : Type 0} {f : offset.Ghosts O} {g : debug.Ghosts O} → Instant Tz O f g → Zoned O

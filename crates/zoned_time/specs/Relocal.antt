@@ -1,6 +1,7 @@
--- Local date-times converted to UTC.
-use Rattle.std.specs.Prelude.{◌≡◌, ℤ, SomeIff}
-use Rattle.offset_core.specs.{declared.local_result.LocalResult.{LocalResult, TheVariants.{Single, Ambiguous, None}}, LocalResult.{IsAndThen}}
+-- Local date-times converted to UTC, and the only instant that shows one.
+use Rattle.std.specs.Prelude.{◌≡◌, ℤ, SomeIff, Option, Some, None}
+use Rattle.offset_core.specs.{declared.local_result.LocalResult.{LocalResult}, declared.local_result.LocalResult.TheVariants.{Single, Ambiguous, None}}
+use Rattle.offset_core.specs.LocalResult.{IsAndThen, single_of}
 use Rattle.naive_base.specs.{Range.{IsInRange}, Reading.{Reading, behind}}
 use Rattle.zoned_time.specs.{Zone.{Meaning, Law, AreOffsetsFor}, Zoned.{Zoned}}
 
@@ -28,3 +29,14 @@ abbrev pub SingleIff : {T : Type 0} → LocalResult T → Type 0 → T → Type 
 SingleIff (Single a) p v = p × (a ≡ v)
 SingleIff (Ambiguous a b) p v = ⊥
 SingleIff None p v = p → ⊥
+
+-- the only instant at which the clocks of a zone show l
+pub record IsOnly {O : Type 0} {m : Meaning O} (law : Law m) (l : Reading) (answer : Option (Zoned O)) : Type 0 where
+  pub instants : LocalResult (Zoned O)
+  pub relocal : IsRelocal law l instants
+  pub only : answer ≡ single_of instants
+
+-- the only instant of a local date-time, if there is such a date-time
+abbrev pub IsOnlyWhere : {O : Type 0} {m : Meaning O} → Law m → Option Reading → Option (Zoned O) → Type 0
+IsOnlyWhere law (Some l) answer = IsOnly law l answer
+IsOnlyWhere law None answer = answer ≡ None

@@ -1,7 +1,7 @@
 -- Lawful zones: the offsets of a zone, and what its clocks show. Seconds count from 1970-01-01 00:00:00.
-use Rattle.std.specs.Prelude.{◌≡◌, ◌↔◌, ℤ, pos, neg_ℤ, ◌+ℤ◌, ◌-ℤ◌, ◌*ℤ◌, ◌≤ℤ◌}
-use Rattle.offset_core.specs.{declared.local_result.LocalResult.{LocalResult, TheVariants.{Single, Ambiguous, None}}, LocalResult.{map_of}}
-use Rattle.offset_core.specs.WallAnswer.{IsWallAnswer}
+use Rattle.std.specs.Prelude.{◌≡◌, ◌↔◌, ℤ, pos, neg_ℤ, ◌+ℤ◌, ◌-ℤ◌, ◌*ℤ◌, ◌≤ℤ◌, ◌<ℤ◌}
+use Rattle.offset_core.specs.{declared.local_result.LocalResult.{LocalResult}, declared.local_result.LocalResult.TheVariants.{Single, Ambiguous, None}}
+use Rattle.offset_core.specs.{LocalResult.{map_of}, WallAnswer.{IsWallAnswer}}
 use Rattle.naive_base.specs.{declared.date.NaiveDate.{NaiveDate}, NaiveDate.{day_of}}
 
 -- the seconds at which a zone has an offset: the range of date-times, widened by two days each way
@@ -81,3 +81,17 @@ pub record AreOffsetsFor {O : Type 0} {m : Meaning O} (law : Law m) (l : ℤ) (o
   pub wall : IsWallAnswer (ShowsByOffset law.off l) (map_of m.seconds offsets)
   pub in_force : Each (λ o. law.in_force (l -ℤ m.seconds o) o) offsets
   pub same_home : Each (λ o. SameLaw (home_law m o) law) offsets
+
+-- the second s lies in the stretch from `from` to before `until`, and the zone has this offset at each second of it
+pub record IsOffsetStretch (off : ℤ → ℤ) (s from until offset : ℤ) : Type 0 where
+  pub not_before : from ≤ℤ s
+  pub before : s <ℤ until
+  pub same : (u : ℤ) → IsZoneSecond u → from ≤ℤ u → u <ℤ until → off u ≡ offset
+
+-- l is the last local time that clocks have shown up to the second t, at seconds at which zones have offsets
+pub record IsReachedAt (off : ℤ → ℤ) (t l : ℤ) : Type 0 where
+  pub at : ℤ
+  pub in_zone : IsZoneSecond at
+  pub not_after : at ≤ℤ t
+  pub shown : (at +ℤ off at) ≡ l
+  pub last : (u : ℤ) → IsZoneSecond u → u ≤ℤ t → (u +ℤ off u) ≤ℤ l

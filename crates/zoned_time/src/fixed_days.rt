@@ -2,7 +2,7 @@
 ghost use Rattle.std.specs.Prelude.{◌≡◌, ◌+ℤ◌};
 ghost use Rattle.{
   naive_base.specs.{NaiveDate.{day_of}, NaiveDateTime.{reading}},
-  zoned_time.specs.{Days.{AreEndsOfDay, IsFirstToReach}, Stretches.{IsOffsetStretch}, Zone.{IsFixed}},
+  zoned_time.specs.{Days.{AreEndsOfDay, IsFirstToReach}, Zone.{IsOffsetStretch}, Zone.{IsFixed}},
 };
 
 use crate::{Offset, OffsetStretch, ShownDay, TimeZone, Utc, ZoneDays};

@@ -10,7 +10,7 @@ ghost use Rattle.{
   naive_base.specs.{Reading.{of_total, total, IsEarlier, Reading}, Stamp.{of_secs, IsStamp}},
   offset_core.specs.{FixedOffset.{seconds_of}, LocalResult.{map_of}},
   zoned_time.specs.Choice.{IsBeforeGap, IsResolved, IsUnresolved},
-  zoned_time.specs.{DateTime.{home_law_of, zoned, IsIn, IsOnlyAtTime, IsOnlyOnDay}, Order.{compared}},
+  zoned_time.specs.{DateTime.{home_law_of, zoned, IsIn, IsOnlyAtTime, IsOnlyOnDay}, DateTime.{compared}},
   zoned_time.specs.Relocal.{instant_of, HasInstant, IsRelocal, SingleIff},
   zoned_time.specs.Stamps.{in_utc, micros_of, millis_of, of_micros, of_millis},
   zoned_time.specs.Zone.{seconds_alone, Each, SameLaw, SameOffsets},

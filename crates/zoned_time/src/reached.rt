@@ -3,7 +3,7 @@ ghost use Rattle.std.specs.Prelude.{◌≡◌, ◌↔◌, ◌<ℤ◌, ◌≤ℤ�
 ghost use Rattle.{
   naive_base.specs.{NaiveDateTime.{reading}, Range.{IsInRange}},
   offset_core.specs.Offset.{IsWithinDay},
-  zoned_time.specs.{Reached.{IsReachedAt}, Steps.Passed.{HasPassed}},
+  zoned_time.specs.{Zone.{IsReachedAt}, Steps.Passed.{HasPassed}},
 };
 
 use crate::ZoneDays;

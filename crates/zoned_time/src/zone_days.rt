@@ -6,8 +6,8 @@ ghost use Rattle.{
   naive_plans.specs.ClockSteps.{BeginsStep},
   offset_core.specs.{Offset.{IsWithinDay}, TimeDelta.{nanos_of}},
   zoned_time.specs.{DateTime.{zoned}, Fires.{IsFire}, Policies.{IsFireBy}},
-  zoned_time.specs.{Nearest.{IsZonedLastOf, IsZonedNextOf, NoneAfter, NoneUntil}, Reached.{IsReachedAt}},
-  zoned_time.specs.{Stretches.{IsOffsetStretch}, Zoned.{IsAt}},
+  zoned_time.specs.{Nearest.{IsZonedLastOf, IsZonedNextOf, NoneAfter, NoneUntil}, Zone.{IsReachedAt}},
+  zoned_time.specs.{Zone.{IsOffsetStretch}, Zoned.{IsAt}},
 };
 ghost use Rattle.zoned_time.specs.Days as instants;
 ghost use Rattle.zoned_time.specs.DayEnds as ends;

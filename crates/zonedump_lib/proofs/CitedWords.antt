@@ -13,6 +13,6 @@ pub use Rattle.tz_info.specs.declared.zone.lists.leap_second.LeapSecond.{LeapSec
 pub use Rattle.zonedump_lib.specs.{ChangeLines.{change_lines, change_text, ended_line}, ChangeValues.{change_value, name_value, type_value}}
 pub use Rattle.zonedump_lib.specs.{DifferenceForms.{difference_lines, difference_value, differences_value, lone_value}, JsonSteps.{Puts}}
 pub use Rattle.zonedump_lib.specs.{JsonValues.{leap_value, rule_value, zone_value}, Periods.{IsPeriod, bound_value, first_second, second_after}}
-pub use Rattle.zonedump_lib.specs.{Spans.{IsInYears, IsNearYears}, declared.period.Bound.{Bound}}
+pub use Rattle.zonedump_lib.specs.{Periods.{IsInYears, IsNearYears}, declared.period.Bound.{Bound}}
 pub use Rattle.zonedump_lib.specs.{Tables.{counts_text, head_text, leap_lines, leap_text, rule_text, period_text}, ZdumpLines.{pair_lines, second_text}}
 unfoldable pub use Rattle.tz_info.proofs.Words.{changes_left}

@@ -2,7 +2,7 @@
 use Rattle.std.specs.{Prelude.{ℕ, ℤ, ◌-ℤ◌, int_lt, unsigned_abs, List, [], ◌∷◌, map, Option, Some, None, codes, decimal, if◌then◌else◌}, Fmt.{signed_decimal}}
 use Rattle.json.specs.{Json.{Json, null, boolean, number, string, array, object, Members, no_members, member}, Value.{items_of}}
 use Rattle.tz_base.specs.{LocalTypes.{LocalType}, declared.change.Change.{Change}}
-use Rattle.zonedump_lib.specs.Clocks.{clock_words}
+use Rattle.zonedump_lib.specs.Words.{clock_words}
 
 abbrev pub members_from : List (List ℕ × Json) → Members
 members_from [] = no_members

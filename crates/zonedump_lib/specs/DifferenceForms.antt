@@ -2,7 +2,7 @@
 use Rattle.std.specs.{Prelude.{◌≡◌, ℕ, ℤ, ◌-ℤ◌, List, [], ◌∷◌, ◌++◌, Some, codes}, Fmt.{signed_decimal}, List.{flat_map}}
 use Rattle.json.specs.{Json.{Json, number, string, document}, Print.{print}, Tree.{json_tokens}}
 use Rattle.tz_info.specs.{Differences.{AreDifferences}, Zones.{Zone, TypeAt}, declared.zone.ask.differences.Difference.{Difference}}
-use Rattle.zonedump_lib.specs.{ChangeLines.{ended_line}, ChangeValues.{fields, list_value, type_value}, Clocks.{clock_words}}
+use Rattle.zonedump_lib.specs.{ChangeLines.{ended_line}, ChangeValues.{fields, list_value, type_value}, Words.{clock_words}}
 use Rattle.zonedump_lib.specs.{Periods.{bound_value, first_second, second_after}, Words.{type_words}, declared.period.Bound.{Bound}}
 
 -- the differences of two zones from the first second of a period to its last one in UTC

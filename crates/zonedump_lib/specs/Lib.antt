@@ -1,7 +1,5 @@
-pub mod Clocks
 pub mod JsonSteps
 pub mod ChangeValues
-pub mod Spans
 pub mod Periods
 pub mod Words
 pub mod ChangeLines
@@ -11,4 +9,3 @@ pub mod DifferenceForms
 pub mod RuleWords
 pub mod JsonValues
 pub mod Tables
-pub mod Zdump

@@ -1,9 +1,25 @@
 -- Periods of UTC, from a year or a day to another.
 use Rattle.std.specs.Prelude.{ℕ, ℤ, pos, neg_ℤ, ◌≤ℤ◌, ◌<ℤ◌, ◌+ℤ◌, ◌*ℤ◌, List, decimal}
 use Rattle.json.specs.Json.{Json, number, string}
-use Rattle.naive_base.specs.NaiveDate.{day_of, printed_date}
-use Rattle.zonedump_lib.specs.{Spans.{year_second, year_until}, declared.period.Bound.{Bound}}
+use Rattle.naive_base.specs.{NaiveDate.{day_of, printed_date}, Year.{year_start}}
+use Rattle.zonedump_lib.specs.declared.period.Bound.{Bound}
 use Rattle.zonedump_lib.specs.declared.period.Bound.TheVariants as bounds
+
+-- the second of Unix time at which the year begins in UTC
+abbrev pub year_second : ℤ → ℤ
+year_second year = year_start year *ℤ pos 86_400
+
+-- the first second after the year
+abbrev pub year_until : ℤ → ℤ
+year_until year = year_second (year +ℤ pos 1)
+
+-- a second of the years 1 to 9999, or near them
+abbrev pub IsNearYears : ℤ → Type 0
+IsNearYears at = (neg_ℤ (pos 70_000_000_000) ≤ℤ at) × (at ≤ℤ pos 260_000_000_000)
+
+-- a second of the years 1 to 9999, or the first one after them
+abbrev pub IsInYears : ℤ → Type 0
+IsInYears at = (neg_ℤ (pos 62_135_596_800) ≤ℤ at) × (at ≤ℤ pos 253_402_300_800)
 
 -- the second of Unix time at which the day of that number begins in UTC
 abbrev pub day_second : ℤ → ℤ

@@ -1,10 +1,11 @@
--- What `zdump -v` of the tz code prints of changes: a pair of lines for each, the second before it and its own.
-use Rattle.std.specs.{Prelude.{ℕ, ◌==◌, nat_lt, ℤ, pos, ◌-ℤ◌, List, ◌++◌, Bool, true, false, codes, decimal, if◌then◌else◌}, Fmt.{signed_decimal}}
+-- What `zdump -v` of the tz code prints of a zone in a period: a pair of lines for each change, the second before it and its own.
+use Rattle.std.specs.{Prelude.{ℕ, ◌==◌, nat_lt, ℤ, pos, ◌-ℤ◌, List, ◌++◌, Bool, true, false, codes, decimal, if◌then◌else◌, ◌≡◌, ◌+ℤ◌}, Fmt.{signed_decimal}}
 use Rattle.std.specs.List.{flat_map}
 use Rattle.naive_base.specs.{DateOf.{year_of, month_of, day_of_month}, Reading.{Reading, ahead, day_at, second_at}, Stamp.{of_secs}, Text.{time_text}}
 use Rattle.naive_base.specs.Weekday.{weekday_of}
 use Rattle.tz_base.specs.{LocalTypes.{LocalType}, declared.change.Change.{Change}}
-use Rattle.zonedump_lib.specs.{ChangeLines.{ended_line}, Words.{name_words}}
+use Rattle.zonedump_lib.specs.{ChangeLines.{ended_line}, Words.{name_words}, Periods.{first_second, second_after}, declared.period.Bound.{Bound}}
+use Rattle.tz_info.specs.{Changes.{AreChanges}, Zones.{Zone, TypeAt}}
 
 -- a weekday in three letters, 0 for Sunday
 unfoldable pub short_weekday : ℕ → List ℕ
@@ -69,3 +70,11 @@ last_lines name = null_line name (codes "9223372036854689407") ++ null_line name
 -- the lines of some changes of a zone: those of the first seconds of 64 bits, a pair for each change, those of the last ones
 abbrev pub zdump_text : List ℕ → List Change → List ℕ
 zdump_text name changes = first_lines name ++ flat_map (pair_lines name) changes ++ last_lines name
+
+-- the lines of the zone: the pairs are exactly the changes after the first second of the period, up to the first second after
+-- it, in order
+abbrev pub IsZdump : List ℕ → Zone → Bound → Bound → List ℕ → Type 0
+IsZdump name zone first last text =
+    (changes : List Change)
+    × AreChanges (TypeAt zone) (first_second first +ℤ pos 1) (second_after last +ℤ pos 1) changes
+    × (text ≡ zdump_text name changes)

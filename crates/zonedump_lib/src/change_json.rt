@@ -4,7 +4,7 @@
 ghost use Rattle.std.specs.{Fmt.{signed_decimal}, Prelude.{◌≡◌, ◌-ℤ◌, ◌∷◌, [], codes, decimal, flat_map, unsigned_abs}};
 ghost use Rattle.{
   json.specs.{Token.{key, number, string}, Tree.{json_tokens}},
-  zonedump_lib.specs.{ChangeValues.{change_value, list_value, name_value, step_name, type_value}, Clocks.{clock_words}},
+  zonedump_lib.specs.{ChangeValues.{change_value, list_value, name_value, step_name, type_value}, Words.{clock_words}},
   zonedump_lib.specs.JsonSteps.{Puts},
 };
 

@@ -3,7 +3,7 @@
 ghost use Rattle.std.specs.{Fmt.{signed_decimal}, Prelude.{◌≡◌, ◌-ℤ◌, ◌++◌, ◌∷◌, [], codes, string_bytes, OnOk, Some}};
 ghost use Rattle.{
   naive_base.specs.{NaiveDateTime.{reading}, Reading.{ahead}, Stamp.{of_secs}},
-  zonedump_lib.specs.{ChangeLines.{change_text}, Spans.{IsNearYears}, Steps.Sides.{side_of, sides_of}},
+  zonedump_lib.specs.{ChangeLines.{change_text}, Periods.{IsNearYears}, Steps.Sides.{side_of, sides_of}},
   zonedump_lib.specs.Words.{step_words},
 };
 

@@ -3,7 +3,7 @@
 ghost use Rattle.std.specs.Prelude.{◌≡◌, ◌+ℤ◌, pos, IfOk};
 ghost use Rattle.{
   tz_info.specs.{Changes.{AreChanges}, Zones.{TypeAt}},
-  zonedump_lib.specs.{Periods.{first_second, second_after}, Spans.{IsInYears}},
+  zonedump_lib.specs.{Periods.{first_second, second_after}, Periods.{IsInYears}},
 };
 
 use crate::period::Period;

@@ -3,7 +3,7 @@
 ghost use Rattle.std.specs.Prelude.{◌≡◌, false, true, MatchOption, Some};
 ghost use Rattle.{
   naive_base.specs.{NaiveDateTime.{printed_reading}, Stamp.{of_secs}, Text.{reading_text}},
-  zonedump_lib.specs.Clocks.{clock_words, is_shown},
+  zonedump_lib.specs.Words.{clock_words, is_shown},
 };
 
 use naive_base::NaiveDateTime;
@@ -21,7 +21,7 @@ pub struct Clock(pub i128);
 impl fmt::Display for Clock {
     ghost output = { λ clock. Some (clock_words clock.0) };
 
-    #[tactic(auto, unfolding(crate::specs::Clocks::clock_words))]
+    #[tactic(auto, unfolding(crate::specs::Words::clock_words))]
     fn fmt<W: fmt::Write>(&self, f: &mut fmt::Formatter<W>) -> fmt::Result {
         match reading_at(self.0) {
             Some(shown) => write!(f, "{shown}"),

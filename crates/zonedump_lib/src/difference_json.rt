@@ -6,7 +6,7 @@ ghost use Rattle.{
   json.specs.{Token.{key, number, string}, Tree.{json_tokens}},
   zonedump_lib.specs.ChangeValues.{list_value},
   zonedump_lib.specs.DifferenceForms.{IsDifferencesJson, IsLoneJson, difference_value, differences_value, lone_value},
-  zonedump_lib.specs.{Clocks.{clock_words}, JsonSteps.{Puts}},
+  zonedump_lib.specs.{Words.{clock_words}, JsonSteps.{Puts}},
 };
 
 use crate::change_json::{put_number, put_string, put_type};

@@ -3,7 +3,7 @@
 ghost use Rattle.std.specs.Prelude.{◌≡◌, MatchOption, Some};
 ghost use Rattle.{
   naive_base.specs.NaiveDate.{day_of},
-  zonedump_lib.specs.{Periods.{IsPeriod, bound_words, first_second, second_after}, Spans.{IsInYears, year_second}},
+  zonedump_lib.specs.{Periods.{IsPeriod, bound_words, first_second, second_after}, Periods.{IsInYears, year_second}},
 };
 
 use gregorian::year_start;

@@ -4,7 +4,7 @@ ghost use Rattle.std.specs.Fmt.{signed_decimal};
 ghost use Rattle.std.specs.Prelude.{◌≡◌, ◌-◌, ◌++◌, ◌∷◌, [], codes, length, string_bytes, All, IfOk, OnOk, Some};
 ghost use Rattle.{
   tz_info.specs.{Changes.{AreChanges}, ChangesLeft.{changes_left}, Zones.{TypeAt}},
-  zonedump_lib.specs.{ChangeLines.{change_lines}, Periods.{first_second, second_after}, Spans.{IsNearYears}},
+  zonedump_lib.specs.{ChangeLines.{change_lines}, Periods.{first_second, second_after}, Periods.{IsNearYears}},
   zonedump_lib.specs.Tables.{counts_text, head_text, leap_lines, leap_text, period_text, BeginsTable},
 };
 

@@ -3,8 +3,8 @@
 ghost use Rattle.std.specs.{List.{flat_map}, Prelude.{◌≡◌, ◌-ℤ◌, ◌++◌, [], codes, pos, string_bytes, All, IfOk, OnOk, Some}};
 ghost use Rattle.{
   naive_base.specs.{NaiveDateTime.{reading}, Reading.{day_at}},
-  zonedump_lib.specs.{ChangeLines.{ended_line}, Steps.Seconds.{clocks_of}, Zdump.{IsZdump}},
-  zonedump_lib.specs.Spans.{IsInYears, IsNearYears},
+  zonedump_lib.specs.{ChangeLines.{ended_line}, Steps.Seconds.{clocks_of}, ZdumpLines.{IsZdump}},
+  zonedump_lib.specs.Periods.{IsInYears, IsNearYears},
   zonedump_lib.specs.ZdumpLines.{zdump_day_text, zdump_text, asctime_text, first_lines, last_lines, null_line},
   zonedump_lib.specs.ZdumpLines.{pair_lines, second_text, short_day, short_month, short_weekday, type_fields},
 };

@@ -12,7 +12,7 @@ pub use Rattle.zoned_time.proofs.Words.{IsResolved, MatchResult, behind, by_lt_z
 pub use Rattle.zoned_ref.proofs.Words.{All-append, Bool, FitsSigned, IsInRange, IsRuleOrNone, IsTaken, IsValid, IsZoneSecond, List, LocalType, Reading, Zone}
 pub use Rattle.zoned_ref.proofs.Words.{Zoned, ap, arith, false, get_or, inl, inr, ints, law_of, length, of_secs, pos, refl, subst, suc, sym, to_z-of_z, true}
 pub use Rattle.zoned_ref.proofs.Words.{type_decided, w32, w64, wall_decided, zero, ℕ, ℤ, ◌++◌, ◌-ℤ◌, ◌<◌, ◌∙◌, ◌∷◌, ◌≡◌, ◌≢◌, ◌⊎◌, []}
-pub use Rattle.zoneq_lib.specs.{Answers.{AnswersLine, AnswersLines, AnswersQuery}, Lines.{HasNoNewline, IsSplit, ended_lines, without_return}}
+pub use Rattle.zoneq_lib.specs.{Answers.{AnswersLine, AnswersLines, AnswersQuery}, Runs.{HasNoNewline, IsSplit, ended_lines, without_return}}
 pub use Rattle.zoneq_lib.specs.{Questions.{Asks, IsBadLine, Query}, Runs.{Answers, StopsWith}, Steps.Blocks.{Answered, AnswersIn, StopsIn}}
 pub use Rattle.zoneq_lib.specs.{Steps.{Hopeless.{IsHopeless, IsKeptFor}, LastLine.{AnswersAtEnd, AnswersLast, StopsAtEnd}}, declared.bad_line.BadLine.{BadLine}}
 unfoldable pub use Rattle.tz_base.specs.Fronts.{int_at, optional_tag_at, tag_at}

@@ -3,7 +3,7 @@ use Rattle.zoneq_lib.proofs.CitedWords.{Answered, Answers, AnswersAtEnd, Answers
 use Rattle.zoneq_lib.proofs.CitedWords.{IsKeptFor, Keeps, List, MatchResult, None, Ok, OnOk, Option, Result, StopsAtEnd, StopsIn, StopsWith, Zone, append-nil}
 use Rattle.zoneq_lib.proofs.CitedWords.{append_assoc, arith, codes, drop, false, inl, inr, length, length-append, refl, sym, take, take-add, take-append-drop}
 use Rattle.zoneq_lib.proofs.{CitedWords.{true, without_return, ℕ, [], ◌++◌, ◌+◌, ◌<◌, ◌∷◌, ◌≡◌}, Covering.{answers_before, begins_answers}}
-use Rattle.zoneq_lib.{proofs.Joining.{answered_join, answered_line, answered_more, answers_all}, specs.Endings.{WritesUnlessFailed}}
+use Rattle.zoneq_lib.{proofs.Joining.{answered_join, answered_line, answered_more, answers_all}, specs.Runs.{WritesUnlessFailed}}
 use Rattle.zoneq_lib.specs.{Steps.{Replies.{Replies, StopsAt}, Sending.{IsSentOf}}, declared.run_error.RunError.{RunError}}
 use Rattle.std.proofs.KnownBytes.{Appends-kept, Appends-trans, Consumes-trans}
 use Rattle.zoneq_lib.specs.declared.run_error.RunError.TheVariants as errors

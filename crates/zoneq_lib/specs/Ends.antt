@@ -1,5 +1,13 @@
--- What a call on a reader or a writer shows of it.
+-- What a watched reader or writer shows, and a call on it.
 use Rattle.std.specs.Prelude.{ℕ, ◌==◌, ◌&&◌, Bool, true, false, nat_lt, Result, Ok, Err}
+
+-- a watched end: whether it failed or ended, whether something is unsent, and how many reads were made
+pub record Watch (T : Type 0) : Type 0 where
+  pub inner : T
+  pub failed : Bool
+  pub ended : Bool
+  pub unsent : Bool
+  pub reads : ℕ
 
 -- the call answered an error
 abbrev pub has_failed : {X E : Type 0} → Result X E → Bool

@@ -1,10 +1,6 @@
 pub mod Ends
-pub mod Watch
 pub mod Hex
 pub mod Questions
 pub mod Answers
-pub mod Lines
-pub mod Faults
-pub mod Endings
 pub mod Runs
 pub mod Steps

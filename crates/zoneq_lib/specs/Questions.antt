@@ -1,13 +1,13 @@
 -- What a line asks. The lines are one grammar: words are parted by exactly one space, and a text is all that follows the
 -- space after `text`.
-use Rattle.std.specs.{Prelude.{ℕ, ℤ, pos, neg_ℤ, ◌≤◌, ◌-◌, ◌^◌, Bool, true, false, List, [], ◌∷◌, codes}, Str.{IsUtf8, is_utf8}}
-use Rattle.std.proofs.lemmas.Str.{IsUtf8-from_is_utf8, is_utf8-from_IsUtf8}
+use Rattle.std.specs.{Prelude.{ℕ, ℤ, pos, neg_ℤ, ◌≤◌, ◌-◌, ◌^◌, Bool, true, false, List, [], ◌∷◌, codes}, Str.{IsUtf8}}
 use Rattle.offset_core.specs.declared.choice.{Choice.{Choice}, GapChoice.{GapChoice}, FoldChoice.{FoldChoice}}
 use Rattle.naive_base.specs.{Clock.{clock_second}, Date.{day_number}, Month.{days_in_month}, Reading.{Reading, reading_at}, Year.{is_leap}}
 use Rattle.tz_base.specs.Grammar.{Grammar, Nothing, Marked, Ended, End, Byte, Number, Rest, Refused, Check, ◌>>=◌, ◌>>◌, Spells}
-use Rattle.tz_base.specs.{Refusals.{Refusal, InvalidTzString}, Tests.{Test, at_most, between}, declared.error.Expected.TheVariants.{OtherBytes}}
+use Rattle.tz_base.specs.{Refusals.{Refusal, InvalidTzString}, declared.error.Expected.TheVariants.{OtherBytes}}
+use Rattle.tz_base.specs.Steps.{Comparisons.{at_most, between}, TextTests.{utf8_test}}
 use Rattle.tz_info.specs.TzGrammar.{minus, slash}
-use Rattle.zoneq_lib.specs.Hex.{SpellBytes, bytes_test, bytes_of}
+use Rattle.zoneq_lib.specs.{Hex.{SpellBytes, bytes_of}, Steps.HexTests.{bytes_test}}
 use Rattle.offset_core.specs.declared.choice.GapChoice.TheVariants as gaps
 use Rattle.offset_core.specs.declared.choice.FoldChoice.TheVariants as folds
 
@@ -112,9 +112,6 @@ choice = do
   Nothing (record { gap = in_gap; fold = in_fold })
 
 -- ---- what follows the first word of a line
-abbrev pub utf8_test : (bytes : List ℕ) → Test (IsUtf8 bytes)
-utf8_test bytes = record { passes = is_utf8 bytes; decides = (IsUtf8-from_is_utf8 bytes, is_utf8-from_IsUtf8 bytes) }
-
 unfoldable pub text_query : Grammar Query
 text_query = do
   bytes ← Rest

@@ -6,3 +6,4 @@ pub mod Replies
 pub mod Sending
 pub mod Hopeless
 pub mod LineReading
+pub mod HexTests

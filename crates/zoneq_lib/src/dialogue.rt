@@ -2,7 +2,7 @@
 
 ghost use Rattle.std.specs.Prelude.{◌≡◌, ◌<◌, ◌++◌, [], false, length, IfErr, OnErr, OnOk};
 ghost use Rattle.{
-  zoneq_lib.specs.Lines.{without_return, HasNoNewline},
+  zoneq_lib.specs.Runs.{without_return, HasNoNewline},
   zoneq_lib.specs.Steps.{LastLine.{AnswersAtEnd, StopsAtEnd}, Blocks.{AnswersIn, StopsIn}, Hopeless.{IsKeptFor}},
   zoneq_lib.specs.Steps.Replies.{Replies, StopsAt},
 };

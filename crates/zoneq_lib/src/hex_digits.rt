@@ -1,11 +1,11 @@
 //! Bytes in hex digits.
 
 ghost use Rattle.std.specs.Prelude.{◌≡◌};
-ghost use Rattle.zoneq_lib.specs.Hex.{spells_bytes};
+ghost use Rattle.zoneq_lib.specs.Steps.HexTests.{bytes_test};
 
 /// Returns whether these are hex digits of either case, two for each of some bytes.
 pub fn spell_bytes(digits: &[u8]) -> bool
-    ensures { result ≡ spells_bytes digits.now }
+    ensures { result ≡ (bytes_test digits.now).passes }
 {
     if digits.len() % 2 != 0 {
         return false;

@@ -1,7 +1,7 @@
 //! The ends of lines.
 
 ghost use Rattle.std.specs.Prelude.{◌≡◌, ◌∷◌, ◌++◌, MatchOption};
-ghost use Rattle.zoneq_lib.specs.Lines.{HasNoNewline, without_return};
+ghost use Rattle.zoneq_lib.specs.Runs.{HasNoNewline, without_return};
 
 /// Returns the bytes before the first newline and those after it, if there is a newline.
 pub fn split_line(bytes: &[u8]) -> Option<(&[u8], &[u8])>

@@ -1,7 +1,7 @@
 //! How a program ends after a run.
 
 ghost use Rattle.std.specs.Prelude.{◌≡◌, ◌++◌, codes, false};
-ghost use Rattle.zoneq_lib.specs.{Endings.{message_of, status_of, WritesUnlessFailed}, Faults.{fault_text}};
+ghost use Rattle.zoneq_lib.specs.{Runs.{message_of, status_of, WritesUnlessFailed}, Runs.{fault_text}};
 
 use crate::output::write_all;
 use crate::run_error::RunError;

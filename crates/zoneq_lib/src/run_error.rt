@@ -16,7 +16,7 @@ pub enum RunError {
 }
 
 impl RunError {
-    ghost use Rattle.zoneq_lib.specs.Faults.{fault_text};
+    ghost use Rattle.zoneq_lib.specs.Runs.{fault_text};
 
     /// Returns what the program `zoneq` says of it on standard error.
     pub fn text(&self) -> &'static str

@@ -27,7 +27,7 @@ pub struct Watched<T> {
 }
 
 impl<T> Model for Watched<T> {
-    ghost use Rattle.zoneq_lib.specs.Watch.{Watch};
+    ghost use Rattle.zoneq_lib.specs.Ends.{Watch};
 
     ghost Value = { Watch T };
 

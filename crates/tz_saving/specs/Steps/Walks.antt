@@ -3,7 +3,7 @@ use Rattle.std.specs.Prelude.{ℕ, suc, ℤ, pos, Bool, true, false, ◌↔◌, 
 use Rattle.std.specs.Int.{w64}
 use Rattle.tz_base.specs.{LocalTypes.{LocalType}, declared.change.Change.{Change}}
 use Rattle.tz_info.specs.{Changes.{IsChange, Precedes}, Zones.{TypeAt, Zone}}
-use Rattle.tz_saving.specs.{Reach.{HasChanges, reach}, Sides.{HasNoStandard, IsStandard}}
+use Rattle.tz_saving.specs.{Sides.{HasChanges, reach}, Sides.{HasNoStandard, IsStandard}}
 use Rattle.tz_saving.specs.declared.sides.{Side.{Side, TheVariants.{Before, After}}, Wanted.{Wanted, TheVariants.{Standard, Same}}}
 
 -- clocks go on to the side after a second, and back to the one before it

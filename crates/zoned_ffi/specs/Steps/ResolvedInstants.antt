@@ -3,7 +3,7 @@ use Rattle.std.specs.Prelude.{ℤ, ◌-ℤ◌, ◌*ℤ◌, ◌≡◌, ◌⊎◌,
 use Rattle.naive_base.specs.Range.{IsInRange}
 use Rattle.tz_base.specs.LocalTypes.{LocalType}
 use Rattle.tz_info.specs.Zones.{Zone}
-use Rattle.zoned_ffi.specs.{Instants.{IsWrittenOffsetAt}, Resolved.{IsTakenGapEnd, IsTakenType, unresolved}, Units.{per_second}}
+use Rattle.zoned_ffi.specs.{WrittenTypes.{IsWrittenOffsetAt}, Resolved.{IsTakenGapEnd, IsTakenType, unresolved}, Units.{per_second}}
 use Rattle.zoned_ffi.specs.declared.{choice.Choice.{Choice}, resolved.{Resolved.{Resolved}, Taken.{Taken, TheVariants.{InForce, Shifted, GapEnd}}}}
 use Rattle.zoned_ffi.specs.declared.unit.Unit.{Unit}
 

@@ -6,7 +6,7 @@ ghost use Rattle.{
   naive_base.specs.Range.{IsInRange},
   tz_info.specs.Zones.{Zone},
   zoned_ffi.specs.{Handles.{IsLent, IsNoneLent}, WrittenChanges.{IsLocalChangeWritten, IsNoLocalChange}},
-  zoned_ffi.specs.LocalInfos.{IsLocalInfo},
+  zoned_ffi.specs.WrittenSpans.{IsLocalInfo},
 };
 
 use crate::changes::WrittenChange;

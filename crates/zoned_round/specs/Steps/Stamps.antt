@@ -1,7 +1,7 @@
 -- Stamps with the span that they are rounded by.
 use Rattle.std.specs.{Prelude.{◌≡◌, ℤ, pos, neg_ℤ, ◌≤ℤ◌, FitsSigned, Result, Ok, Err}, Int.{w64}}
 use Rattle.naive_base.specs.Reading.{Reading, total}
-use Rattle.zoned_round.specs.{declared.{error.RoundingError.{RoundingError}, stamp.Stamp.{Stamp}}, Errors.{IsRoundingFault}, Durations.{IsRoundingLength}}
+use Rattle.zoned_round.specs.{declared.{error.RoundingError.{RoundingError}, stamp.Stamp.{Stamp}}, Durations.{IsRoundingFault}, Durations.{IsRoundingLength}}
 
 -- the stamp and the span, or the reason why they don't exist
 abbrev pub IsStampOf : ℤ → ℤ → Result Stamp RoundingError → Type 0

@@ -2,7 +2,7 @@
 ghost use Rattle.std.specs.Prelude.{◌≡◌, option_map, IfSome};
 ghost use Rattle.{
   naive_base.specs.{Fields.{time_at}, NaiveDateTime.{reading}},
-  zoned_time.specs.{DateTime.{day_shown_by, home_law_of, wall_of, zoned, IsOnlyAtTime, IsOnlyOnDay}, Fields.{IsOnly}},
+  zoned_time.specs.{DateTime.{day_shown_by, home_law_of, wall_of, zoned, IsOnlyAtTime, IsOnlyOnDay}, Relocal.{IsOnly}},
 };
 
 use super::DateTime;

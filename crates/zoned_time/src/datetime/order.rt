@@ -2,7 +2,7 @@
 ghost use Rattle.std.proofs.Common.{rules};
 ghost use Rattle.std.specs.{Cmp.{partial_order_from_own_ties, Rules.{comparing, hashing}}, Prelude.{◌≡◌, ◌↔◌, ◌++◌, ◌==◌, IsTrue}};
 ghost use Rattle.std.specs.Ordering.{as_partial_cmp, eq_of_both, int_cmp, int_eq, nat_cmp, on, then_cmp};
-ghost use Rattle.zoned_time.specs.{DateTime.{zoned}, Order.{compared}};
+ghost use Rattle.zoned_time.specs.{DateTime.{zoned}, DateTime.{compared}};
 ghost use Rattle.std.specs.Hash as fed;
 
 use super::{DateTime, Instant};

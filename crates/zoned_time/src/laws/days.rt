@@ -6,7 +6,7 @@ ghost use Rattle.{
   offset_core.specs.WallAnswer.{IsNeverShown, IsShownBetween, IsShownOnce},
   zoned_time.specs.{DayEnds.{IsGapEnd, NonePassed}, Zone.{IsZoneSecond, ShowsByOffset}},
   zoned_time.specs.Days.{midnight, AreEndsOfDay, IsFirstInstantFrom, IsFirstToReach, IsInDay, IsNeverOnDay, IsOnDay},
-  zoned_time.specs.Reached.{IsReachedAt},
+  zoned_time.specs.Zone.{IsReachedAt},
 };
 
 use crate::{ShownDay, TimeZone};

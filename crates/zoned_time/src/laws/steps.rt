@@ -5,7 +5,7 @@ ghost use Rattle.{
   naive_base.specs.{Range.{IsInRange, IsWide}, Reading.{Reading}},
   naive_plans.specs.{ClockSteps.{BeginsStep}, Plans.{IsLastUntil, IsNextAfter}},
   zoned_time.specs.{Days.{midnight, IsFirstInstantFrom, IsFirstToReach, IsInDay}, Fires.{IsLastFire, IsNextFire}},
-  zoned_time.specs.{Reached.{IsReachedAt}, StepBounds.{AreStepBounds}},
+  zoned_time.specs.{Zone.{IsReachedAt}, StepBounds.{AreStepBounds}},
 };
 
 use crate::{StepBounds, TimeZone};

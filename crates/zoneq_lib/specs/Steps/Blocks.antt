@@ -1,7 +1,7 @@
 -- What some bytes of the input do, after the beginning of a line that earlier bytes left.
 use Rattle.std.specs.{Prelude.{◌≡◌, ℕ, ◌<◌, List, ◌++◌, Bool, true, false, Option, length}, Io.KnownBytes.{Appends}}
 use Rattle.tz_info.specs.Zones.{Zone}
-use Rattle.zoneq_lib.specs.{Answers.{AnswersLines}, Lines.{HasNoNewline, IsSplit, ended_lines}, Steps.Hopeless.{IsKeptFor}}
+use Rattle.zoneq_lib.specs.{Answers.{AnswersLines}, Runs.{HasNoNewline, IsSplit, ended_lines}, Steps.Hopeless.{IsKeptFor}}
 use Rattle.zoneq_lib.specs.declared.run_error.RunError.{RunError}
 use Rattle.zoneq_lib.specs.declared.run_error.RunError.TheVariants as errors
 

@@ -1,6 +1,6 @@
 -- Beginnings of a line with which no line asks anything, and what is kept for them.
 use Rattle.std.specs.Prelude.{◌≡◌, ℕ, ◌<◌, ◌++◌, ◌⊎◌, List, length}
-use Rattle.zoneq_lib.specs.{Lines.{without_return}, Questions.{IsBadLine}}
+use Rattle.zoneq_lib.specs.{Runs.{without_return}, Questions.{IsBadLine}}
 
 -- each line that begins so is bad, also if a carriage return before its newline is dropped
 pub record IsHopeless (front : List ℕ) : Type 0 where

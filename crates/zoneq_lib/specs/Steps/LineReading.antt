@@ -1,7 +1,7 @@
 -- What is read at the front of a line: a value with the bytes after it, or the reason why it has no value.
 use Rattle.std.specs.Prelude.{◌≡◌, ℕ, ◌==◌, if◌then◌else◌, List, [], ◌∷◌, Result, Ok, Err, Option, Some, None}
 use Rattle.tz_base.specs.Fronts.{run_of, after_run, int_at, exact_at}
-use Rattle.tz_base.specs.Grammar.{Grammar, Nothing, Then, Marked, Ended, Byte, Run, Number, Exact, Rest, Refused, Check, Here, At, is_end}
+use Rattle.tz_base.specs.Grammar.{Grammar, Nothing, Then, Marked, Ended, Byte, Run, Number, Exact, Rest, Refused, Check, Here, At, Inside, is_end, read}
 use Rattle.tz_base.specs.declared.error.Error.{Error}
 use Rattle.zoneq_lib.specs.declared.bad_line.BadLine.{BadLine, TheVariants.{Unfinished, Hopeless}}
 
@@ -59,3 +59,4 @@ scan (Refused refusal) bytes = Err (stop bytes)
 scan (Check P test refusal v) bytes = if test.passes then Ok (v, bytes) else Err (stop bytes)
 scan (Here f) bytes = scan (f bytes) bytes
 scan (At place g) bytes = scan g bytes
+scan (Inside part from g) bytes = or_stop bytes (read (Inside part from g) bytes)

@@ -1,4 +1,4 @@
-use Rattle.zoned_ffi.{proofs.Words.{refl}, specs.LocalInfos.{IsLocalInfo}}
+use Rattle.zoned_ffi.{proofs.Words.{refl}, specs.WrittenSpans.{IsLocalInfo}}
 use Rattle.zoned_ffi.proofs.pins.local_infos.Goals as goal
 
 pub returns-clause-never : goal.returns-clause-never

@@ -1,4 +1,4 @@
-use Rattle.zoned_ffi.{proofs.Words.{true}, specs.RuleStrings.{IsRuleString}}
+use Rattle.zoned_ffi.{proofs.Words.{true}, specs.Texts.{IsRuleString}}
 use Rattle.zoned_ffi.proofs.pins.rule_strings.Goals as goal
 
 pub returns-clause-no_rule : goal.returns-clause-no_rule

@@ -1,6 +1,6 @@
 use Rattle.zoned_ffi.proofs.{LocalInfoLaws.{once_by, several_by, shows_there}, Words.{Fits64, arith, ints, refl, rules, to_z-of_z}}
 use Rattle.tz_info.specs.HeldChanges.{change_held}
-use Rattle.zoned_ffi.specs.LocalInfos.{IsLocalInfo}
+use Rattle.zoned_ffi.specs.WrittenSpans.{IsLocalInfo}
 use Rattle.zoned_ffi.proofs.local_info.WrittenLocalInfo.at.Goals as goal
 
 pub shown_span-span-requires-clause-shown : goal.shown_span-span-requires-clause-shown

@@ -1,7 +1,7 @@
-use Rattle.zoned_ref.{proofs.Words.{arith}, specs.{KeepError.{IsRefused}, Offsets.{IsNarrow}, OpenError.{IsNotOpened, reason_of}}}
+use Rattle.zoned_ref.{proofs.Words.{arith}, specs.{KeptZone.{IsNotOpened, IsRefused, reason_of}, Offsets.{IsNarrow}}}
 use Rattle.zoned_ref.specs.declared.keep_error.KeepError.{KeepError, TheVariants.{OutOfMemory, WideZone}}
 use Rattle.std.proofs.Common.{List, ℕ, ◌≡◌}
-use Rattle.tz_info.specs.{TzFiles.{IsTzFile, IsZoneFault.{No_memory}}, Zones.{IsValid, Zone}}
+use Rattle.tz_info.{proofs.ForCallers.{file_pieces}, specs.{TzFiles.{IsTzFile, IsZoneFault.{No_memory}}, Zones.{IsValid, Zone}}}
 use Rattle.tz_base.specs.declared.error.Error.TheVariants as faults
 use Rattle.zoned_ref.specs.declared.keep_error.OpenError.TheVariants as why
 use Rattle.zoned_ref.proofs.kept_zone.KeptZone.open.Goals as goal
@@ -12,7 +12,7 @@ out_of_memory z e refused narrow = grind arith
 
 not_opened : (bytes : List ℕ) (z : Zone) (e : KeepError) → IsTzFile bytes z → IsValid z → IsRefused z e → IsNotOpened bytes (reason_of e)
 not_opened bytes z (WideZone back) file valid refused = (z, file, valid, refused.1)
-not_opened bytes z (OutOfMemory back) file valid refused = No_memory file.0 file.1
+not_opened bytes z (OutOfMemory back) file valid refused = let p = file_pieces bytes z file in No_memory p.0 p.1
 
 pub returns-in-Err-keep-clause-only : goal.returns-in-Err-keep-clause-only
 returns-in-Err-keep-clause-only c z file valid narrow = rw c.from.ensures (grind arith)

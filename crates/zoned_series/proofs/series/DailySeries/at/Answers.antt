@@ -1,7 +1,7 @@
 use Rattle.std.proofs.Common.{◌≡◌, ap, subst, ◌∙◌, refl}
 use Rattle.naive_base.specs.{NaiveDateTime.{reading}, Reading.{reading_at}}
 use Rattle.zoned_time.specs.Choice.{IsUnresolved}
-use Rattle.zoned_series.specs.{DailySeries.{series_of}, Series.{reading_of, unresolved}}
+use Rattle.zoned_series.specs.{Series.{series_of}, Series.{reading_of, unresolved}}
 use Rattle.zoned_series.proofs.series.DailySeries.at.Goals as goal
 
 pub returns-in-Err : goal.returns-in-Err
