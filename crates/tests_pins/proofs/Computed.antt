@@ -1,14 +1,18 @@
 -- What examples compute with: to unfold one of these words is to unfold all that its line names.
 use Rattle.tz_info.specs.TzGrammar.{checked_day, hours_minutes_seconds, minutes_seconds, more, name, numbered_day, optional_minutes, quoted, sign, time_sign}
-use Rattle.tz_info.specs.Digits.{digits as binary_digits}
-use Rattle.tz_info.proofs.Words.{alternate, date, day, days, designation_at, dst_offset, duration, end, file_at, fixed, given_offset, indicators_of}
-use Rattle.tz_info.proofs.Words.{julian_date, lists_in, month_date, named, next_hour, offset, optional_time, pieces_at, rule_in, time}
-use Rattle.tz_info.proofs.{Words.{trimmed, type_of, type_of_record}, PosixLaws.{zone_in}}
+use Rattle.tz_info.specs.Looks.{digits as binary_digits}
+use Rattle.std.specs.{Str.{chars, is_utf8}, Str.Lossy.{utf8_valid_len}}
+use Rattle.tz_info.proofs.Words.{alternate, date, day, days, dst_offset, duration, end, fixed, given_offset}
+use Rattle.tz_info.proofs.Words.{julian_date, month_date, named, next_hour, offset, optional_time, rule_in, time}
+use Rattle.tz_info.proofs.{Words.{trimmed}, PosixLaws.{zone_in}}
+use Rattle.tz_info.specs.FileContents.{designation, indicators, local_type, mark, pair_at, type_at, typed}
+use Rattle.tz_info.specs.{Footers.{footer, footer_text, newline, optional_footer, utf8}, TzFiles.{contents, tz_file}}
 use Rattle.zoneq_lib.specs.Questions.{calendar_day, fold, gap, text_query, unix_seconds}
 use Rattle.zoneq_lib.proofs.CitedWords.{Begins, Word, at_query, data_query, int_at, integer, local_time, next, question, resolve_query, show_query, tag_at}
 use Rattle.zoneq_lib.proofs.CitedWords.{wall_query}
-use Rattle.tz_write.proofs.Words.{begins, counts_bytes, file_bytes, first_half, header_bytes, later_version, leap_bytes, number_bytes, second_half}
-use Rattle.tz_write.proofs.Words.{signed_bytes, type_bytes}
+use Rattle.tz_write.proofs.Words.{begins, counts_bytes, file_bytes, first_half, header_bytes, laid_file, laid_names, later_version, leap_bytes, number_bytes}
+use Rattle.tz_write.proofs.Words.{second_half, signed_bytes, type_bytes}
+use Rattle.tz_write.specs.Steps.{LaidNames.{before_last, laid, with_text, with_texts}, TextPieces.{spelled_clock, spelled_offset}}
 use Rattle.zonedump_lib.specs.RuleWords.{moment_words, month_words, week_words, weekday_words}
 use Rattle.tests_pins.proofs.Words.{after_first_block, be_u32, block, choice, clock_words, day_number, days_of_months, digits, escape_byte, exact_at, file}
 use Rattle.tests_pins.proofs.Words.{first_version, header, in_digits, offset_words, optional_tag_at, print_from, query_line, rule, seconds, short_day}
@@ -45,11 +49,13 @@ texts = 0
 -- files, read and written
 unfoldable pub files : ℕ
 unfolding texts file header version version_1 six_counts tzif block be_u32 signed after_first_block first_version later_version exact_at optional_tag_at
-    designation_at indicators_of type_of type_of_record file_at lists_in pieces_at
+    mark designation typed local_type type_at pair_at indicators newline utf8 footer_text footer optional_footer contents tz_file
+    is_utf8 chars lib.Utf8.encode utf8_valid_len
 files = 0
 
 unfoldable pub written : ℕ
-unfolding number_bytes signed_bytes counts_bytes header_bytes type_bytes leap_bytes first_half second_half file_bytes begins
+unfolding number_bytes signed_bytes counts_bytes header_bytes type_bytes leap_bytes first_half second_half file_bytes begins with_text with_texts
+    before_last laid laid_names digits spelled_clock spelled_offset laid_file
 written = 0
 
 -- the lines of `zoneq`

@@ -1,5 +1,5 @@
 -- Parts of files.
-use Rattle.tests_pins.proofs.Words.{Bool, Counts, IsMark, List, Parts, Spells, arith, block, false, length, refl, true, ℕ, ◌*◌, ◌++◌, ◌+◌, ◌≡◌}
+use Rattle.tests_pins.proofs.Words.{Counts, List, Parts, Spells, block, length, refl, ℕ, ◌*◌, ◌++◌, ◌+◌, ◌≡◌}
 
 -- parts of the lengths that the counts announce, end to end, are a block
 pub parts_are : (w : ℕ) (c : Counts) (p : Parts) (rest : List ℕ) → length p.times ≡ c.transitions * w → length p.type_indexes ≡ c.transitions
@@ -9,7 +9,3 @@ pub parts_are : (w : ℕ) (c : Counts) (p : Parts) (rest : List ℕ) → length 
 unfolding block
 parts_are w c p rest h i j k l m n =
     (_, _, (refl, h), (_, _, (refl, i), (_, _, (refl, j), (_, _, (refl, k), (_, _, (refl, l), (_, _, (refl, m), (_, _, (refl, n), (refl, refl))))))))
-
-pub no_flag : (dst : Bool) → IsMark 2 dst → ⊥
-no_flag true e = absurd (omega (arith, e))
-no_flag false e = absurd (omega (arith, e))

@@ -15,6 +15,7 @@ pub mod PassedYears
 pub mod SetClocks
 pub mod ChangeDays
 pub mod WrittenPins
+pub mod WrittenFilePins
 pub mod SetDays
 pub mod SetFires
 pub mod SetMoves

@@ -1,6 +1,6 @@
 -- What bytes spell, and that they spell nothing: what the grammar reads of them.
 use Rattle.tz_info.proofs.PosixLaws.{posix_law, zone_in}
-use Rattle.tz_info.specs.{PosixZones.{posix_zone}, Trims.{IsTrimmed}}
+use Rattle.tz_info.specs.{PosixZones.{posix_zone}, Trims.{trimmed}}
 use Rattle.tests_pins.proofs.Words.{Asks, Bool, Err, Error, FoldChoice, GapChoice, IsBadLine, IsPosixZone, IsTextFault, IsTzText, List, Ok, Query, Result}
 use Rattle.tests_pins.proofs.Words.{Spells, TransitionRule, Zone, [], ap, choice, false, false≢true, inr, lawful, query_line, read, refl, sym, text, true, ℕ}
 use Rattle.tests_pins.proofs.Words.{◌∙◌, ◌∷◌, ◌≡◌}
@@ -24,9 +24,8 @@ faulty extended bytes = (lawful (text extended) bytes).fails
 pub not_spelled : (extended : Bool) (bytes : List ℕ) (r : TransitionRule) → has_failed (read (text extended) bytes) ≡ true → IsTzText extended bytes r → ⊥
 not_spelled extended bytes r failed = never (lawful (text extended) bytes) failed (r, [])
 
-pub zone_of : (b : ℕ) (bytes trimmed : List ℕ) (r : TransitionRule) → IsTrimmed (b ∷ bytes) trimmed → IsTzText false trimmed r
-    → IsPosixZone (b ∷ bytes) (posix_zone r)
-zone_of b bytes trimmed r trims spells = inr (record { some = λ e. cc; trimmed = trimmed; rule = r; trims = trims; spells = spells; zone = refl })
+pub zone_of : (b : ℕ) (bytes : List ℕ) (r : TransitionRule) → IsTzText false (trimmed (b ∷ bytes)) r → IsPosixZone (b ∷ bytes) (posix_zone r)
+zone_of b bytes r spells = inr (record { some = λ e. cc; rule = r; spells = spells; zone = refl })
 
 pub zone_spelled : (bytes : List ℕ) (z : Zone) → zone_in bytes ≡ Ok z → IsPosixZone bytes z
 zone_spelled bytes = (posix_law bytes).takes

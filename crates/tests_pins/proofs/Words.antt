@@ -14,8 +14,8 @@ pub use Rattle.zoned_time.proofs.Words.{IsReachedAt}
 pub use Rattle.zoned_time.specs.Years.{IsEarlierInYear, IsWholeYears}
 pub use Rattle.demo_own_zone.proofs.Words.{IsShownBetween, ShowsByOffset, midnight}
 pub use Rattle.zoned_ref.proofs.Words.{AreEndsOfDay, IsBeforeGap, IsNeverOnDay, lies_in, ◌*ℤ◌}
-pub use Rattle.tz_write.proofs.Words.{AreInPairs, AreShortest, HasPieces, IsMark, IsNamedIn, IsTzText, IsWrittenText, IsWrittenZone, Parts, SpellTransitions}
-pub use Rattle.tz_write.proofs.Words.{SpellTypes, counts_test, false≢true, magic, unsigned_abs, ◌/◌, ◌<ℤ◌, ◌≤ℤ◌}
+pub use Rattle.tz_write.proofs.Words.{AreInPairs, AreShortest, HasPieces, IsNamedIn, IsTzText, IsWrittenText, IsWrittenZone, Parts}
+pub use Rattle.tz_write.proofs.Words.{counts_test, false≢true, magic, unsigned_abs, ◌/◌, ◌<ℤ◌, ◌≤ℤ◌}
 pub use Rattle.zonedump_lib.proofs.CitedWords.{AreChanges, TypeAt, floors, ◌+ℤ◌}
 pub use Rattle.zoneq_lib.proofs.CitedWords.{Asks, Bool, IsBadLine, IsPosixZone, IsTaken, IsTzFile, IsZoneSecond, List, LocalType, Query, Reading, Spells, Zone}
 pub use Rattle.zoneq_lib.proofs.CitedWords.{Zoned, ap, arith, behind, by_lt_z, codes, false, get_or, inl, inr, ints, lawful, length, neg_ℤ, of_secs, pos, read}
@@ -34,6 +34,6 @@ unfoldable pub use Rattle.tz_info.specs.TzGrammar.{seconds}
 unfoldable pub use Rattle.zoned_time.proofs.Words.{day_number, day_of_month, month_of}
 unfoldable pub use Rattle.zoned_ref.proofs.Words.{year_of}
 unfoldable pub use Rattle.tz_write.proofs.Words.{after_first_block, be_u32, block, file, first_version, header, signed, six_counts, tzif, version, version_1}
-unfoldable pub use Rattle.zonedump_lib.specs.{Clocks.{clock_words}, Words.{offset_words, step_words}, ZdumpLines.{short_day, short_month, short_weekday}}
+unfoldable pub use Rattle.zonedump_lib.specs.{Words.{clock_words, offset_words, step_words}, ZdumpLines.{short_day, short_month, short_weekday}}
 unfoldable pub use Rattle.zoneq_lib.proofs.CitedWords.{exact_at, optional_tag_at, query_line}
 unfoldable pub use Rattle.zoneq_lib.specs.Questions.{choice}

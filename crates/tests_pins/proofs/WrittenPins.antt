@@ -47,4 +47,4 @@ named (suc k) d place = absurd (omega (arith, place))
 pub not_shortest : AreShortest (72 ∷ 83 ∷ 84 ∷ 0 ∷ 0 ∷ []) (hst ∷ []) → ⊥
 not_shortest h = let at_most = h.shortest (72 ∷ 83 ∷ 84 ∷ 0 ∷ []) named in absurd (omega (arith, at_most))
 
-pub ruleset written_pins = (not_longer, not_longer_zone, not_extended, not_another, two_digits, one_digit, three_digits, not_shortest)
+pub ruleset written_pins = (not_longer, not_longer_zone, not_extended, not_another, two_digits, one_digit, three_digits)

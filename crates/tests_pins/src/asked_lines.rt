@@ -6,7 +6,7 @@ ghost use Rattle.{
   tests_pins.specs.{Changes.{unnamed}, NewYork.{edt, est, new_york_zone}, Zones.{honolulu, hst10}},
   tz_base.specs.Grammar.{Spells},
   zoneq_lib.specs.Answers.{shown_date_time, shown_refusal, shown_type, shown_wall, shown_zone, AnswersAt, AnswersWall},
-  zoneq_lib.specs.{Lines.{ended_lines, last_line, IsSplit}, Endings.{message_of, status_of}, Faults.{fault_text}},
+  zoneq_lib.specs.{Runs.{ended_lines, last_line, IsSplit}, Runs.{message_of, status_of}, Runs.{fault_text}},
   zoneq_lib.specs.Questions.{choice, Asks, At, Data, IsBadLine, Resolve, Show, Wall},
 };
 

@@ -5,13 +5,13 @@ ghost use Rattle.{
   tests_pins.specs.Files.{long_record, of_types, one_leap_second, one_to_six, short_record, with_leap_second},
   tests_pins.specs.{LeapSeconds.{entry}, Zones.{hst, hst10}},
   tests_pins.specs.Honolulu.{designations, first_time, hst_footer, hst_record, least_time_bytes},
-  tz_base.specs.{Grammar.{be_u32, Spells}, LocalTypes.{LocalType}},
+  tz_base.specs.{Grammar.{be_u32, HasFault, Spells}, LocalTypes.{LocalType}},
   tz_info.specs.{FileBlocks.{block, Parts}, FilePieces.{after_first_block, is_extended, FilePieces}},
-  tz_info.specs.FileContents.{file_time, IndicatorsAgree, IsMark, SpellsLeapSecond, SpellsType, TypeFault},
+  tz_info.specs.FileContents.{file_time, leap_second_of, local_type, mark, PairAgrees},
   tz_info.specs.FileHeaders.{six_counts, version, CountsAgree},
   tz_info.specs.declared.file.header.{Version.{Version, TheVariants.{One, Three, Two}}, Counts.{Counts}},
   tz_info.specs.declared.file.header.Place.{Place, TheVariants.{First}},
-  tz_info.specs.Footers.{FooterFault, IsFooter},
+  tz_info.specs.Footers.{footer},
 };
 
 use tz_base::{Error, Expected};
@@ -44,7 +44,7 @@ pub fn counts()
 {}
 
 /// There is a type, and a byte of designations; indicators are given for no type, or for each.
-#[tactic(auto, using(tz_info::specs::FileHeaders::agree_from, tz_info::specs::FileHeaders::agree_to))]
+#[tactic(auto, using(tz_info::specs::FileHeaders::counts_test))]
 pub fn counts_that_agree()
     ensures indicators { CountsAgree (of_types 6 6 20) }
     ensures no_indicators { CountsAgree (of_types 0 6 20) }
@@ -54,11 +54,10 @@ pub fn counts_that_agree()
 {}
 
 /// The isdst byte is 0 or 1.
-#[tactic(auto, using(crate::proofs::FileParts::no_flag))]
 pub fn flags()
-    ensures standard { IsMark 0 false }
-    ensures daylight { IsMark 1 true }
-    ensures other { (dst : Bool) → ¬ (IsMark 2 dst) }
+    ensures standard { Spells mark (0 ∷ []) false [] }
+    ensures daylight { Spells mark (1 ∷ []) true [] }
+    ensures other { (dst : Bool) (rest : List ℕ) → ¬ (Spells mark (2 ∷ []) dst rest) }
 {}
 
 /// Times are numbers in two's complement, the highest byte first.
@@ -77,34 +76,35 @@ pub fn extended()
 
 /// A type's record: its offset, its isdst byte, and the place of its name.
 pub fn types()
-    ensures hst { SpellsType designations (hst_record 0) hst }
-    ensures least_offset { (t : LocalType)
-        → ¬ (SpellsType designations (128 ∷ 0 ∷ 0 ∷ 0 ∷ 0 ∷ 4 ∷ []) t) }
-    ensures flag_2 { (t : LocalType) → ¬ (SpellsType designations (hst_record 2) t) }
+    ensures hst { Spells (local_type designations) (hst_record 0) hst [] }
+    ensures least_offset { (t : LocalType) (rest : List ℕ)
+        → ¬ (Spells (local_type designations) (128 ∷ 0 ∷ 0 ∷ 0 ∷ 0 ∷ 4 ∷ []) t rest) }
+    ensures flag_2 { (t : LocalType) (rest : List ℕ)
+        → ¬ (Spells (local_type designations) (hst_record 2) t rest) }
 {}
 
 /// Of a type's record the isdst byte is judged before the offset, of which only the least number of
 /// 32 bits is a fault.
 pub fn type_faults()
-    ensures flag { TypeFault designations (128 ∷ 0 ∷ 0 ∷ 0 ∷ 2 ∷ 0 ∷ [])
+    ensures flag { HasFault (local_type designations) (128 ∷ 0 ∷ 0 ∷ 0 ∷ 2 ∷ 0 ∷ [])
         (Error.InvalidTzFile Expected.ZeroOrOneAsIsDst) }
-    ensures not_offset { ¬ (TypeFault designations (128 ∷ 0 ∷ 0 ∷ 0 ∷ 2 ∷ 0 ∷ [])
+    ensures not_offset { ¬ (HasFault (local_type designations) (128 ∷ 0 ∷ 0 ∷ 0 ∷ 2 ∷ 0 ∷ [])
         (Error.LocalTimeType Expected.OffsetAboveI32Min)) }
 {}
 
 /// Honolulu's footer, `HST10` between newlines, says a rule of one type. One newline alone says
 /// none. A colon first is a fault.
 pub fn footers()
-    ensures hst { IsFooter false hst_footer hst10 }
-    ensures none { IsFooter false (10 ∷ []) None }
-    ensures colon { FooterFault false (10 ∷ 58 ∷ 10 ∷ []) (Error.InvalidTzFile Expected.TzTextInFooter) }
+    ensures hst { Spells (footer false) hst_footer hst10 hst_footer }
+    ensures none { Spells (footer false) (10 ∷ []) None (10 ∷ []) }
+    ensures colon { HasFault (footer false) (10 ∷ 58 ∷ 10 ∷ []) (Error.InvalidTzFile Expected.TzTextInFooter) }
 {}
 
 /// A leap second's record: its time, and the correction from then on. 1972-06-30 23:59:60 was the
 /// first.
 pub fn leap_seconds()
-    ensures four_bytes { SpellsLeapSecond 4 short_record (entry (pos 78_796_800) 1) }
-    ensures eight_bytes { SpellsLeapSecond 8 long_record (entry (pos 78_796_800) 1) }
+    ensures four_bytes { leap_second_of 4 short_record ≡ entry (pos 78_796_800) 1 }
+    ensures eight_bytes { leap_second_of 8 long_record ≡ entry (pos 78_796_800) 1 }
 {}
 
 /// A block has its parts in this order: standard/wall indicators come before UT/local ones.
@@ -137,8 +137,8 @@ pub fn leap_second_blocks()
 
 /// What is given in UT is given in standard time; an indicator left out is 0.
 pub fn indicators()
-    ensures standard { IndicatorsAgree (1 ∷ []) (1 ∷ []) }
-    ensures wall { ¬ (IndicatorsAgree (0 ∷ []) (1 ∷ [])) }
-    ensures left_out { ¬ (IndicatorsAgree [] (1 ∷ [])) }
-    ensures local { IndicatorsAgree (0 ∷ 1 ∷ []) [] }
+    ensures standard { PairAgrees (1 ∷ []) (1 ∷ []) 0 }
+    ensures wall { ¬ (PairAgrees (0 ∷ []) (1 ∷ []) 0) }
+    ensures left_out { ¬ (PairAgrees [] (1 ∷ []) 0) }
+    ensures local { (k : ℕ) → PairAgrees (0 ∷ 1 ∷ []) [] k }
 {}

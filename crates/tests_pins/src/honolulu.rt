@@ -3,13 +3,12 @@
 
 ghost use Rattle.std.specs.Prelude.{◌≡◌, ◌++◌, ◌∷◌, [], neg_ℤ, pos, List, ℕ};
 ghost use Rattle.{
-  tests_pins.specs.Honolulu.{counts, designations, file_with, honolulu_block, honolulu_file, honolulu_header},
-  tests_pins.specs.Honolulu.{indicators, long_times, parts, pieces, short_file, short_times, type_indexes},
-  tests_pins.specs.Honolulu.{type_records},
+  tests_pins.specs.Honolulu.{counts, file_with, honolulu_block, honolulu_file, honolulu_header},
+  tests_pins.specs.Honolulu.{long_times, parts, pieces, short_file, short_times},
   tests_pins.specs.Zones.{honolulu, honolulu_from, hst10},
-  tz_base.specs.Grammar.{Spells},
+  tz_base.specs.Grammar.{Each, Spells},
   tz_info.specs.{FileBlocks.{block as a_block}, Zones.{IsValid, Zone}},
-  tz_info.specs.{FileContents.{IndicatorsAgree, SpellTransitions, SpellTypes}, FilePieces.{HasPieces}},
+  tz_info.specs.{FileContents.{indicators, transition_at, type_at, values_below}, FilePieces.{HasPieces}},
   tz_info.specs.{FileHeaders.{header as a_header}, TzFiles.{IsTzFile, IsZoneFault}},
   tz_info.specs.declared.file.header.{Place.TheVariants.{First, Second}, Version.TheVariants.{Two}},
 };
@@ -39,11 +38,10 @@ pub fn file_pieces()
 {}
 
 /// What the parts of the second block say.
-#[tactic(auto, using(crate::proofs::HonoluluFile::transitions, crate::proofs::HonoluluFile::types))]
 pub fn contents()
-    ensures transitions { SpellTransitions 8 long_times type_indexes (honolulu hst10).transitions }
-    ensures types { SpellTypes designations type_records (honolulu hst10).types }
-    ensures indicators { IndicatorsAgree indicators indicators }
+    ensures transitions { values_below 7 (transition_at pieces) ≡ (honolulu hst10).transitions }
+    ensures types { Spells (Each 6 (type_at pieces)) [] (honolulu hst10).types [] }
+    ensures indicators { Spells (indicators pieces) [] tt [] }
 {}
 
 /// The file spells Honolulu's zone and no other, and the zone is valid.

@@ -5,7 +5,7 @@ ghost use Rattle.std.specs.Prelude.{◌≡◌, neg_ℤ, pos, Option, ℕ, ℤ};
 ghost use Rattle.{
   naive_base.specs.{NaiveDate.{day_of}, Stamp.{IsSubsecond}},
   tests_pins.specs.{Instants.{in_new_york, noon, of_utc, own_seconds, PlainInstant}, Readings.{clock_reading}},
-  zoned_time.specs.{DateTime.{day_shown_by, wall_of, zoned, IsOnlyDaysLater}, Order.{compared}},
+  zoned_time.specs.{DateTime.{day_shown_by, wall_of, zoned, IsOnlyDaysLater}, DateTime.{compared}},
   zoned_time.specs.{Years.{IsWholeYears, IsYearsSince}, Zone.{midnight_of}, Zoned.{local_of}, Relocal.{instant_of}},
   zoned_time.specs.Stamps.{micros_of, millis_of, of_micros, of_millis},
 };

@@ -4,8 +4,8 @@ ghost use Rattle.std.specs.Prelude.{◌≡◌, pos};
 ghost use Rattle.{
   naive_base.specs.{Range.{first_second, last_second}, Stamp.{of_secs}},
   tests_pins.specs.{Changes.{spring, wide}, NewYork.{edt, est}, Zones.{utc_zone}},
-  zoned_ref.specs.{KeepError.{given_back, IsRefused}, ZoneChange.{change_of_instants, IsAfter, IsUpTo}},
-  zoned_ref.specs.{Offsets.{IsNarrow}, OpenError.{reason_of}},
+  zoned_ref.specs.{KeptZone.{given_back, IsRefused}, ZoneChange.{change_of_instants, IsAfter, IsUpTo}},
+  zoned_ref.specs.{Offsets.{IsNarrow}, KeptZone.{reason_of}},
   zoned_ref.specs.declared.keep_error.KeepError.TheVariants.{OutOfMemory, WideZone},
 };
 

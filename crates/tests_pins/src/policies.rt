@@ -5,7 +5,7 @@
 ghost use Rattle.std.specs.Prelude.{◌≡◌, neg_ℤ, pos, ℤ};
 ghost use Rattle.{
   tests_pins.specs.{Days.{AreSetAt}, Plans.{daily}},
-  zoned_time.specs.{Nearest.{IsNextOf}, Policies.{IsFireBy, IsShownFire}, Stretches.{IsOffsetStretch}},
+  zoned_time.specs.{Nearest.{IsNextOf}, Policies.{IsFireBy, IsShownFire}, Zone.{IsOffsetStretch}},
 };
 
 use zoned_time::{FirePolicy, FoldFires, GapFires};

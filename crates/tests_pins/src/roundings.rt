@@ -3,7 +3,7 @@
 ghost use Rattle.std.specs.Prelude.{◌≡◌, codes, neg_ℤ, pos, Result, ℤ};
 ghost use Rattle.{
   tests_pins.specs.{Instants.{IsLater}, Readings.{clock_reading}},
-  zoned_round.specs.{Durations.{IsRoundedTo, IsRoundingLength}, Errors.{message, IsRoundingFault}},
+  zoned_round.specs.{Durations.{IsRoundedTo, IsRoundingLength}, Durations.{message, IsRoundingFault}},
   zoned_round.specs.{Multiples.{multiple_above, multiple_below, nearest_multiple}, Subseconds.{cut, rounded}},
 };
 

@@ -3,8 +3,8 @@
 ghost use Rattle.std.specs.Prelude.{◌≡◌, neg_ℤ, pos, ℤ};
 ghost use Rattle.{
   tests_pins.specs.Savings.{restless, summer},
-  tz_saving.specs.{Amounts.{usual, IsAmount, IsOfTwo}, Reach.{HasChanges, IsWithinReach}},
-  tz_saving.specs.{Candidates.{IsCandidate, IsOnly}, Sides.{IsBefore}},
+  tz_saving.specs.{Amounts.{usual, IsAmount, IsOfTwo}, Sides.{HasChanges, IsWithinReach}},
+  tz_saving.specs.{Amounts.{IsCandidate, IsOnly}, Sides.{IsBefore}},
 };
 
 /// New York in 2021 (`R u 2007 ma - Mar Su>=8 2 1 D`): an hour.

@@ -6,7 +6,7 @@ ghost use Rattle.{
   std.specs.Prelude.{neg_ℤ, pos},
   tests_pins.specs.Changes.{at_epoch, cet, ends, utc},
   tz_info.specs.ShownSeconds.{AreShownWithin, IsFirstAtOrAfter, IsFirstWithin, IsLastWithin, ShowsWithin},
-  tz_info.specs.Reached.{IsLastReached},
+  tz_info.specs.ShownSeconds.{IsLastReached},
 };
 
 /// Set back, they show the hour from 00:00 on twice: first from -3600 on by `CET`, last at 3599 by `UTC`.

@@ -44,7 +44,7 @@ pub fn zones()
 {}
 
 /// A name has three to seven letters, digits, `+` or `-`.
-#[tactic(auto, using(tz_base::specs::Names::name_from, tz_base::specs::Names::name_to))]
+#[tactic(auto, using(tz_base::specs::Steps::TextTests::name_from, tz_base::specs::Steps::TextTests::name_to))]
 pub fn names()
     ensures three { IsName (codes "EST") }
     ensures seven { IsName (codes "+123-Zz") }

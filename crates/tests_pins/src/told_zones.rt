@@ -7,7 +7,7 @@ ghost use Rattle.{
   tests_pins.specs.{Changes.{autumn, spring}, NewYork.{new_york_rule, new_york_zone}, Texts.{utc_rule}},
   tests_pins.specs.{LeapSeconds.{entry}, Zones.{utc_zone}},
   zonedump_lib.specs.{ChangeLines.{change_lines}, JsonValues.{day_value, leap_value, rule_value, zone_value}},
-  zonedump_lib.specs.Zdump.{IsZdump},
+  zonedump_lib.specs.ZdumpLines.{IsZdump},
   zonedump_lib.specs.RuleWords.{day_words, moment_words, month_words, rule_words, week_words, weekday_words},
   zonedump_lib.specs.{Tables.{head_text, leap_text, table_text, BeginsTable, IsTable}, ZdumpLines.{zdump_text}},
 };

@@ -1,28 +1,21 @@
 use Rattle.std.proofs.Common.{arith, inl, inr, refl}
 use Rattle.tz_info.specs.FilePlaces.{At_index, At_leap, At_rule, At_time}
-use Rattle.tests_pins.proofs.{Computed.{files}, FaultPlaces.{below_1, below_2, first_of_all, in_lists, no_pair}}
-use Rattle.tests_pins.proofs.FaultPlaces.{footer_of, none_below_0, not_other, pieces_of, second_of_2, two_steps}
-use Rattle.tests_pins.proofs.Words.{IsAscii-cons, IsAscii-nil, ints, [], ◌∷◌}
+use Rattle.tests_pins.proofs.{Computed.{files}, FaultPlaces.{below_1, below_2, first_of_all, in_lists, none_below_0, not_other, pieces_of, second_of_2, two_steps}}
+use Rattle.tests_pins.proofs.Words.{ints}
 use Rattle.tests_pins.specs.FaultyFiles.{of_second_leap}
 use Rattle.tests_pins.proofs.fault_places.lists.Goals as goal
 
 pub returns : goal.returns
 unfolding files
 returns c = record {
-  index = in_lists 44 _ _ _ _ refl refl (record { one = refl; reads = refl }) no_pair refl
-      (At_index 1 (second_of_2 (λ bad. absurd (omega (arith, bad))) (omega arith)));
-  index_first = in_lists 44 _ _ _ _ refl refl (record { one = refl; reads = refl }) no_pair refl
-      (At_index 0 (first_of_all (omega arith) (omega arith)));
-  time = in_lists 44 _ _ _ _ refl refl (record { one = refl; reads = refl }) no_pair refl
-      (At_time 1 (below_2 _ (λ bad. absurd (omega (arith, bad))) (λ bad. absurd (omega (arith, bad))))
-      (second_of_2 (λ bad. absurd (omega (arith, bad.0))) (omega arith, omega arith)));
-  first_leap = in_lists 44 _ _ _ _ refl refl (record { one = refl; reads = refl }) no_pair refl
-      (At_leap 0 (none_below_0 _) (none_below_0 _) (first_of_all (omega arith) (inl (refl, two_steps))));
-  second_leap = in_lists 44 _ _ _ _ refl refl (record { one = refl; reads = refl }) no_pair refl
-      (At_leap 1 (none_below_0 _) (none_below_0 _) (second_of_2
+  index = in_lists _ _ _ _ refl refl (At_index 1 (second_of_2 (λ bad. absurd (omega (arith, bad))) (omega arith))) refl;
+  index_first = in_lists _ _ _ _ refl refl (At_index 0 (first_of_all (omega arith) (omega arith))) refl;
+  time = in_lists _ _ _ _ refl refl (At_time 1 (below_2 _ (λ bad. absurd (omega (arith, bad))) (λ bad. absurd (omega (arith, bad))))
+      (second_of_2 (λ bad. absurd (omega (arith, bad.0))) (omega arith, omega arith))) refl;
+  first_leap = in_lists _ _ _ _ refl refl (At_leap 0 (none_below_0 _) (none_below_0 _) (first_of_all (omega arith) (inl (refl, two_steps)))) refl;
+  second_leap = in_lists _ _ _ _ refl refl (At_leap 1 (none_below_0 _) (none_below_0 _) (second_of_2
       (not_other (pieces_of of_second_leap) (record { since_epoch = omega (arith, ints); step = inl refl }))
-      (inr (omega arith, λ f. let l = f.later in absurd (omega (arith, ints, l))))));
-  rule = in_lists 98 _ _ _ _ refl refl (record { one = refl; reads = refl }) no_pair
-      (footer_of (10 ∷ 88 ∷ 88 ∷ 88 ∷ 49 ∷ 10 ∷ []) _ (search (IsAscii-cons, IsAscii-nil, arith) depth 9) refl)
-      (At_rule (below_1 _ (λ bad. absurd (omega (arith, bad)))) (below_1 _ (λ bad. absurd (omega (arith, bad.0)))) (none_below_0 _));
+      (inr (omega arith, λ f. let l = f.later in absurd (omega (arith, ints, l)))))) refl;
+  rule = in_lists _ _ _ _ refl refl
+      (At_rule (below_1 _ (λ bad. absurd (omega (arith, bad)))) (below_1 _ (λ bad. absurd (omega (arith, bad.0)))) (none_below_0 _)) refl;
 }

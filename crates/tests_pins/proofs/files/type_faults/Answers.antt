@@ -1,7 +1,10 @@
-use Rattle.tz_info.proofs.TypeLaws.{type_law}
-use Rattle.tests_pins.proofs.{Words.{designations, refl}, Computed.{files}}
+use Rattle.tz_info.specs.FileContents.{local_type}
+use Rattle.tests_pins.proofs.{Words.{designations, lawful, refl}, Computed.{files}}
 use Rattle.tests_pins.proofs.files.type_faults.Goals as goal
 
 pub returns : goal.returns
 unfolding files
-returns c = record { flag = (type_law designations _).fails _ refl; not_offset = λ fault. let e = (type_law designations _).refuses _ fault in cc }
+returns c = record {
+  flag = (lawful (local_type designations) _).fails _ refl;
+  not_offset = λ fault. let e = (lawful (local_type designations) _).refuses _ fault in cc;
+}

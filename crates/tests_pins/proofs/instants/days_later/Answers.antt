@@ -1,6 +1,6 @@
 use Rattle.offset_core.specs.declared.local_result.LocalResult.TheVariants.{Single}
 use Rattle.naive_base.specs.Reading.{reading_at, second_at}
-use Rattle.zoned_time.specs.{DateTime.{day_shown_by, wall_of, zoned, IsOnlyDaysLater}, Fields.{IsOnly}, Zone.{home_law}}
+use Rattle.zoned_time.specs.{DateTime.{day_shown_by, wall_of, zoned, IsOnlyDaysLater}, Relocal.{IsOnly}, Zone.{home_law}}
 use Rattle.tests_pins.proofs.Words.{Reading, Some, Zoned, ap, arith, day_at, inl, ints, pos, refl, sym, ℤ, ◌≡◌}
 use Rattle.tests_pins.specs.Instants.{of_utc, PlainInstant}
 use Rattle.tests_pins.proofs.instants.days_later.Goals as goal

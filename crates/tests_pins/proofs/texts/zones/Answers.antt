@@ -4,9 +4,7 @@ use Rattle.tests_pins.proofs.texts.zones.Goals as goal
 pub returns : goal.returns
 unfolding texts
 returns c = record {
-  spaced = zone_of _ _ utc_text utc_rule
-      (record { before = 32 ∷ []; after = 10 ∷ []; whole = refl; space_before = (refl, tt); space_after = (refl, tt); first = refl; last = refl })
-      (spelled false utc_text utc_rule refl);
+  spaced = zone_of _ _ utc_rule (spelled false utc_text utc_rule refl);
   empty = inl (refl, refl);
   types = refl;
 }
