@@ -5,17 +5,18 @@ usage: python/bench/side_by_side.py [--rows N] [--write] [--part NAME ..]
 
 Prints the tables of docs/PYTHON.md, or with --write puts them there, all of them and only on an idle machine. It takes
 five minutes. --part prints some of them: ratios, sizes, steps, values, calls, memory, kinds; arrow, which needs pyarrow; and
-limits, what the library's calls alone take of calls on 1,000 and 10,000 rows.
+limits: what the library's call alone takes of a call on 1,000 to 100,000 rows, and what a copy takes that is made an answer.
 After tools/python_tests.sh this measures and writes them:
 
     PYTHONPATH=python/src /usr/bin/python3 python/bench/side_by_side.py --write
 
 2,000,000 instants of the years 1970 to 2036, drawn evenly with a fixed seed, are asked for their
-local time: in no order, sorted, all of one day (2021-07-01), and all equal. The local times, moved
-by up to an hour and a half at random so that some are skipped or shown twice, are asked for their
-instants: gaps and folds become NaT. pandas and this package get the same Series of datetime64[ns],
-by turns. The processor time of the process counts, the least of 5 turns (2 to instants), so other
-work on the machine has little effect.
+local time: in no order, sorted, all of one day (2021-07-01), all equal, and in no order with one
+row in a thousand of the years 1850 to 1969. The local times, moved by up to an hour and a half at
+random so that some are skipped or shown twice, are asked for their instants: gaps and folds become
+NaT. pandas and this package get the same Series of datetime64[ns], by turns. The processor time of
+the process counts, the least of 5 turns (2 to instants), so other work on the machine has little
+effect.
 
 A call about one value or one row is the mean of 500 calls, the least of 40 or 20 turns. Memory is what tracemalloc finds
 at the peak of a call, less the answer, for each row. Answers are compared with pandas', whose zones
@@ -30,6 +31,7 @@ import re
 import subprocess
 import time
 import tracemalloc
+from ctypes import byref, c_int64, c_size_t, c_void_p
 from datetime import datetime, timezone
 from pathlib import Path
 from zoneinfo import ZoneInfo
@@ -38,6 +40,8 @@ import numpy as np
 import pandas as pd
 
 from sahvumbi import Zone
+from sahvumbi._containers import index_of_times, series_of_times
+from sahvumbi._library import BRIEF
 
 PAGE = Path(__file__).resolve().parents[2] / "docs/PYTHON.md"
 BEGIN, END = "<!-- what python/bench/side_by_side.py prints -->\n", "<!-- end -->\n"
@@ -92,6 +96,14 @@ def orders(rows):
     yield "sorted", np.sort(seconds)
     yield "one day", DAY + np.random.default_rng(2).integers(0, 86_400, rows)
     yield "equal", np.full(rows, DAY + 43_200)
+    yield "old among new", with_old_dates(rows)
+
+
+def with_old_dates(rows):
+    """Instants of 1970 to 2036 in no order, and one in a thousand of 1850 to 1969."""
+    seconds = years(1970, 2037, rows, 1)
+    seconds[::1_000] = years(1850, 1970, seconds[::1_000].size, 4)
+    return seconds
 
 
 # pandas
@@ -150,12 +162,13 @@ def ratios(rows):
                         lambda: pandas_instants(column, name),
                     ]
                 answers, times = timed(asks, 5 if question == "to local times" else 2)
-                assert differing(*answers).size == 0, (name, order, question)
+                # Zones of pytz have local mean time in whole minutes, and no change before 1901.
+                assert (seconds[differing(*answers)] < 0).all(), (name, order, question)
                 ours, theirs = (1e9 * each / rows for each in times)
                 cells.append(f"{theirs / ours:.1f} ({ours:.1f} ns of {theirs:.0f})")
             lines.append(row(name, *cells))
         yield f"### {question[0].upper()}{question[1:]}: pandas' time divided by ours\n"
-        yield from table(["zone", *names], 4, lines)
+        yield from table(["zone", *names], len(names), lines)
 
 
 def pairs_of(form, rows, local):
@@ -163,7 +176,7 @@ def pairs_of(form, rows, local):
     index = form == "a DatetimeIndex"
     for name in ZONES:
         zone = Zone(name)
-        for order, seconds in [*orders(rows), ("old among new", with_old_dates(rows))]:
+        for order, seconds in orders(rows):
             column = instants_of(seconds) if local else local_times_of(zone, seconds)
             column = pd.DatetimeIndex(column) if index else column
             ours = zone.to_local if local else lambda each, zone=zone: zone.localize(each, gap="nat", fold="nat")
@@ -186,24 +199,46 @@ def sizes():
                 cells += [f"{ratio:.1f} ({', '.join(found[ratio])})", f"{sorted(found)[len(found) // 2]:.1f}"]
             lines.append(row(f"{rows:,}, {form}", *cells))
     yield "### Shorter columns: pandas' time divided by ours\n"
-    yield "The least of six zones and five orders (as above, and one row in a thousand before 1970), and the median.\n"
+    yield "The least of six zones and five orders, and the median.\n"
     yield from table(["rows", "to local times, least", "median", "to instants, least", "median"], 4, lines)
 
 
 def limits():
-    """What a call on a column may take at best: the library's call on an array that is there, and a copy of the column."""
-    lines = []
-    for rows in (1_000, 10_000):
+    """What a call on a column may take at best: the library's call on an array that is there, and a copy of the column's rows,
+    made a Series or a DatetimeIndex as an answer is."""
+    lines, least = [], []
+    for rows in (1_000, 10_000, 100_000):
         for form in ("a Series", "a DatetimeIndex"):
+            found = []
             for name, order, ours, theirs, column in pairs_of(form, rows, True):
-                native, values, answers = Zone(name)._native, column.to_numpy("M8[ns]").view(np.int64), np.empty(rows, np.int64)
-                asks = [ours, theirs, lambda: native.local_times(10**9, values, answers), values.copy]
+                values = column.to_numpy("M8[ns]").view(np.int64)
+                asks = [ours, theirs, library_call(Zone(name)._native, values), lambda: copied(values, column)]
                 _, times = timed(asks, 5, calls=max(1, 50_000 // rows))
                 cells = [f"{1e6 * each:.1f} us" for each in times]
-                lines.append(row(f"{rows:,}, {form}", name, order, *cells, f"{times[1] / times[0]:.1f}", f"{times[1] / times[2]:.1f}"))
+                ratios = [times[1] / times[place] for place in (0, 2, 3)]
+                lines.append(row(f"{rows:,}, {form}", name, order, *cells, *(f"{each:.1f}" for each in ratios)))
+                found.append((*ratios, f"{name}, {order}"))
+            cells = [f"{each[place]:.1f} ({each[3]})" for place in range(3) for each in [min(found, key=lambda each: each[place])]]
+            least.append(row(f"{rows:,}, {form}", *cells))
     yield "### To local times: what limits the ratio\n"
-    head = ["here", "pandas", "the library's call", "a copy", "pandas' time divided by ours", "divided by the library's"]
-    yield from table(["rows", "zone", "order", *head], 6, lines)
+    head = ["here", "pandas", "the library's call", "a copy", "pandas' time divided by ours", "by the library's", "by the copy's"]
+    yield from table(["rows", "zone", "order", *head], 7, lines)
+    yield from table(["rows", "the least divided by ours", "by the library's", "by the copy's"], 3, least)
+
+
+def library_call(native, values):
+    """The call for the local times of numbers of nanoseconds."""
+    answers, rows = np.empty(values.size, np.int64), c_size_t(values.size)
+    words = native._zone, c_int64(10**9), *(each for array in (values, answers) for each in (c_void_p(array.ctypes.data), rows))
+    # The arrays are kept with it.
+    return lambda values=values, answers=answers: BRIEF.zoned_column_locals(*words, byref(rows))
+
+
+def copied(values, column):
+    """A copy of numbers, made what an answer to a column is."""
+    if isinstance(column, pd.Index):
+        return index_of_times(values.copy(), "ns", None, column)
+    return series_of_times(values.copy(), "ns", None, column)
 
 
 def steps(rows):
@@ -226,13 +261,6 @@ def steps(rows):
             lines.setdefault(call, []).append(f"{theirs / ours:.1f} ({ours:.1f} ns of {theirs:.0f})")
     yield f"### Offsets, days and hours in {name}: pandas' time divided by ours\n"
     yield from table(["call on a Series", "in no order", "sorted", "one day"], 3, [row(call, *cells) for call, cells in lines.items()])
-
-
-def with_old_dates(rows):
-    """Instants of 1970 to 2036 in no order, and one in a thousand of 1850 to 1969."""
-    seconds = years(1970, 2037, rows, 1)
-    seconds[::1_000] = years(1850, 1970, seconds[::1_000].size, 4)
-    return seconds
 
 
 def arrow(rows):

@@ -6,9 +6,12 @@ from types import SimpleNamespace
 import numpy as np
 import pandas as pd
 import pytest
+from hypothesis import given
+from hypothesis import strategies as st
 
 import sahvumbi
-from sahvumbi import Zone, _containers
+from sahvumbi import Zone, _containers, _lookups, _native, _plain
+from sahvumbi._columns import taken
 
 NEW_YORK = Zone.from_text("EST5EDT,M3.2.0,M11.1.0")
 INDEX = pd.Index(["a", "b", "b"], name="row")
@@ -173,11 +176,109 @@ def test_answers_by_public_ways(monkeypatch, name):
     series = type("Series", (), {})
     kept = SimpleNamespace(arrays=arrays, DatetimeIndex=lambda *a, **k: pd.DatetimeIndex(*a, **k), Series=series, **public)
     monkeypatch.setattr(_containers, "sys", SimpleNamespace(modules={"pandas": kept}))
+    _containers.quick_times.cache_clear()
+    for kind in (pd.Series, pd.DatetimeIndex):
+        monkeypatch.delitem(_plain.QUICK, kind)
     for form, columns in forms.items():
         equal = pd.testing.assert_series_equal if form == "Series" else pd.testing.assert_index_equal
         for answer, expected in zip(answers(*columns), quick[form]):
             assert answer.name == name
             equal(answer, expected)
+    assert not _plain.QUICK
+
+
+# Columns that are answered without a `Column` made of them
+
+
+def by_columns(instants):
+    """The local times by the way that all columns take."""
+    column = taken(instants, "", may_be_aware=True)
+    return column.local_times(_lookups.local_times(NEW_YORK._native, column))
+
+
+def quickly(instants):
+    """Those by the quick way, or None."""
+    answer = _plain.QUICK.get(type(instants))
+    return answer and answer(NEW_YORK._native, instants)
+
+
+def must_be_equal(answer, expected):
+    assert type(answer) is type(expected)
+    (pd.testing.assert_index_equal if isinstance(answer, pd.Index) else pd.testing.assert_series_equal)(answer, expected)
+
+
+TIMES = pd.date_range("2021-03-13", periods=40, freq="h", tz="UTC", name="at")
+ROWS = pd.Series(TIMES, index=pd.MultiIndex.from_product([range(8), [*"abcde"]]), name=("at", 1))
+
+
+@pytest.mark.parametrize(
+    "instants",
+    [TIMES, TIMES[:0], TIMES.tz_localize(None), TIMES.tz_convert("Asia/Tokyo"), TIMES.insert(3, pd.NaT).rename(None), ROWS, ROWS[:0]]
+    + [ROWS.dt.tz_localize(None), ROWS.dt.tz_convert("Asia/Tokyo"), ROWS.where(ROWS.index.codes[0] != 3).rename(None), ROWS.to_frame()[("at", 1)]],
+)
+def test_plain_columns(instants):
+    """This version of pandas keeps them as they are read quickly, and their answers are those of all columns."""
+    before = instants.copy(deep=True)
+    NEW_YORK.to_local(instants)
+    answer = quickly(instants)
+    must_be_equal(answer, by_columns(instants))
+    must_be_equal(NEW_YORK.to_local(instants), answer)
+    must_be_equal(instants, before)
+    if isinstance(answer, pd.Series):
+        assert answer.index is instants.index
+        answer.iloc[:] = pd.NaT
+        must_be_equal(instants, before)
+    else:
+        assert answer.freq is None
+
+
+@pytest.mark.parametrize("rows", [_native.FEW, _native.FEW + 1])
+def test_plain_columns_with_the_lock_and_without(rows):
+    instants = pd.Series((np.arange(rows) * 40_000).view("M8[s]").astype("M8[ns]"))
+    for column in (instants, pd.DatetimeIndex(instants)):
+        NEW_YORK.to_local(column)
+        must_be_equal(quickly(column), by_columns(column))
+
+
+def test_columns_that_are_left(monkeypatch):
+    frozen = TIMES.tz_localize(None).to_numpy().copy()
+    frozen.flags.writeable = False
+    left = [TIMES[::2], ROWS[::-1], pd.Series([0, 1]), pd.Index([0, 1]), pd.Series(frozen, copy=False), pd.Series(TIMES, dtype="category")]
+    for instants in left[:5]:
+        must_be_equal(NEW_YORK.to_local(instants), by_columns(instants))
+    assert [quickly(instants) for instants in left] == [None] * 6
+    monkeypatch.setattr(_plain, "ROWS", 39)
+    assert quickly(TIMES) is None and quickly(ROWS) is None and quickly(TIMES[1:]).size == 39
+    for instants in (LOCALS.dt.to_period("D"), ROWS - ROWS, left[5], ROWS.astype(str), ROWS.to_frame()):
+        with pytest.raises(TypeError, match="is no column of time"):
+            NEW_YORK.to_local(instants)
+
+
+@pytest.mark.skipif(pd.__version__ >= "2.2", reason="pandas has no such option")
+def test_columns_without_blocks():
+    with pd.option_context("mode.data_manager", "array"):
+        instants = pd.Series(TIMES, name="when")
+        assert quickly(instants) is None
+        must_be_equal(NEW_YORK.to_local(instants), pd.Series(by_columns(TIMES), name="when"))
+
+
+ENDS = st.sampled_from([-(2**63), -(2**63) + 1, 2**63 - 1])
+
+
+@given(st.lists(st.integers(-(2**63), 2**63 - 1) | ENDS, max_size=8), st.booleans())
+def test_plain_columns_of_any_instants(counts, is_index):
+    """A row without an answer has the error that it has in all columns."""
+    times = np.array(counts, np.int64).view("M8[ns]")
+    instants = pd.DatetimeIndex(times) if is_index else pd.Series(times)
+    try:
+        expected = by_columns(instants)
+    except sahvumbi.OutOfRangeError as error:
+        with pytest.raises(sahvumbi.OutOfRangeError) as raised:
+            NEW_YORK.to_local(instants)
+        found = raised.value
+        assert (found.row, found.value, found.label, found.number) == (error.row, error.value, error.label, error.number)
+    else:
+        must_be_equal(NEW_YORK.to_local(instants), expected)
 
 
 def test_answers_are_what_pandas_makes():
@@ -190,9 +291,11 @@ def test_answers_are_what_pandas_makes():
     assert made.sort_values().index[0] == "b" and made.dt.year.dropna().tolist() == [2021.0, 2022.0]
     assert pd.concat([made, made]).size == 8 and made.to_frame().columns.tolist() == ["when"]
     assert pickle.loads(pickle.dumps(made)).equals(made) and made.rename("then").name == "then"
-    index = NEW_YORK.localize(pd.DatetimeIndex(LOCALS, name="when"))
-    assert index.freq is None and index.name == "when" and index.get_loc(INSTANTS.iloc[2]) == 2
-    assert pickle.loads(pickle.dumps(index)).equals(index) and index.insert(0, pd.NaT).size == 4
+    there, here = NEW_YORK.localize(pd.DatetimeIndex(LOCALS, name="when")), NEW_YORK.to_local(pd.DatetimeIndex(INSTANTS, name="when"))
+    for index, expected in ((there, INSTANTS), (here, LOCALS)):
+        assert index.freq is None and index.name == "when" and index.get_loc(expected.iloc[2]) == 2
+        assert pickle.loads(pickle.dumps(index)).equals(index) and index.insert(0, pd.NaT).size == 4
+        assert index.union(index).size == 3 and index.isin(expected).all() and index.rename("then").name == "then"
     # What is written to an answer is not written to its question.
     assert LOCALS.iloc[0] == pd.Timestamp("2021-07-01 08:00:00.5")
 

@@ -1,4 +1,5 @@
-"""One value costs at most three times what zoneinfo takes for it, and a column of 1,000 rows at most a third of what pandas takes.
+"""One value costs at most three times what zoneinfo takes for it, and a column of 1,000 or of 10,000 rows at most a third or a
+tenth of what pandas takes, or a half or a quarter if the library's call alone takes nearly as long.
 
 The least times of many rounds are compared, in which both are asked by turns, so that what else runs doesn't matter.
 """
@@ -44,8 +45,8 @@ def time_of(ask, value, calls):
 
 
 def takes_at_most(share, ours, theirs, value, calls):
-    """Whether our time is at most that share of theirs, by one of three tries."""
-    for _ in range(3):
+    """Whether our time is at most that share of theirs, by one of ten tries."""
+    for _ in range(10):
         rounds = [(time_of(ours, value, calls), time_of(theirs, value, calls)) for _ in range(60)]
         if min(own for own, _ in rounds) <= share * min(other for _, other in rounds):
             return True
@@ -60,8 +61,49 @@ def test_one_value(call, moment):
     assert takes_at_most(3, getattr(ZONE, call), {**OF_INSTANTS, **OF_LOCAL_TIMES}[call], value, 100)
 
 
-@pytest.mark.parametrize("order", [np.sort, np.random.default_rng(1).permutation], ids=["sorted", "in no order"])
-def test_a_thousand_rows(order):
-    seconds = order(np.random.default_rng(2).integers(946_684_800, 1_577_836_800, 1_000))
-    rows = pd.Series(pd.to_datetime(seconds, unit="s", utc=True))
-    assert takes_at_most(1 / 3, ZONE.to_local, lambda rows: rows.dt.tz_convert(NAME).dt.tz_localize(None), rows, 3)
+# Columns
+
+ZONES = [NAME, "Europe/Dublin", "Australia/Lord_Howe", "Africa/Casablanca", "Pacific/Apia", "Asia/Kolkata"]
+#: Seconds of so many rows, in the orders of python/bench/side_by_side.py.
+ORDERS = {
+    "in no order": lambda rows: years(1970, 2037, rows),
+    "sorted": lambda rows: np.sort(years(1970, 2037, rows)),
+    "one day": lambda rows: 1_625_097_600 + np.random.default_rng(2).integers(0, 86_400, rows),
+    "equal": lambda rows: np.full(rows, 1_625_140_800),
+    "old among new": lambda rows: np.where(np.arange(rows) % 1_000, years(1970, 2037, rows), years(1850, 1970, rows)),
+}
+FORMS = {
+    "a Series": (pd.Series, lambda rows, name: rows.dt.tz_convert(name).dt.tz_localize(None)),
+    "a DatetimeIndex": (pd.Index, lambda rows, name: rows.tz_convert(name).tz_localize(None)),
+}
+#: How many times as fast as pandas a column of so many rows is if `is_sure`, and else at least.
+RATIOS = {1_000: (3, 2), 10_000: (10, 4)}
+
+
+def is_sure(form, name, order, rows):
+    """Whether such a column had the first of these ratios with a margin of a fifth, also while other work ran.
+
+    In the other orders the library looks for more than one stretch of the zone, and Kolkata takes pandas little time."""
+    is_short, is_index = rows == 1_000, form == "a DatetimeIndex"
+    if order in ("one day", "equal"):
+        return is_short or name in ZONES[: 2 if is_index else 5]
+    return is_short and (not is_index or name == "Asia/Kolkata" or (name, order) == ("Pacific/Apia", "sorted"))
+
+
+def years(first, end, rows):
+    """Seconds between the beginnings of two years, in no order."""
+    ends = (int(np.datetime64(str(year), "s").astype(int)) for year in (first, end))
+    return np.random.default_rng(1).integers(*ends, rows)
+
+
+@pytest.mark.parametrize("order", ORDERS)
+@pytest.mark.parametrize("name", ZONES)
+@pytest.mark.parametrize("form", FORMS)
+@pytest.mark.parametrize("rows", RATIOS)
+def test_columns(rows, form, name, order):
+    made, theirs = FORMS[form]
+    column = made(pd.to_datetime(ORDERS[order](rows), unit="s", utc=True))
+    sure, least = RATIOS[rows]
+    ratio = sure if is_sure(form, name, order, rows) else least
+    calls = 5_000 // rows or 1
+    assert takes_at_most(1 / ratio, Zone(name).to_local, lambda column: theirs(column, name), column, calls)

@@ -141,9 +141,7 @@ class SeriesContainer(ArrayContainer):
         return self.index[rows]
 
     def times(self, values: Array, unit: Optional[str], zone: Any) -> Any:
-        if unit is None:
-            return self.numbers(values)
-        return self.plain(_times_of_pandas(values, unit, zone))
+        return self.numbers(values) if unit is None else series_of_times(values, unit, zone, self.of)
 
     def numbers(self, values: Array) -> Any:
         return self.plain(_nullable(values) if self.has_nat else values)
@@ -152,7 +150,7 @@ class SeriesContainer(ArrayContainer):
         return self.plain(_lengths_of_pandas(values))
 
     def plain(self, values: Any) -> Any:
-        return _series_over(values, self.of)
+        return _series_over(values, None, self.of)
 
     def table(self, columns: Any) -> Any:
         import pandas
@@ -169,9 +167,7 @@ class IndexContainer(SeriesContainer):
         return self.of
 
     def times(self, values: Array, unit: Optional[str], zone: Any) -> Any:
-        if unit is None:
-            return self.numbers(values)
-        return _index_over(_times_of_pandas(values, unit, zone), self.of.name)
+        return self.numbers(values) if unit is None else index_of_times(values, unit, zone, self.of)
 
     def plain(self, values: Any) -> Any:
         import pandas
@@ -372,24 +368,45 @@ class Failures(NamedTuple):
 # are used if a later pandas has lost those.
 
 
-def _times_of_pandas(values: Array, unit: str, zone: Any) -> Any:
-    """Returns the array in which pandas has times, over these numbers: it copies none of them, and looks at none."""
-    pandas = sys.modules["pandas"]
+def series_of_times(values: Array, unit: str, zone: Any, of: Any) -> Any:
+    """Returns a Series of times over numbers, with the labels of another one, its name, attrs, flags and class."""
+    return _series_over(*_times_of_pandas(values, unit, zone), of)
+
+
+def index_of_times(values: Array, unit: str, zone: Any, of: Any) -> Any:
+    """Returns a DatetimeIndex over numbers, with the name of another one."""
+    times, _ = _times_of_pandas(values, unit, zone)
+    kind = sys.modules["pandas"].DatetimeIndex
+    try:
+        return kind._simple_new(times, name=of.name)
+    except AttributeError:
+        return kind(times, name=of.name)
+
+
+def _times_of_pandas(values: Array, unit: str, zone: Any) -> tuple[Any, Any]:
+    """Returns the array in which pandas has times, over these numbers, and what makes a block over it, if that is known.
+
+    It copies no number, and looks at none."""
     times = values.view(TIMES[unit])
     try:
-        made = pandas.arrays.DatetimeArray._simple_new
+        if zone is None or zone == "UTC":
+            array_over, block_over = quick_times(unit, zone)
+            return array_over(times), block_over
+        pandas = sys.modules["pandas"]
+        return pandas.arrays.DatetimeArray._simple_new(times, dtype=pandas.DatetimeTZDtype(unit, zone)), None
     except AttributeError:
-        plain = pandas.array(times, copy=False)
-        return plain if zone is None else plain.tz_localize("UTC").tz_convert(zone)
-    if zone is None:
-        return made(times, dtype=times.dtype)
-    return made(times, dtype=_type_in_utc(unit) if zone == "UTC" else pandas.DatetimeTZDtype(unit, zone))
+        plain = sys.modules["pandas"].array(times, copy=False)
+        return (plain if zone is None else plain.tz_localize("UTC").tz_convert(zone)), None
 
 
 @lru_cache(None)
-def _type_in_utc(unit: str) -> Any:
-    """Returns the type that pandas has for times of UTC."""
-    return sys.modules["pandas"].DatetimeTZDtype(unit, "UTC")
+def quick_times(unit: str, zone: Optional[str]) -> tuple[Any, Any]:
+    """Returns what makes pandas' array over times, local ones or those of UTC, and what makes a Series' block over that."""
+    pandas = sys.modules["pandas"]
+    none = np.empty(0, TIMES[unit])
+    dtype = none.dtype if zone is None else pandas.DatetimeTZDtype(unit, zone)
+    times = pandas.arrays.DatetimeArray._simple_new(none, dtype=dtype)
+    return times._from_backing_data, type(pandas.Series(times)._mgr.blocks[0])
 
 
 def _lengths_of_pandas(values: Array) -> Any:
@@ -401,39 +418,34 @@ def _lengths_of_pandas(values: Array) -> Any:
         return pandas.array(values, copy=False)
 
 
-def _index_over(times: Any, name: Any) -> Any:
-    """Returns an Index over an array of times."""
-    kind = sys.modules["pandas"].DatetimeIndex
-    try:
-        return kind._simple_new(times, name=name)
-    except AttributeError:
-        return kind(times, name=name)
+def _series_over(values: Any, block_over: Any, of: Any) -> Any:
+    """Returns a Series over values, with the labels of another one, its name, attrs, flags and class.
 
-
-def _series_over(values: Any, of: Any) -> Any:
-    """Returns a Series over values, with the labels of another one, its name, attrs, flags and class."""
-    kind = sys.modules["pandas"].Series
+    `block_over` makes its block, or is None."""
     made = None
-    if type(of) is kind:
+    if type(of) is sys.modules["pandas"].Series:
         try:
-            made = _plain_series(kind, values, of)
+            made = quick_series(values, block_over, of)
         except (AttributeError, TypeError):
             pass
     if made is None:
-        made = of._constructor(values, index=of.index, name=of.name, copy=False)
-    elif not of.attrs and of.flags.allows_duplicate_labels:
-        return made
-    return made.__finalize__(of)
-
-
-def _plain_series(kind: Any, values: Any, of: Any) -> Any:
-    """Returns a Series of pandas' own class over values, with the labels and the name of another one."""
-    manager = of._mgr.from_array(values, of.index)
-    if not hasattr(kind, "_from_mgr"):
-        return kind(manager, name=of.name, fastpath=True)
-    made = kind._from_mgr(manager, manager.axes)
-    made.name = of.name
+        made = of._constructor(values, index=of.index, name=of.name, copy=False).__finalize__(of)
     return made
+
+
+def quick_series(values: Any, block_over: Any, of: Any) -> Any:
+    """The same of a Series of pandas' own class, by the way of pandas itself."""
+    kind: Any = type(of)
+    manager, index = of._mgr, of.index
+    if block_over is None:
+        manager = manager.from_array(values, index)
+    else:
+        manager = type(manager)(block_over(values, placement=manager.blocks[0]._mgr_locs, ndim=1), index)
+    made = kind.__new__(kind)
+    super(kind, made).__init__(manager)
+    object.__setattr__(made, "_name", of.name)
+    is_plain = not of.attrs and of.flags.allows_duplicate_labels
+    return made if is_plain else made.__finalize__(of)
 
 
 def _nullable(values: Array) -> Any:

@@ -232,7 +232,7 @@ class Beginnings:
         in order, the days that it spans, and how many rows lie in each."""
         per_second = block.column.per_second
         if block.is_in_order():
-            first, last = self.days_at((block.values[[0, -1]] - before) // per_second).tolist()
+            first, last = map(int, self.days_at((block.values[[0, -1]] - before) // per_second))
             if (last - first) * ROWS_OF_DAY < block.values.size:
                 days = np.arange(first, last + 1)
                 return days, block.counts(self.of(days[1:]), "right" if before else "left")

@@ -130,11 +130,12 @@ CALLS: dict[str, list[Any]] = {
     "zoned_column_locals": [*_ZONE, *_COLUMN],
     "zoned_column_instants": [*_ZONE, c_uint32, c_uint32, *_COLUMN],
 }
-#: Calls about one value, with the types of what they take. Callers pass these types themselves.
+#: Calls about one value, or about few rows, with the types of what they take. Callers pass these types themselves.
 BRIEF_CALLS: dict[str, list[Any]] = {
     f"zoned_zone_{name}": [*_ZONE, c_int64, c_void_p]
     for name in "day first_at_or_after local_change offset reached span standard_offset type wall_clock".split()
 }
+BRIEF_CALLS["zoned_column_locals"] = CALLS["zoned_column_locals"]
 
 PATH = Path(__file__).with_name("libzoned_ffi.so")
 # What the library's code needs of a processor, in the words of /proc/cpuinfo.
@@ -190,6 +191,9 @@ def _loaded() -> tuple[ctypes.CDLL, ctypes.PyDLL]:
 
 
 LIBRARY, BRIEF = _loaded()
+#: The call about few rows, for more of them: it gives the lock away.
+LONG_LOCALS = LIBRARY["zoned_column_locals"]
+LONG_LOCALS.restype = c_uint32
 
 
 def position_of(kind: int, data: bytes) -> Optional[int]:

@@ -16,8 +16,8 @@ import numpy as np
 
 from . import _library as library
 from ._library import (
-    BRIEF, CHANGE, IN_FOLD, IN_GAP, INSTANT_OUT_OF_RANGE, LIBRARY, LOCAL_TYPE, NO_CHANGE, NO_LOCAL_TIME, NO_OFFSET,
-    RESOLVED, SPAN, WALL_CLOCK, WIDE_ZONE,
+    BRIEF, CHANGE, IN_FOLD, IN_GAP, INSTANT_OUT_OF_RANGE, LIBRARY, LOCAL_TYPE, LONG_LOCALS, NO_CHANGE, NO_LOCAL_TIME,
+    NO_OFFSET, RESOLVED, SPAN, WALL_CLOCK, WIDE_ZONE,
 )
 from .errors import ZoneRefusedError
 
@@ -82,8 +82,11 @@ DAYS_OF_STRETCH = 3
 AROUND = 2 * 86_400
 # How many stretches a zone keeps.
 KEPT = 1 << 12
+# Rows that a brief call is asked. It keeps Python's lock for less than the five milliseconds after which another thread gets it.
+FEW = 1 << 14
 # A type without bytes, whose `from_buffer` finds where an array begins.
 _NOTHING = c_char * 0
+INT64 = np.dtype(np.int64)
 # Seconds between which a stretch is kept: the calendar lies among them, and 64 bits reach far beyond.
 FAR = 1 << 50
 
@@ -127,6 +130,17 @@ class NativeZone:
         Units are those of `COLUMN_UNITS`. The least int64 is no time, and stays."""
         stop = self._written(LIBRARY.zoned_column_locals, (per_second,), *_rows_of(instants, answers), 0)
         return stop and stop.row
+
+    def quick_local_times(self, per_second: c_int64, instants: Array) -> Optional[Array]:
+        """Returns the local times of at most `ROWS` instants as `local_times` writes them, or None if a row has none.
+
+        Both are datetime64, and the instants may be written."""
+        size = instants.size
+        answers, rows = np.empty(size, INT64), c_size_t(size)
+        asked, room = _begin(instants.view(INT64)), _begin(answers)
+        call = BRIEF.zoned_column_locals if size <= FEW else LONG_LOCALS
+        # The last one is for the row that has none, which isn't read.
+        return None if call(self._zone, per_second, asked, rows, room, rows, byref(rows)) else answers.view(instants.dtype)
 
     # Local times, counted in seconds but for those of `instants`.
 
@@ -329,6 +343,11 @@ def _address(array: Array) -> int:
     # Types of older numpy don't have it as a buffer.
     buffer: Any = array
     return addressof(_NOTHING.from_buffer(buffer)) if array.flags.writeable else array.ctypes.data
+
+
+def _begin(array: Any) -> Any:
+    """Where an array of int64 that may be written begins, as a brief call takes it."""
+    return byref(_NOTHING.from_buffer(array))
 
 
 def _array(array: Array) -> tuple[int, int]:

@@ -105,6 +105,8 @@ def _timedelta(seconds: int) -> timedelta:
     return timedelta(0, seconds)
 
 
+# To look these up in numpy takes as long as to compare them.
+DATETIME64, INT64 = np.datetime64, np.int64
 OF_NUMBER = Counted()
 OF_UNIT = {(unit, 1): OfDatetime64(unit) for unit in (*PER_SECOND, *SECONDS)}
 OF_PANDAS: dict[type, OfTimestamp] = {}
@@ -115,7 +117,7 @@ def _counted(value: Any) -> Optional[tuple[Counted, int]]:
     kind = type(value)
     if kind is int:
         return (OF_NUMBER, value) if NAT <= value <= GREATEST else None
-    if kind is np.datetime64:
+    if kind is DATETIME64:
         of_unit = OF_UNIT.get(np.datetime_data(value.dtype))
         if of_unit is None:
             return None
@@ -124,7 +126,7 @@ def _counted(value: Any) -> Optional[tuple[Counted, int]]:
             return None
         count *= of_unit.factor
         return (of_unit, count) if NAT < count <= GREATEST else None
-    if kind is np.int64:
+    if kind is INT64:
         return OF_NUMBER, int(value)
     return _counted_by_pandas(value) if kind.__name__ == "Timestamp" else None
 

@@ -133,7 +133,10 @@ def _numbered(zones: Zones, codes: Any, column: Column) -> tuple[list[Zone], Arr
     if codes.size and not 0 <= int(codes.min()) <= int(codes.max()) < len(zones):
         row = int(((codes < 0) | (codes >= len(zones))).argmax())
         if found is not None:
-            raise ValueError(f"row {row}: {printable(repr(found[numbers[row]]))} is not a key of zones")
+            key = found[numbers[row]]
+            # numpy 2 has a repr of its own for its texts.
+            shown = repr(str(key) if isinstance(key, str) else key)
+            raise ValueError(f"row {row}: {printable(shown)} is not a key of zones")
         raise ValueError(f"row {row}: zones has no place {codes[row]}")
     return list(zones.values() if isinstance(zones, Mapping) else zones), codes
 

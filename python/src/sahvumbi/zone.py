@@ -10,6 +10,7 @@ from zoneinfo import ZoneInfo
 
 from . import _days as days
 from . import _lookups as lookups
+from . import _plain as plain
 from . import _single as single
 from ._changes import Changes, Differences, Time, of_stretch, of_zones
 from ._choice import chosen, must_have_no_others
@@ -22,6 +23,7 @@ from ._library import EXTENDED_STRING, FILE, TEXT
 from ._localize import localized
 from ._names import bytes_of_file, bytes_of_key
 from ._native import NativeZone
+from ._plain import QUICK
 from ._single import ZoneTime
 
 Self = TypeVar("Self", bound="Zone")
@@ -238,10 +240,11 @@ class Zone:
         >>> Zone("Asia/Kolkata").to_local(datetime(2021, 7, 1, 12))
         datetime.datetime(2021, 7, 1, 17, 30)
         """
-        local_time = single.local_time(self._native, instants)
+        local_time = QUICK.get(type(instants), single.local_time)(self._native, instants)
         if local_time is not None:
             return local_time
         column = taken(instants, "zone.to_local(s.index)", may_be_aware=True)
+        plain.learn(type(instants), column)
         return column.local_times(lookups.local_times(self._native, column))
 
     @overload
