@@ -61,7 +61,7 @@ class Edit:
     """A wrong definition."""
 
     name: str
-    file: str = ""
+    # Each text that it exchanges, with its page before and the new text after it.
     pairs: list = field(default_factory=list)
     says: str = ""
     pins: list = field(default_factory=list)
@@ -69,19 +69,27 @@ class Edit:
 
     @property
     def page(self):
-        return self.file.removeprefix("crates/")
+        """The page of the definition, from the folder of the crates on: the first one that the edit changes."""
+        return self.pairs[0][0] if self.pairs else ""
+
+    @property
+    def file(self):
+        return f"crates/{self.page}"
 
     def is_over_built(self):
         """Whether the page is of its law's crate, so that the libraries below are as they were built."""
         return self.page.startswith(f"{self.law[0]}/")
 
-    def applied(self, text):
-        """The page with its texts exchanged, or None if one isn't there exactly once."""
-        for old, new in self.pairs:
+    def applied(self, pages={}):
+        """The pages that it changes, over those of `pages`, or None if a text isn't in its page exactly once."""
+        made = {}
+        for page, old, new in self.pairs:
+            path = TOP / "crates" / page
+            text = made.get(page) or pages.get(page) or (text_of(path) if path.is_file() else "")
             if text.count(old) != 1:
                 return None
-            text = text.replace(old, new)
-        return text
+            made[page] = text.replace(old, new)
+        return made
 
 
 @lru_cache(maxsize=None)
@@ -89,19 +97,17 @@ def edits():
     """The wrong definitions, in the order of their pages and names."""
     found = []
     for block in all_blocks(WRONG_DEFINITIONS):
-        file, notes = f"crates/{block.crate}/{block.pairs[0][0]}", block.notes
-        pairs = [(old, new) for _, old, new in block.pairs]
+        notes, pairs = block.notes, [(f"{block.crate}/{file}", old, new) for file, old, new in block.pairs]
         pins = [pin for row in notes["pins"] for pin in row.split(", ")]
-        found.append(Edit(block.name, file, pairs, "".join(notes["says"]), pins, tuple(" ".join(notes["law"]).split())))
+        found.append(Edit(block.name, pairs, "".join(notes["says"]), pins, tuple(" ".join(notes["law"]).split())))
     return sorted(found, key=lambda edit: (edit.file, edit.name))
 
 
 def faults():
     """What is wrong with the files, and with the pins that docs/DEFINITIONS.md lists."""
     for edit in edits():
-        path = TOP / edit.file
-        if not path.is_file() or not edit.pairs or edit.applied(text_of(path)) is None:
-            yield f"wrong definition {edit.name}: an old text isn't once in {edit.file}"
+        if not edit.applied():
+            yield f"wrong definition {edit.name}: an old text isn't once in its page, {edit.file} or another one"
         for pin in edit.pins:
             module, _, function = pin.partition("::")
             source = TOP / f"crates/tests_pins/src/{module}.rt"
@@ -332,11 +338,10 @@ def spoken_of(pin):
 def changed(name):
     """The definitions that the edit of that name changes."""
     edit = next(edit for edit in edits() if edit.name == name)
-    path = TOP / edit.file
     return {
-        (path, name)
-        for old, _ in edit.pairs
-        for block in blocks(text_of(path))
+        (TOP / "crates" / page, name)
+        for page, old, _ in edit.pairs
+        for block in blocks(text_of(TOP / "crates" / page))
         if old in block and not block.startswith(("use", "pub use"))
         for name in defined(block)
     }
@@ -364,10 +369,10 @@ def made(chosen):
     """The pages that the edits change, or None if a text isn't in its page exactly once."""
     pages = {}
     for edit in chosen:
-        text = edit.applied(pages.get(edit.page) or text_of(TOP / edit.file))
-        if text is None:
+        texts = edit.applied(pages)
+        if texts is None:
             return None
-        pages[edit.page] = text
+        pages |= texts
     return pages
 
 
@@ -384,10 +389,10 @@ def is_accepted(verdict):
 
 
 def unread(edit, said, room):
-    """The faults of the edit's page, and the names that pins miss: nothing that a pin says."""
+    """The faults of the edit's pages, and the names that pins miss: nothing that a pin says."""
     errors = re.findall(r"(?m)^(\S+?):\d+:\d+: error: (.*)$", said)
-    page = str(room / edit.page)
-    return [f"{path}: {text}" for path, text in errors if path == page or not path.startswith(str(room)) and re.search(UNREAD, text)]
+    pages = {str(room / page) for page, *_ in edit.pairs}
+    return [f"{path}: {text}" for path, text in errors if path in pages or not path.startswith(str(room)) and re.search(UNREAD, text)]
 
 
 def outcome(edit, said, room, crate):
@@ -402,13 +407,22 @@ def outcome(edit, said, room, crate):
     return f"{edit.name}: rejected by {', '.join(functions)}", True
 
 
+def write(room, pages):
+    for page, text in pages.items():
+        (room / page).write_text(text)
+
+
+def restore(room, pages):
+    for page in pages:
+        (room / page).write_text(text_of(TOP / "crates" / page))
+
+
 def tried(chosen, room):
     """Tries edits of one round by pins in that copy. If pages can't be read, those that change them are tried one by one."""
-    for page, text in made(chosen).items():
-        (room / page).write_text(text)
+    pages = made(chosen)
+    write(room, pages)
     said = check(room, "tests_pins", sorted({pin for edit in chosen for pin in edit.pins}))
-    for page in made(chosen):
-        (room / page).write_text(text_of(TOP / "crates" / page))
+    restore(room, pages)
     faulty = [edit for edit in chosen if unread(edit, said, room)]
     if faulty and len(chosen) > 1:
         apart = [[edit for edit in chosen if edit not in faulty], *([edit] for edit in faulty)]
@@ -431,10 +445,10 @@ def tried_by_law(law, is_over_built, chosen, log):
             if not is_proved:
                 yield f"{edit.name}: {function} isn't proved of the page as it is", False
                 continue
-            text = text_of(TOP / edit.file)
-            (room / edit.page).write_text(edit.applied(text))
+            pages = edit.applied()
+            write(room, pages)
             yield outcome(edit, check(room, crate, [function], is_over_built), room, crate)
-            (room / edit.page).write_text(text)
+            restore(room, pages)
 
 
 def tried_by_pins(chosen, lanes):
@@ -478,8 +492,8 @@ def main():
     if missing:
         sys.exit(f"no wrong definition of this name: {', '.join(sorted(missing))}")
     for edit in edits():
-        if not edit.pairs or edit.applied(text_of(TOP / edit.file)) is None:
-            sys.exit(f"{edit.name}: an old text isn't exactly once in {edit.file}")
+        if not edit.applied():
+            sys.exit(f"{edit.name}: an old text isn't exactly once in its page, {edit.file} or another one")
     is_chosen = tenth() if given.tenth else lambda name: not given.names or name in given.names
     chosen = [edit for edit in edits() if is_chosen(edit.name)]
     count = rejected = 0
