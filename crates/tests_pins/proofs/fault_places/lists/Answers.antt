@@ -1,6 +1,7 @@
 use Rattle.std.proofs.Common.{arith, inl, inr, refl}
 use Rattle.tz_info.specs.FilePlaces.{At_index, At_leap, At_rule, At_time}
-use Rattle.tests_pins.proofs.{Computed.{files}, FaultPlaces.{below_1, below_2, first_of_all, in_lists, none_below_0, not_other, pieces_of, second_of_2, two_steps}}
+use Rattle.tests_pins.proofs.Computed.{files}
+use Rattle.tests_pins.proofs.FaultPlaces.{below_1, below_2, first_of_all, in_lists, none_below_0, not_other, pieces_of, second_of_2, two_steps}
 use Rattle.tests_pins.proofs.Words.{ints}
 use Rattle.tests_pins.specs.FaultyFiles.{of_second_leap}
 use Rattle.tests_pins.proofs.fault_places.lists.Goals as goal
