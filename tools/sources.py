@@ -221,7 +221,7 @@ def public_clauses():
 
 
 def clauses_in(path, text, start, inside, of_trait, imports):
-    """The clauses of a trait or an impl. The member `laws` of an impl is none: it proves what its trait says."""
+    """The clauses of a trait or an impl. The member `laws` of an impl is left out: it proves what its trait says."""
     for item in re.finditer(r"(?m)^    (pub )?(?:final )?(fn \w+|ghost \w+)", inside):
         if item[2] in ("ghost use", "ghost laws"):
             continue

@@ -64,7 +64,7 @@ def test_one_value(call, moment):
 # Columns
 
 ZONES = [NAME, "Europe/Dublin", "Australia/Lord_Howe", "Africa/Casablanca", "Pacific/Apia", "Asia/Kolkata"]
-#: Seconds of so many rows, in the orders of python/bench/side_by_side.py.
+#: Seconds since 1970, as many as there are rows, in the orders of python/bench/side_by_side.py.
 ORDERS = {
     "in no order": lambda rows: years(1970, 2037, rows),
     "sorted": lambda rows: np.sort(years(1970, 2037, rows)),
@@ -76,7 +76,7 @@ FORMS = {
     "a Series": (pd.Series, lambda rows, name: rows.dt.tz_convert(name).dt.tz_localize(None)),
     "a DatetimeIndex": (pd.Index, lambda rows, name: rows.tz_convert(name).tz_localize(None)),
 }
-#: How many times as fast as pandas a column of so many rows is if `is_sure`, and else at least.
+#: By number of rows: how many times as fast as pandas a column is if `is_sure` holds, and if it doesn't.
 RATIOS = {1_000: (3, 2), 10_000: (10, 4)}
 
 
