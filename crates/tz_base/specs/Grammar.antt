@@ -35,8 +35,8 @@ pub data Grammar : Type 0 → Type 1 where
   Here : {X : Type 0} → (List ℕ → Grammar X) → Grammar X
   -- the grammar, with its fault where those bytes begin
   At : {X : Type 0} → List ℕ → Grammar X → Grammar X
-  -- no bytes, but what the front of that part spells; its fault is as far behind the front of the other bytes, with which the part
-  -- begins, as in the part
+  -- no bytes, but what the front of that part spells; its fault comes as many bytes after the start of the other bytes, with which
+  -- the part begins, as it does in the part
   Inside : {X : Type 0} → List ℕ → List ℕ → Grammar X → Grammar X
 
 infixl 10 ◌>>=◌

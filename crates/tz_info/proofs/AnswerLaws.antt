@@ -52,7 +52,7 @@ joined_answer p q r (Ambiguous a b) (Single c) o x y = both o (of_several x) (of
 joined_answer p q r (Ambiguous a b) (Ambiguous c d) o x y = both o (of_several x) (of_several y)
 
 -- q takes the second c more, which comes after all others
-pub behind_answer : {T : Type 0} (p q : ℤ → T → Type 0) (c : ℤ) (t : T) (answer : LocalResult T) → ((u : ℤ) (f : T) → p u f → q u f)
+pub after_answer : {T : Type 0} (p q : ℤ → T → Type 0) (c : ℤ) (t : T) (answer : LocalResult T) → ((u : ℤ) (f : T) → p u f → q u f)
     → ((u : ℤ) (f : T) → q u f → p u f ⊎ (u ≡ c)) → q c t → ((u : ℤ) (f : T) → p u f → u <ℤ c) → IsWallAnswer p answer
     → IsWallAnswer q (joined answer (Single t))
-behind_answer p q c t _ old only h below s = grind arith
+after_answer p q c t _ old only h below s = grind arith

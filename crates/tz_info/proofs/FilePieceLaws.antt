@@ -38,28 +38,28 @@ abbrev pub EndsIn : List ℕ → FilePieces → List ℕ → Type 0
 EndsIn bytes p rest = (before : List ℕ) × (start : List ℕ) × (bytes ≡ before ++ start) × ((p.time_size ≡ 4) ⊎ (p.time_size ≡ 8))
     × Spells (block p.time_size p.counts) start p.parts (footer_bytes p.footer) × (rest ≡ [])
 
-behind : {X : Type 0} (g : Grammar X) (bytes : List ℕ) (x : X) (after : List ℕ) (p : FilePieces) (rest : List ℕ) → Spells g bytes x after → EndsIn after p rest
+ends_after : {X : Type 0} (g : Grammar X) (bytes : List ℕ) (x : X) (after : List ℕ) (p : FilePieces) (rest : List ℕ) → Spells g bytes x after → EndsIn after p rest
     → EndsIn bytes p rest
-behind g _ x _ _ _ h (before, start, e, size, is, none) =
+ends_after g _ x _ _ _ h (before, start, e, size, is, none) =
     let a = front g _ x _ h in
     (a.0 ++ before, start, a.1 ∙ ap (λ s. a.0 ++ s) e ∙ sym (append_assoc a.0 before start), size, is, none)
 
 later_ends : (bytes : List ℕ) (p : FilePieces) (rest : List ℕ) → Spells later_version bytes p rest → EndsIn bytes p rest
 unfolding later_version
 later_ends _ p rest (h, after, k, (_, _, m, (_, _, f, (value, e)))) =
-    behind (header Second) _ h after p rest k (rw (value, f.0) ([], after, refl, inr refl, m, sym e ∙ f.1))
+    ends_after (header Second) _ h after p rest k (rw (value, f.0) ([], after, refl, inr refl, m, sym e ∙ f.1))
 
 after_ends : (v : Version) (c : Counts) (b : Parts) (start bytes : List ℕ) (p : FilePieces) (rest : List ℕ) → Spells (block 4 c) start b bytes
     → Spells (after_first_block v c b) bytes p rest → EndsIn start p rest
 unfolding after_first_block first_version
 after_ends One _ _ start _ _ _ h (_, _, inl (none, (_, same)), (value, e)) = rw (value, ← none) ([], start, refl, inl refl, h, sym e ∙ sym same)
 after_ends One _ _ _ _ _ _ _ (_, _, inr (_, never), _) = absurd never
-after_ends Two c b _ bytes p rest h k = behind (block 4 c) _ b bytes p rest h (later_ends _ p rest k)
-after_ends Three c b _ bytes p rest h k = behind (block 4 c) _ b bytes p rest h (later_ends _ p rest k)
+after_ends Two c b _ bytes p rest h k = ends_after (block 4 c) _ b bytes p rest h (later_ends _ p rest k)
+after_ends Three c b _ bytes p rest h k = ends_after (block 4 c) _ b bytes p rest h (later_ends _ p rest k)
 
 pub file_ends : (bytes : List ℕ) (p : FilePieces) (rest : List ℕ) → Spells file bytes p rest → EndsIn bytes p rest
 unfolding file
-file_ends _ p rest (h, start, k, (_, _, m, n)) = behind (header First) _ h start p rest k (after_ends _ _ _ _ _ p rest m n)
+file_ends _ p rest (h, start, k, (_, _, m, n)) = ends_after (header First) _ h start p rest k (after_ends _ _ _ _ _ p rest m n)
 
 pub has_pieces : (bytes : List ℕ) (p : FilePieces) (rest : List ℕ) → read file bytes ≡ Ok (p, rest) → HasPieces bytes p
 has_pieces bytes p rest h = let s = (lawful file bytes).takes (p, rest) h in rw (file_ends _ _ _ s).5 at s

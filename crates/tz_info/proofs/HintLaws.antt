@@ -109,7 +109,7 @@ hints_made times hints first span most marked ordered many shift from is long m 
           rw (← from, same) (record {
             within = grind linear;
             before = λ l. grind (arith, first_least times first ordered from);
-            behind = λ k l n.
+            after = λ k l n.
                 let in_k = in_stretch first (item_time times k) hints.shift b (first_least times first ordered from k n) in
                 elim (cases_lt (stretch_of first (item_time times k) hints.shift) b) [
                   | inl lt ↦ grind (arith, m.latest k n, r.above b (suc (stretch_of first (item_time times k) hints.shift)))

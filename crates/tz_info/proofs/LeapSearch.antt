@@ -4,7 +4,7 @@ use Rattle.std.specs.{Int.{int_min, saturate_signed}, List.Sorted.{IsPartitioned
 use Rattle.tz_info.proofs.{
   LeapEntries.{follow, threshold, threshold_at, times_rise},
   LeapOrder.{passed_bounded, split},
-  LeapStarts.{correction_behind, passed_at_most, passed_when},
+  LeapStarts.{correction_after, passed_at_most, passed_when},
   Prefixes.{any_leap, last_taken},
   Words.{AreLeapSeconds, IsLeapTime, LeapSecond, List, SFits, [], arith, by_lt_z, corrections, get_or, int_le, int_lt, le_is, le_true, length},
   Words.{linear, mapped_at, passed_count, pos, refl, suc, true, w64, zero, ℕ, ℤ, ◌+ℤ◌, ◌+◌, ◌-ℤ◌, ◌<ℤ◌, ◌<◌, ◌↔◌, ◌∷◌, ◌≡◌, ◌≤ℤ◌, ◌≤◌},
@@ -33,7 +33,7 @@ pub by_saturated : {P : Type 0} (l s r : ℤ) → SFits w64 l → pos 0 ≤ℤ l
 by_saturated l s r fits some e p = grind (linear, le_saturated, fits, some, le_true, le_is)
 
 -- an entry is passed if and only if its time has come with the correction before it
-pub passed_here : (es : List LeapSecond) (u v : ℤ) (k : ℕ) (d : LeapSecond) → AreLeapSeconds es → k < length es → v ≡ correction_behind es k
+pub passed_here : (es : List LeapSecond) (u v : ℤ) (k : ℕ) (d : LeapSecond) → AreLeapSeconds es → k < length es → v ≡ correction_after es k
     → (int_le (get_or es k d).unix_leap_time (u +ℤ v) ≡ true) ↔ (k < passed_count es u)
 passed_here es u v k d valid h e =
     let p = passed_when es d valid u k h in grind (linear, le_true, le_is)
@@ -55,7 +55,7 @@ abbrev pub Refuses : List LeapSecond → ℕ → ℤ → Type 0
 Refuses es k u = (threshold es k ≤ℤ u) × (pos 9_223_372_036_854_775_808 ≤ℤ (u +ℤ get_or (corrections es) k (pos 0)))
 
 -- that of the entry at place k, whose time and correction are these, after an entry of that correction
-pub refuses_by_entry : (es : List LeapSecond) (k : ℕ) (d : LeapSecond) (last before u : ℤ) → k < length es → before ≡ correction_behind es k
+pub refuses_by_entry : (es : List LeapSecond) (k : ℕ) (d : LeapSecond) (last before u : ℤ) → k < length es → before ≡ correction_after es k
     → (last <ℤ u) ↔ ((((get_or es k d).unix_leap_time -ℤ before) ≤ℤ u) × (pos 9_223_372_036_854_775_808 ≤ℤ (u +ℤ (get_or es k d).correction)))
     → (last <ℤ u) ↔ Refuses es k u
 refuses_by_entry es k d last _ u h e first = grind (linear, threshold_at, mapped_at)

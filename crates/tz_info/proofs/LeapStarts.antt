@@ -10,8 +10,8 @@ use Rattle.tz_info.proofs.{
 }
 
 -- the correction in force after the first k entries
-abbrev pub correction_behind : List LeapSecond → ℕ → ℤ
-correction_behind es k = last_else (pos 0) (corrections (take k es))
+abbrev pub correction_after : List LeapSecond → ℕ → ℤ
+correction_after es k = last_else (pos 0) (corrections (take k es))
 
 pub passed_at_most : (es : List LeapSecond) (u : ℤ) → passed_count es u ≤ length es
 passed_at_most es u = grind (linear, count_by-le-length, threshold_count)
@@ -29,14 +29,14 @@ saturated_rise v w h = grind arith
 
 -- leap seconds in order
 module _ (es : List LeapSecond) (d : LeapSecond) (valid : AreLeapSeconds es) where
-  one_step : (k : ℕ) → k < length es → IsOneStep (correction_behind es k) (correction_behind es (suc k))
+  one_step : (k : ℕ) → k < length es → IsOneStep (correction_after es k) (correction_after es (suc k))
   one_step zero h = rw (last_taken (λ e. e.correction) _ es _ d h) ((follow es valid).step d (omega arith))
   one_step (suc k) h =
       rw (last_taken (λ e. e.correction) _ es _ d h, last_taken (λ e. e.correction) _ es k d (omega arith))
       (((follow es valid).next k d h).step)
 
   -- an entry is passed if and only if its time has come with the correction before it
-  pub passed_when : (u : ℤ) (k : ℕ) → k < length es → (k < passed_count es u) ↔ (((get_or es k d).unix_leap_time -ℤ correction_behind es k) ≤ℤ u)
+  pub passed_when : (u : ℤ) (k : ℕ) → k < length es → (k < passed_count es u) ↔ (((get_or es k d).unix_leap_time -ℤ correction_after es k) ≤ℤ u)
   passed_when u k h =
       let s = split (pos 0) u es k (follow es valid) h in
       let t = threshold_at (pos 0) es k d (pos 0) h in grind linear
@@ -51,16 +51,16 @@ module _ (es : List LeapSecond) (d : LeapSecond) (valid : AreLeapSeconds es) whe
       let m = passed_at_most es u in
       let s = (passed_when u c (omega arith)).0 (omega arith) in
       let a = h.after c d more (omega arith) in
-      let e : y ≡ u +ℤ correction_behind es (suc c) = rw is at l.sum in
+      let e : y ≡ u +ℤ correction_after es (suc c) = rw is at l.sum in
       let step = one_step c (omega arith) in grind linear
 
   -- and then x less the correction in force at x comes before u
-  above_start : (x u : ℤ) (n : ℕ) → HaveCome es x n → n < passed_count es u → (x -ℤ correction_behind es n) ≤ℤ u
+  above_start : (x u : ℤ) (n : ℕ) → HaveCome es x n → n < passed_count es u → (x -ℤ correction_after es n) ≤ℤ u
   above_start x u n h more = let m = passed_at_most es u in let p = passed_when u n in grind arith
 
   -- else at the later of two seconds: the one at which the latest entry is passed, and the one that its correction leads back to
   pub reached_later : (x u y : ℤ) (n : ℕ) → HaveCome es x n → 0 < n → IsLeapTime es u y
-      → (x ≤ℤ y) ↔ ((((get_or es (n - 1) d).unix_leap_time -ℤ correction_behind es (n - 1)) ≤ℤ u) × ((x -ℤ correction_behind es n) ≤ℤ u))
+      → (x ≤ℤ y) ↔ ((((get_or es (n - 1) d).unix_leap_time -ℤ correction_after es (n - 1)) ≤ℤ u) × ((x -ℤ correction_after es n) ≤ℤ u))
   reached_later x u y n h some l =
       let w = h.within in
       let p = passed_when u (n - 1) (omega arith) in

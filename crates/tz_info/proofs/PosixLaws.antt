@@ -1,16 +1,17 @@
 -- The zone of a TZ string.
 use Rattle.tz_base.specs.declared.parse_error.ParseError.{ParseError}
 use Rattle.tz_info.proofs.{
-  TextLaws.{spelled_law, text_low},
+  TextLaws.{one_rule, refused_or_spelled, spelled_law, text_low},
   TrimLaws.{trimmed_fits},
   Words.{Bool, Decided, Err, Error, IfErr, IsOutOfMemory, IsPosixFault, IsPosixZone, IsTextFault, List, Ok, Result, Some, TransitionRule, Zone, []},
   Words.{apart, arith, error_number, false, fault_low, fault_once, inl, inr, length, like, made, nil_from_length, plain_zone, pos, posix_zone, refl},
   Words.{rule_in, sym, trimmed, true, value_once, ℕ, ◌==◌, ◌>>=◌, ◌∙◌, ◌∷◌, ◌≡◌, ◌≢◌, ◌≤◌},
 }
 use Rattle.tz_info.specs.{
-  PosixZones.{IsExtendedFaultPlace, IsPlaced, IsPosixFaultPlace},
-  Steps.Spelled.{IsTrimmedRule},
+  PosixZones.{IsExtendedFaultPlace, IsExtendedZone, IsPlaced, IsPosixFaultPlace},
+  Steps.Spelled.{rule_of, IsTrimmedRule},
   TzGrammar.{text_fault_position},
+  declared.rule.reader.text.Spelled.{Spelled},
 }
 
 unfoldable pub zone_in : List ℕ → Result Zone Error
@@ -46,8 +47,8 @@ module _ (text : List ℕ) where
   pub is_empty : (b : Bool) → b ≡ (length text == 0) → b ≡ true → text ≡ []
   is_empty b h e = nil_from_length text (grind arith)
 
-  pub zone_read : (rule : TransitionRule) → text ≢ [] → rule_in false (trimmed text) ≡ Ok rule → IsPosixZone text (posix_zone rule)
-  zone_read rule some read = inr (record { some = some; rule = rule; spells = (spelled_law _ _).takes rule read; zone = refl })
+  pub zone_read : (s : Spelled) → text ≢ [] → IsTrimmedRule text (Ok s) → IsPosixZone text (posix_zone (rule_of s))
+  zone_read s some read = inr (record { some = some; rule = rule_of s; spells = (spelled_law _ _).takes _ read.0; zone = refl })
 
   pub fault_read : (e : Error) → text ≢ [] → rule_in false (trimmed text) ≡ Err e → IsPosixFault text e
   fault_read e some read = (some, (spelled_law _ _).fails e read)
@@ -70,9 +71,25 @@ pub string_placed : (bytes : List ℕ) (e : ParseError) → IsTextFault true byt
     → IsPlaced (IsExtendedFaultPlace bytes) e
 string_placed bytes e fault place = grind (arith, text_low)
 
+-- a string with the extensions has the zone of the rule that is read of it, and no other, or a fault
+module _ (bytes : List ℕ) where
+  pub extended_read : (rule : TransitionRule) → rule_in true bytes ≡ Ok rule → IsExtendedZone bytes (posix_zone rule)
+  extended_read rule read = (rule, (spelled_law _ _).takes rule read, refl)
+
+  pub extended_fault : (e : Error) → rule_in true bytes ≡ Err e → IsTextFault true bytes e
+  extended_fault = (spelled_law _ _).fails
+
+  pub extended_once : (y z : Zone) → IsExtendedZone bytes y → IsExtendedZone bytes z → y ≡ z
+  extended_once y z (a, h, is_y) (b, k, is_z) = rw (is_y, is_z, one_rule _ _ a b h k) refl
+
+  pub extended_apart : (e : Error) (z : Zone) → IsTextFault true bytes e → IsExtendedZone bytes z → ⊥
+  extended_apart e z fault (rule, spells, is) = refused_or_spelled _ _ e rule fault spells
+
 -- running out of memory is reported only if there is a zone
 pub zone_memory : (P : Zone → Type 0) (z : Zone) (r : Result Zone ParseError) → P z → IfErr r (λ e. IsOutOfMemory e.error → (y : Zone) × P y)
 zone_memory P z r is = grind arith
 
 -- what a reader of the zone of a text needs
+pub ruleset string_answers = (extended_fault, string_placed, text_low)
+
 pub ruleset posix_answers = (fault_or_zone, fault_placed, fault_read, is_empty, not_empty, one_zone, posix_low, zone_read)

@@ -8,9 +8,9 @@ use Rattle.tz_info.proofs.{
 use Rattle.tz_info.specs.declared.rule.day.DayForm.TheVariants.{Julian0, Julian1, MonthWeekday}
 
 -- the day after 31 December
-pub behind_december : (year : ℤ) → day_number year 12 32 ≡ year_start year +ℤ pos (days_in_year year)
+pub after_december : (year : ℤ) → day_number year 12 32 ≡ year_start year +ℤ pos (days_in_year year)
 unfolding day_number
-behind_december year = omega (arith, floors, months_step (is_leap year) 12 (omega arith), months_all year)
+after_december year = omega (arith, floors, months_step (is_leap year) 12 (omega arith), months_all year)
 
 same_week : (first week a b weekday : ℕ) → (first + (a - 1)) % 7 ≡ weekday → (first + (b - 1)) % 7 ≡ weekday → first < 7 → 7 * (week - 1) + 1 ≤ a → a ≤ 7 * week
     → 7 * (week - 1) + 1 ≤ b → b ≤ 7 * week → a ≡ b

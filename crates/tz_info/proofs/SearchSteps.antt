@@ -24,7 +24,7 @@ first_come {A = A} time items v n come =
     let same = length-map items time in
     filter_first (λ x. int_le _ v) _ n (omega arith)
     (λ k d l. grind (arith, mapped_at time items k d (pos 0), le_true, come.before k))
-    (λ k d l m. grind (arith, mapped_at time items k d (pos 0), le_false, come.behind k))
+    (λ k d l m. grind (arith, mapped_at time items k d (pos 0), le_false, come.after k))
 
 -- no time comes before an earlier one
 pub not_before : (times : List ℤ) (i k : ℕ) → AreOrdered times → i ≤ k → k < length times → item_time times i ≤ℤ item_time times k
@@ -35,7 +35,7 @@ module _ (times : List ℤ) (v : ℤ) where
   pub all_passed : (n : ℕ) (ends : Ends) → AreOrdered times → n ≡ length times → 0 < n → AreEnds times ends
       → ends.last ≤ℤ v → ArePassed times v n
   all_passed n _ ordered e some are le =
-      record { within = omega arith; before = λ k h. grind (linear, not_before times k (length times - 1)); behind = grind arith }
+      record { within = omega arith; before = λ k h. grind (linear, not_before times k (length times - 1)); after = grind arith }
 
   -- and none if the first has not
   pub none_passed : (ends : Ends) → AreOrdered times → 0 < length times → AreEnds times ends → v <ℤ ends.first → ArePassed times v 0
@@ -50,7 +50,7 @@ module _ (times : List ℤ) (v : ℤ) where
     within = left.within;
     fits = left.fits;
     before = λ k l. grind (linear, not_before times k middle);
-    behind = left.behind;
+    after = left.after;
   }
 
   -- and at one that has not
@@ -69,7 +69,7 @@ module _ (times : List ℤ) (v : ℤ) where
   near_earlier _ _ middle n e some m l h lt = grind (linear, not_before times middle)
 
   pub near_one : (near : Near) → near.count ≤ 1 → IsNarrowedTo times v near → ArePassed times v (near.first + 1)
-  near_one near h n = record { within = omega arith; before = λ k l. grind (linear, not_before times k near.first); behind = grind (arith, n.behind) }
+  near_one near h n = record { within = omega arith; before = λ k l. grind (linear, not_before times k near.first); after = grind (arith, n.after) }
 
 -- a halving costs a look
 pub digits-halved : (n : ℕ) → 0 < n → digits n ≡ digits (n / 2) + 1

@@ -57,8 +57,8 @@ module _ (z : Zone) (a : AlternateRule) (v : ℤ) (valid : IsValid z) (rule : z.
         let within = rule_second a u t (to_rule z a u t rule valid (omega arith) k) in grind arith
   ]
 
-  not_behind_second : (u : ℤ) (t : LocalType) → v ≤ℤ u → TypeAt z u t → pos 67_767_976_170_460_799 <ℤ v → ⊥
-  not_behind_second u t h k high =
+  not_after_second : (u : ℤ) (t : LocalType) → v ≤ℤ u → TypeAt z u t → pos 67_767_976_170_460_799 <ℤ v → ⊥
+  not_after_second u t h k high =
       let m = segment_most z u valid.transitions.rising in
       let r = segments_rise z v u valid.transitions.rising valid.leaps h in
       let within = rule_second a u t (grind (linear, to_rule)) in grind arith
@@ -85,7 +85,7 @@ module _ (z : Zone) (a b v : ℤ) (s t : LocalType) (valid : IsValid z) (low : a
       let all = all_come z v x valid l last in
       elim (out_of_years v refused) [
         | inl early ↦ not_before_second z r v valid is all a x s l low h early
-        | inr late ↦ not_behind_second z r v valid is all b t high k late
+        | inr late ↦ not_after_second z r v valid is all b t high k late
       ]
 
   pub typed_between : IsRuleOrNone z.rule → Typed (TypeAt z) v

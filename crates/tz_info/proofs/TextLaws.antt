@@ -4,7 +4,7 @@ use Rattle.tz_info.proofs.{
   Words.{Bool, Decided, Error, IfErr, IfOk, IsOkAnd, IsTextFault, IsTzText, List, Result, Spells, TransitionRule, [], alternate, apart, arith, end},
   Words.{error_number, fault_low, fault_once, fixed, lawful, linear, made, named, refl, rule, rule_in, said, text, value_once, ℕ, ◌≡◌, ◌≤◌},
 }
-use Rattle.tz_info.specs.Steps.Spelled.{IsParsed}
+use Rattle.tz_info.specs.{Steps.Spelled.{rule_of, IsParsed}, declared.rule.reader.text.Spelled.{Spelled}}
 
 pub text_ends : (extended : Bool) (bytes : List ℕ) (r : TransitionRule) (rest : List ℕ) → Spells (text extended) bytes r rest → rest ≡ []
 unfolding text rule fixed alternate named end
@@ -36,12 +36,12 @@ module _ (extended : Bool) (bytes : List ℕ) where
   one_rule = value_once (spelled_law _ bytes)
 
   -- ---- what a reader of a whole text answers
-  pub found_by : (r : Result TransitionRule ParseError) → IsParsed extended bytes r → IfOk r (λ rule. IsTzText extended bytes rule)
+  pub found_by : (r : Result Spelled ParseError) → IsParsed extended bytes r → IfOk r (λ s. IsTzText extended bytes (rule_of s))
   found_by r g = let d = spelled_law extended bytes in grind arith
 
-  pub only_by : (r : Result TransitionRule ParseError) → IsParsed extended bytes r → (rule : TransitionRule) → IsTzText extended bytes rule
-      → IsOkAnd r (λ y. y ≡ rule)
+  pub only_by : (r : Result Spelled ParseError) → IsParsed extended bytes r → (rule : TransitionRule) → IsTzText extended bytes rule
+      → IsOkAnd r (λ s. rule_of s ≡ rule)
   only_by r g rule h = let d = spelled_law extended bytes in grind arith
 
-  pub fault_by : (r : Result TransitionRule ParseError) → IsParsed extended bytes r → IfErr r (λ e. IsTextFault extended bytes e.error)
+  pub fault_by : (r : Result Spelled ParseError) → IsParsed extended bytes r → IfErr r (λ e. IsTextFault extended bytes e.error)
   fault_by r g = let d = spelled_law extended bytes in grind arith

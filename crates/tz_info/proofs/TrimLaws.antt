@@ -84,12 +84,12 @@ back_take (suc n) (b ∷ bs) l w e = rw (not_all (b ∷ bs) n (omega arith) (e n
     (ap (λ s. b ∷ s) (back_take n bs (omega arith) (λ i h k. w (suc i) (omega arith) (omega arith)) (λ m h. e (suc m) (omega arith))))
 
 -- no white space follows the end
-behind_end : (s : List ℕ) → slice_index s (length s) ≡ 0
-behind_end [] = refl
-behind_end (_ ∷ bs) = behind_end bs
+after_end : (s : List ℕ) → slice_index s (length s) ≡ 0
+after_end [] = refl
+after_end (_ ∷ bs) = after_end bs
 
 within : (m : ℕ) (s : List ℕ) → IsAsciiWhitespaceBelow s m → m ≤ length s
-within m s below = let b = behind_end s in grind arith
+within m s below = let b = after_end s in grind arith
 
 pub trimmed_is : (s r : List ℕ) → IsTrimAscii s r → r ≡ trimmed s
 unfolding trimmed

@@ -1,7 +1,7 @@
 -- A walk from segment to segment: which seconds it adds, why none lies outside it, and how many transitions it reads.
 use Rattle.offset_core.specs.declared.local_result.LocalResult.TheVariants.{None as Never}
 use Rattle.tz_info.proofs.{
-  AnswerLaws.{Parts, behind_answer, same_answer},
+  AnswerLaws.{Parts, after_answer, same_answer},
   Candidates.offset_of_rule,
   ExtremeLaws.{at_least_least, at_most_greatest},
   SegmentLaws.{between_of, later_segment, segment_at, segment_here, segment_is, segments_rise, type_from, within_of},
@@ -40,7 +40,7 @@ tried_segment z l i valid inside own begin next k s =
     (λ h.
     let b : Between z.transitions k.leap_time i i = grind (linear, between_of z.transitions i k.leap_time, get_or_default z.transitions i) in
     let there = type_of_table z i c _ _ own k.candidate.of_second b k.candidate.listed in
-    rw h.1 (behind_answer _ _ c _ _ (λ u f m. grind arith) (λ u f m. ⊎_elim (λ a. inl a) (λ a. inr a.0) (only u f m))
+    rw h.1 (after_answer _ _ c _ _ (λ u f m. grind arith) (λ u f m. ⊎_elim (λ a. inl a) (λ a. inr a.0) (only u f m))
     (record { shows = record { fits = k.candidate.fits; type = there.type; shown = omega linear }; from = omega arith; below = omega arith })
     (λ u f m. later_segment z u c valid (omega arith)) s))
     (λ h. rw h.1 (same_answer _ _ _ (λ u f m. grind arith) (λ u f m. ⊎_elim (λ a. a)
@@ -86,8 +86,8 @@ module _ {z : Zone} {l low high : ℤ} (n : ℕ) (valid : IsValid z) (w : IsWind
     pub window_most : (u o : ℤ) → w.least ≤ℤ o → u +ℤ o ≡ l → segment_of z u ≤ n
     window_most u o least e = grind (linear, segments_rise z u (l -ℤ w.least), segment_here)
 
-    pub none_behind : (answer : LocalResult LocalType) → IsWallAnswer (IsShownIn z l (n + 1)) answer → IsWallAnswer (Shows (TypeAt z) l) answer
-    none_behind answer s = grind (linear, same_answer, window_most, at_least_least)
+    pub none_after : (answer : LocalResult LocalType) → IsWallAnswer (IsShownIn z l (n + 1)) answer → IsWallAnswer (Shows (TypeAt z) l) answer
+    none_after answer s = grind (linear, same_answer, window_most, at_least_least)
 
 window_least : {X : Type 0} (p : X → Bool) (xs : List X) (a b : ℕ) → b ≤ length xs → ((k : ℕ) (d : X) → a ≤ k → k < b → p (get_or xs k d) ≡ true)
     → b ≤ a + length (filter p xs)

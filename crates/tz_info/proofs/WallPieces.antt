@@ -2,7 +2,7 @@
 use Rattle.tz_info.proofs.{
   Fits.fits,
   Prefixes.last_taken,
-  WallSegments.{piece, shown_before, shown_behind, shown_inside, shown_joined},
+  WallSegments.{piece, shown_before, shown_after, shown_inside, shown_joined},
   Words.{All-push, AreCutsCrossed, AreInOrder, AreOrdered, ArePassed, ArePieces, ArePiecesAt, IsCutAt, IsLastOf, IsNext, IsSegment, IsShownAmong},
   Words.{IsStep, IsTable, IsWide, List, LocalType, None as none, Piece, Segment, Shown, Some, Transition, Zone, [], all_pairs_push, answer_at},
   Words.{answer_before, ap, arith, by_lt_z, cases_lt, cut_of, first_come, get_or, get_or_append_left, get_or_push, index_of, inl, inr, ints},
@@ -133,7 +133,7 @@ pub record AreOpen (z : Zone) (ts : List Transition) (place : ℕ) (s : Segment)
   pub unended : (l : ℤ) (j : ℕ) → together (answer_at (Once first) pieces l) (Skipped j) ≡ answer_at (Once first) pieces l
   -- what the segments show before its end, and from there on
   pub inside : (l : ℤ) → IsWide l → (place ≤ length ts → l <ℤ cut_of ts place s.offset) → IsShownAmong z ts 0 place l (answer_at (Once first) pieces l)
-  pub behind : (l : ℤ) → IsWide l → place ≤ length ts → (1 < place → latest <ℤ cut_of ts place s.offset) → cut_of ts place s.offset ≤ℤ l
+  pub after : (l : ℤ) → IsWide l → place ≤ length ts → (1 < place → latest <ℤ cut_of ts place s.offset) → cut_of ts place s.offset ≤ℤ l
       → IsShownAmong z ts 0 place l Less
   pub rising : (k : ℕ) → 0 < k → suc k < place → end_of z.types ts k <ℤ end_of z.types ts (suc k)
   pub ended : 1 < place → end_of z.types ts (place - 1) ≤ℤ latest
@@ -150,7 +150,7 @@ open_first z ts top s latest table own any is = let index = is.index in record {
   cut = grind arith;
   unended = grind arith;
   inside = grind (arith, shown_inside table own is);
-  behind = grind (arith, shown_behind table own is);
+  after = grind (arith, shown_after table own is);
   rising = grind arith;
   ended = grind arith;
 }
@@ -171,7 +171,7 @@ module _ {z : Zone} {ts : List Transition} {place : ℕ} {s : Segment} {i : ℕ}
       ordered = all_pairs_push (λ (a b : Piece). a.start ≤ℤ b.start) ps _ o.ordered (o.started _ (grind linear));
       most = grind (arith, length_push);
       some = λ _. grind (arith, length_push);
-      answers = λ l wide. by_lt_z l (cut_of ts place s.offset) (λ less. grind (linear, at_earlier, o.inside)) (λ from. grind (linear, at_later, o.behind));
+      answers = λ l wide. by_lt_z l (cut_of ts place s.offset) (λ less. grind (linear, at_earlier, o.inside)) (λ from. grind (linear, at_later, o.after));
     }
 
     -- each segment ends later than the one before
@@ -214,7 +214,7 @@ module _ {z : Zone} {ts : List Transition} {place : ℕ} {s : Segment} {i : ℕ}
         → IsShownAmong z ts 0 (suc place) l r =
         λ l x y r e m n. rw e (shown_joined z ts 0 place (suc place) l x y table.rising (omega arith) (omega arith) m n) in
         let over : (l : ℤ) → IsWide l → cut_of ts place s.offset ≤ℤ l → IsShownAmong z ts 0 place l Less =
-        λ l wide from. o.behind l wide (omega arith) (λ m. let late = strict m in omega linear) from in
+        λ l wide from. o.after l wide (omega arith) (λ m. let late = strict m in omega linear) from in
         rw e (record {
           segment = rw one is;
           ordered = all_pairs_push rise _ q (all_pairs_push rise ps p o.ordered by) by_first;
@@ -234,8 +234,8 @@ module _ {z : Zone} {ts : List Transition} {place : ℕ} {s : Segment} {i : ℕ}
               (shown_inside table own is l wide (grind linear) (grind linear))) a)
               (λ late. joined l Less (Once next.index) _ (grind (linear, at_later)) (over l wide (omega linear))
               (shown_inside table own is l wide (λ _ _. omega linear) (λ m. until (omega arith)))));
-          behind = λ l wide inner after from. let late = after (omega arith) in joined l Less Less Less refl (over l wide (omega linear))
-              (shown_behind table own is l wide (omega arith) from);
+          after = λ l wide inner more from. let late = more (omega arith) in joined l Less Less Less refl (over l wide (omega linear))
+              (shown_after table own is l wide (omega arith) from);
           rising = λ k s inner. ends_rise (omega arith) (grind linear) k s (omega arith);
           ended = λ m. grind (linear, end_before _ ts place _ o.segment.listed);
         })

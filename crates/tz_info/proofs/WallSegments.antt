@@ -122,8 +122,8 @@ module _ {z : Zone} {ts : List Transition} {top k : ℕ} {s : Segment} (table : 
     second_of v j a = grind (linear, offset_here v a.local_type)
 
     -- if it comes after the segment's end, its clocks show less
-    pub shown_behind : k < length ts → cut_of ts (suc k) s.offset ≤ℤ l → IsShownAmong z ts k (suc k) l Less
-    shown_behind inner h =
+    pub shown_after : k < length ts → cut_of ts (suc k) s.offset ≤ℤ l → IsShownAmong z ts k (suc k) l Less
+    shown_after inner h =
         let passed = (cut_begun (suc k) (omega arith) (omega arith)).1 h in
         record {
           wall = λ v j m. grind (linear, second_of v j m);
@@ -165,7 +165,7 @@ module _ {z : Zone} {ts : List Transition} {top k : ℕ} {s : Segment} (table : 
     ordered = search arith;
     most = rw first (grind arith);
     some = grind arith;
-    answers = grind (linear, le_false, le_true, shown_inside, shown_behind);
+    answers = grind (linear, le_false, le_true, shown_inside, shown_after);
   }
 
   -- of the last one, which has no end
@@ -189,7 +189,7 @@ module _ {z : Zone} {ts : List Transition} {top k : ℕ} {s : Segment} (table : 
         some = grind arith;
         answers = λ l wide. by_lt_z l (cut_of ts k s.offset)
             (λ before. grind (linear, le_false, shown_before l wide))
-            (λ from. grind (linear, le_false, le_true, shown_inside l wide, shown_behind l wide));
+            (λ from. grind (linear, le_false, le_true, shown_inside l wide, shown_after l wide));
       }
 
 -- ---- the types of indexes

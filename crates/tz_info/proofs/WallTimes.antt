@@ -1,6 +1,6 @@
 -- Every wall clock has an answer.
 use Rattle.tz_info.proofs.{
-  AnswerLaws.{behind_answer, same_answer},
+  AnswerLaws.{after_answer, same_answer},
   ListFaults.{both_known, equal_known},
   Words.{IsRuleOrNone, IsValid, IsWallAnswer, LocalResult, LocalType, Shows, TypeAt, Zone, by_lt_z, inl, inr, joined, linear, neg_ℤ, pos, suc, zero, ℕ, ℤ},
   Words.{◌+ℤ◌, ◌<ℤ◌, ◌≡◌, ◌≤ℤ◌, ◌⊎◌},
@@ -27,7 +27,7 @@ answer_before p decided start none (suc n) =
     let only : (u : ℤ) (t : LocalType) → Before p end u t → Before p last u t ⊎ (u ≡ last) = λ u t h. by_lt_z u last
     (λ less. inl (h.0, less)) (λ more. inr (omega (linear, h.1, more))) in
     elim (decided last) [
-      | inl found ↦ (joined earlier.0 _, behind_answer _ _ _ _ _ old only (found.1, omega linear) (λ u f h. h.1) earlier.1)
+      | inl found ↦ (joined earlier.0 _, after_answer _ _ _ _ _ old only (found.1, omega linear) (λ u f h. h.1) earlier.1)
       | inr missing ↦ (earlier.0, same_answer _ _ _ old (λ u t h. elim (only u t h) [ inl i ↦ i | inr e ↦ absurd (missing t (rw e at h.0)) ]) earlier.1)
     ]
 

@@ -292,8 +292,8 @@ module _ (extended : Bool) (text d : List ℕ) (z : Zone) (size : length d ≤ 2
 abbrev Bytes : List ℕ → Type 0
 Bytes bytes = (i : ℕ) → get_or bytes i 0 < 256
 
-behind : (a b bytes : List ℕ) → bytes ≡ a ++ b → Bytes bytes → Bytes b
-behind a b bytes e h i = rw (← get_or-append-add a b i 0, ← e) (h (length a + i))
+back : (a b bytes : List ℕ) → bytes ≡ a ++ b → Bytes bytes → Bytes b
+back a b bytes e h i = rw (← get_or-append-add a b i 0, ← e) (h (length a + i))
 
 front : (a b bytes : List ℕ) → bytes ≡ a ++ b → Bytes bytes → Bytes a
 front a b bytes e h i = let at = rw e at h i in grind (arith, get_or_append_left, get_or-eq_default, cases_lt i (length a))
@@ -314,13 +314,13 @@ Values g x = Unit {0}
 values : {X : Type 0} (g : Grammar X) (bytes : List ℕ) (x : X) (rest : List ℕ) → Spells g bytes x rest → Bytes bytes → Values g x × Bytes rest
 values (Nothing v) bytes x rest h b = (h.0, rw h.1 at b)
 values (Then g f) bytes y rest (x, after, p, q) b = let v = values g bytes x after p b in let w = values (f x) after y rest q v.1 in ((x, v.0, w.0), w.1)
-values (Marked tag g h) bytes x rest (inl (after, is, p)) b = grind (arith, values g after x rest p (behind (tag ∷ []) _ _ is b))
+values (Marked tag g h) bytes x rest (inl (after, is, p)) b = grind (arith, values g after x rest p (back (tag ∷ []) _ _ is b))
 values (Marked tag g h) bytes x rest (inr (_, p)) b = grind (arith, values h bytes x rest p b)
 values (Ended g h) bytes x rest p b = grind (arith, values g bytes x rest, values h bytes x rest)
-values (Byte tag) bytes x rest h b = (tt, behind (tag ∷ []) _ _ h b)
-values (Run p) bytes x rest h b = (tt, behind x _ _ h.whole b)
-values (Number max) bytes x rest h b = (tt, behind h.digits _ _ h.whole b)
-values (Exact n) bytes x rest h b = ((front x _ _ h.0 b, h.1), behind x _ _ h.0 b)
+values (Byte tag) bytes x rest h b = (tt, back (tag ∷ []) _ _ h b)
+values (Run p) bytes x rest h b = (tt, back x _ _ h.whole b)
+values (Number max) bytes x rest h b = (tt, back h.digits _ _ h.whole b)
+values (Exact n) bytes x rest h b = ((front x _ _ h.0 b, h.1), back x _ _ h.0 b)
 values Rest bytes x rest h b = (rw h.0 b, rw h.1 (λ i. omega arith))
 values (Refused refusal) bytes x rest h b = absurd h
 values (Check P test refusal v) bytes x rest h b = ((h.0, h.1), rw h.2 at b)
@@ -347,9 +347,9 @@ text_stands : (d : List ℕ) (place : ℕ) (text rest : List ℕ) → Spells des
 unfolding designation
 text_stands d place text rest (_, bytes, inl none, _) = absurd none.1
 text_stands d place text rest (_, bytes, inr (some, (_, same)), (run, after, is, inr none)) = absurd none.1
-text_stands d place text rest (_, bytes, inr (some, (_, same)), (run, after, is, inl (behind, zero_first, (value, _)))) = record {
+text_stands d place text rest (_, bytes, inr (some, (_, same)), (run, after, is, inl (others, zero_first, (value, _)))) = record {
   before = take place d;
-  after = behind;
+  after = others;
   whole = sym (take-append-drop place d) ∙ ap (λ s. take place d ++ s) (same ∙ is.whole ∙ rw (zero_first, value) refl);
   at = elim (cases_lt place (length d)) [
     | inl l ↦ omega (arith, length-take place d)
@@ -368,7 +368,7 @@ type_named p k bytes t rest b (_, (offset, a, cut, (dst, c, m, (place, e, one, (
     record {
       place = get_or place 0 0;
       stands = rw (is, same) (text_stands p.parts.designations _ text g spelled);
-      named = front place e c one.0 (values mark a dst c m (behind offset a _ cut.0 record_bytes)).1 0;
+      named = front place e c one.0 (values mark a dst c m (back offset a _ cut.0 record_bytes)).1 0;
     }
 
 pub writable : (bytes : List ℕ) (z : Zone) → AreBytes bytes → IsTzFile bytes z → IsWritable z
@@ -376,7 +376,7 @@ unfolding file tz_file contents
 writable bytes z are (p, after, pieces, (types, c, each, (_, e, _, (rule, f, says, (value, _))))) =
     let b : Bytes bytes = λ i. let at = are i 0 in grind (arith, cases_lt i (length bytes), get_or-eq_default) in
     let (before, _, whole, _, last, _) = file_ends bytes p after pieces in
-    let (indexes, in_types) = last_bytes p.time_size p.counts p.parts (values (block p.time_size p.counts) _ _ _ last (behind before _ _ whole b)).0 in
+    let (indexes, in_types) = last_bytes p.time_size p.counts p.parts (values (block p.time_size p.counts) _ _ _ last (back before _ _ whole b)).0 in
     let counts : CountsFit p.counts = grind (arith, values, after_fits, header_fits) in
     let named = each_all (IsNamedIn p.parts.designations) (type_at p) after p.counts.types types c (λ k s t r. type_named p k s t r in_types) each in
     let times = values_is (transition_at p) p.counts.transitions in

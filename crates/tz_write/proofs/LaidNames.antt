@@ -92,14 +92,14 @@ begins_again text rest =
     let starts = (starts_is {E = nat_eq} Decides-eqb (text ++ (0 ∷ rest)) text _ refl).1 (0 ∷ rest) refl in
     grind (arith, nat_tests, length-append, get_or_at)
 
-place_behind : (text front rest : List ℕ) → place_of text (front ++ (text ++ (0 ∷ rest))) ≤ length front
-place_behind [] [] rest = grind (arith, nat_tests, begins_again [] rest)
-place_behind (c ∷ cs) [] rest = grind (arith, nat_tests, begins_again (c ∷ cs) rest)
-place_behind text (b ∷ bs) rest = grind (arith, nat_tests, place_behind text bs rest)
+place_after : (text front rest : List ℕ) → place_of text (front ++ (text ++ (0 ∷ rest))) ≤ length front
+place_after [] [] rest = grind (arith, nat_tests, begins_again [] rest)
+place_after (c ∷ cs) [] rest = grind (arith, nat_tests, begins_again (c ∷ cs) rest)
+place_after text (b ∷ bs) rest = grind (arith, nat_tests, place_after text bs rest)
 
 -- bytes put after it don't move it
 place_kept : (text bytes more : List ℕ) → In bytes text → place_of text (bytes ++ more) ≤ place_of text bytes
-place_kept text bytes more l = let s = in_stands bytes text l in let behind = place_behind text s.before (s.after ++ more) in
+place_kept text bytes more l = let s = in_stands bytes text l in let after = place_after text s.before (s.after ++ more) in
     grind (arith, append_assoc, length-take)
 
 -- the text and its 0 byte are put at the end
@@ -108,10 +108,10 @@ added bytes text = bytes ++ (text ++ 0 ∷ [])
 
 -- a text comes no later than there
 place_of_stands : (bytes text : List ℕ) (s : Stands bytes text) → place_of text bytes ≤ length s.before
-place_of_stands bytes text s = grind (arith, place_behind)
+place_of_stands bytes text s = grind (arith, place_after)
 
 stands_in : (bytes text : List ℕ) → Stands bytes text → In bytes text
-stands_in bytes text s = grind (arith, place_behind, length-append)
+stands_in bytes text s = grind (arith, place_after, length-append)
 
 -- the end of a text that is there
 abbrev end_stands : {bytes text other : List ℕ} → Stands bytes text → Ends text other → Stands bytes other

@@ -5,7 +5,7 @@ use Rattle.zoned_ffi.{specs.declared.{column.Way.TheVariants.{ToLocal}, resolved
 use Rattle.zoned_ffi.proofs.Words.{AreKeptTimes, Choice, Fits64, IsGreatest, IsInRange, IsLeast, IsNoInstant, IsOffsetStretch, IsShownOnce, IsTakenAs, Kept}
 use Rattle.zoned_ffi.proofs.Words.{List, LocalType, MatchOption, None, OffsetStretch, Option, Shows, Some, Taken, TypeAt, Unit, Zone, ap, arith, first_second}
 use Rattle.zoned_ffi.proofs.Words.{floor_div, floors, get_or, ints, neg_ℤ, offsets, per_second, pos, refl, subst, taken_instant, ℕ, ℤ, ◌*ℤ◌, ◌+ℤ◌, ◌+◌, ◌-ℤ◌}
-use Rattle.zoned_ffi.proofs.{Words.{◌<ℤ◌, ◌≡◌, ◌≤ℤ◌, AreWritten, drop, length, take, take_all, ◌∙◌, ◌≤◌}, Slices.{same_behind}, Resolving.{none_is, taken_once}}
+use Rattle.zoned_ffi.proofs.{Words.{◌<ℤ◌, ◌≡◌, ◌≤ℤ◌, AreWritten, drop, length, take, take_all, ◌∙◌, ◌≤◌}, Slices.{same_after}, Resolving.{none_is, taken_once}}
 use Rattle.tz_info.proofs.{ExtremeLaws.{at_least_least, at_most_greatest}, ForCallers.{type_once}}
 
 abbrev pub least : ℤ
@@ -117,14 +117,14 @@ module _ (z : Zone) (unit : Unit) where
     row_number local n none = grind (arith, none_is)
 
 -- a column that is as it was after a place stops as well for one that was the same there
-pub stop_behind : (q : Question) (times old mid new : List ℤ) (s : Stop) (from : ℕ) → IsStop q times mid new s → from ≤ s.row → drop from mid ≡ drop from old
+pub stop_after : (q : Question) (times old mid new : List ℤ) (s : Stop) (from : ℕ) → IsStop q times mid new s → from ≤ s.row → drop from mid ≡ drop from old
     → IsStop q times old new s
-stop_behind q times old mid new s from stop late same = record {
+stop_after q times old mid new s from stop late same = record {
   within = stop.within;
   before = stop.before;
   time = stop.time;
   without = stop.without;
-  behind = stop.behind ∙ same_behind mid old from s.row late same;
+  after = stop.after ∙ same_after mid old from s.row late same;
 }
 
 -- the last block of a column
@@ -135,4 +135,4 @@ last_block q times old mid new from to None (written, rest) whole as_many same =
     let all : take to times ≡ times = take_all to times whole in
     let each : take to new ≡ new = take_all to new (omega arith) in
     subst (λ ys. AreWritten q times ys) each (subst (λ xs. AreWritten q xs (take to new)) all written)
-last_block q times old mid new from to (Some s) (late, stop) whole as_many same = stop_behind q times old mid new s from stop late same
+last_block q times old mid new from to (Some s) (late, stop) whole as_many same = stop_after q times old mid new s from stop late same

@@ -14,11 +14,11 @@ pub zip_more : {B : Type 0} (R : ℤ → B → Type 0) (xs : List ℤ) (ys : Lis
 zip_more R xs ys i y as_many within before this = grind (arith, zip_step R xs ys i (pos 0) y)
 
 -- what two columns share after a place they share after a later one too
-pub same_behind : {B : Type 0} (xs ys : List B) (i j : ℕ) → i ≤ j → drop i xs ≡ drop i ys → drop j xs ≡ drop j ys
-same_behind xs ys i j less same = grind (arith, drop-drop (j - i) i xs, drop-drop (j - i) i ys)
+pub same_after : {B : Type 0} (xs ys : List B) (i j : ℕ) → i ≤ j → drop i xs ≡ drop i ys → drop j xs ≡ drop j ys
+same_after xs ys i j less same = grind (arith, drop-drop (j - i) i xs, drop-drop (j - i) i ys)
 
 -- and after the place that is written next
-pub written_behind : {B : Type 0} (xs ys : List B) (i : ℕ) (y : B) → drop i xs ≡ drop i ys → drop (i + 1) (slice_set xs i y) ≡ drop (i + 1) ys
-written_behind xs ys i y same = grind (arith, drop-set-lt, same_behind xs ys i (i + 1))
+pub written_after : {B : Type 0} (xs ys : List B) (i : ℕ) (y : B) → drop i xs ≡ drop i ys → drop (i + 1) (slice_set xs i y) ≡ drop (i + 1) ys
+written_after xs ys i y same = grind (arith, drop-set-lt, same_after xs ys i (i + 1))
 
 pub ruleset written_rows = (to_z-of_z, length-set, zip_more)

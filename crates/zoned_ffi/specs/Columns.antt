@@ -76,7 +76,7 @@ pub record IsFirstWithout (z : Zone) (unit : Unit) (way : Way) (times old answer
   pub before : AreAnswered z unit way (take row times) (take row answers)
   pub time : slice_index_or times row (pos 0) ≢ no_time
   pub without : IsNotAnswered z unit way (slice_index_or times row (pos 0)) n
-  pub behind : drop row answers ≡ drop row old
+  pub after : drop row answers ≡ drop row old
 
 -- the numbers of a local time without an instant: in a gap 21, in a fold 22, out of range 23
 abbrev pub IsRowNumber : ℕ → Type 0

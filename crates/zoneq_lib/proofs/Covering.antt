@@ -99,16 +99,16 @@ last_covered z [] given = grind arith
 last_covered z (c ∷ rest) given = let first = line_covered z (c ∷ rest) given in (_, (first.0, z, first.1, refl))
 
 -- every input is cut into lines
-behind : (c : ℕ) (bytes : List ℕ) (pieces : List (List ℕ)) (rest : List ℕ) → c ≢ 10 → IsSplit bytes pieces rest
+after_byte : (c : ℕ) (bytes : List ℕ) (pieces : List (List ℕ)) (rest : List ℕ) → c ≢ 10 → IsSplit bytes pieces rest
     → (pieces' : List (List ℕ)) × (rest' : List ℕ) × IsSplit (c ∷ bytes) pieces' rest'
-behind c bytes [] rest h cut = grind arith
-behind c bytes (p ∷ pieces) rest h cut =
+after_byte c bytes [] rest h cut = grind arith
+after_byte c bytes (p ∷ pieces) rest h cut =
     ((c ∷ p) ∷ pieces, rest, grind (arith, All-head HasNoNewline p pieces cut.each, All-tail HasNoNewline p pieces cut.each))
 
 is_cut : (bytes : List ℕ) → (pieces : List (List ℕ)) × (rest : List ℕ) × IsSplit bytes pieces rest
 is_cut [] = grind arith
 is_cut (c ∷ bytes) =
-    let t = is_cut bytes in elim (cases_eq c 10) [ inl newline ↦ ([] ∷ t.0, t.1, grind arith) | inr other ↦ behind c bytes t.0 t.1 other t.2 ]
+    let t = is_cut bytes in elim (cases_eq c 10) [ inl newline ↦ ([] ∷ t.0, t.1, grind arith) | inr other ↦ after_byte c bytes t.0 t.1 other t.2 ]
 
 -- answers to a front of the input, of which a part is written, go on to answers to all of it
 pub begins_answers : (done left output more : List ℕ) (z : Option Zone) (rest : List ℕ) → Answered None [] done (output ++ more) z rest

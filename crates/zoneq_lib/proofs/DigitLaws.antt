@@ -46,8 +46,8 @@ pairs_read : (i : ℕ) (digits : List ℕ) → length digits % 2 ≡ 0 → AllPa
 unfolding decode_pairs
 pairs_read i (high ∷ low ∷ rest) even all =
     let P = λ (c : ℕ). is_hex_digit c ≡ true in
-    let behind = All-tail P high (low ∷ rest) all in let a = All-head P high (low ∷ rest) all in let b = All-head P low rest behind in
-    let more = pairs_read (i + 2) rest (omega (arith, even)) (All-tail P low rest behind) in grind (arith, pair_read)
+    let others = All-tail P high (low ∷ rest) all in let a = All-head P high (low ∷ rest) all in let b = All-head P low rest others in
+    let more = pairs_read (i + 2) rest (omega (arith, even)) (All-tail P low rest others) in grind (arith, pair_read)
 pairs_read i digits even all = grind arith
 
 -- what is decoded are the bytes that the digits spell

@@ -39,22 +39,22 @@ piece_begins [] ys p more h e = (p, refl, e)
 piece_begins (c ∷ k) ys [] more h e = grind (arith, All-head (λ b. b ≢ 10) c k h)
 piece_begins (c ∷ k) ys (d ∷ p) more h e = grind (arith, piece_begins k ys p more (All-tail (λ b. b ≢ 10) c k h))
 
-no_newline_behind : (k ys : List ℕ) → HasNoNewline (k ++ ys) → HasNoNewline ys
-no_newline_behind k ys h = grind (arith, get_or-append-add, length-append)
+no_newline_after : (k ys : List ℕ) → HasNoNewline (k ++ ys) → HasNoNewline ys
+no_newline_after k ys h = grind (arith, get_or-append-add, length-append)
 
 module _ (m : Option Zone) (k k' ys p : List ℕ) (a : Option Zone) (r : List ℕ) (n : HasNoNewline k) (n' : HasNoNewline k') where
   -- the answers to some bytes after a hopeless beginning are those after each other
   rebased_hopeless : (pieces : List (List ℕ)) (front : List ℕ) → IsHopeless k → IsHopeless k' → IsSplit (k ++ ys) pieces front → IsKeptFor r front
       → HasNoNewline r → AnswersLines m (ended_lines pieces) p a → Answered m k' ys p a r
   rebased_hopeless [] front h h' cut kept lone answered =
-      grind (arith, more_hopeless, no_newline_behind k ys, All-append (λ b. b ≢ 10) k' ys n')
+      grind (arith, more_hopeless, no_newline_after k ys, All-append (λ b. b ≢ 10) k' ys n')
   rebased_hopeless (piece ∷ pieces) front h h' cut kept lone answered =
       let found = piece_begins k ys piece (flat_map (λ (piece : List ℕ). piece ++ codes "\n") pieces ++ front) n (grind (arith, append_assoc)) in
-      let behind = no_newline_behind k found.0 (grind (arith, All-head HasNoNewline piece pieces cut.each)) in
+      let after = no_newline_after k found.0 (grind (arith, All-head HasNoNewline piece pieces cut.each)) in
       record {
         pieces = (k' ++ found.0) ∷ pieces;
         front = front;
-        cut = grind (arith, append_assoc, All-append (λ b. b ≢ 10) k' found.0 n' behind, All-tail HasNoNewline piece pieces cut.each);
+        cut = grind (arith, append_assoc, All-append (λ b. b ≢ 10) k' found.0 n' after, All-tail HasNoNewline piece pieces cut.each);
         kept = kept;
         lone = lone;
         answered = grind (arith, h.ended found.0, h'.ended found.0);

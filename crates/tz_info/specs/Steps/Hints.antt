@@ -7,7 +7,7 @@ use Rattle.tz_info.specs.{Steps.Search.{item_time}, declared.timeline.hints.{Hin
 pub record IsLastBefore (times : List ℤ) (time : ℤ) (place : ℕ) : Type 0 where
   pub within : place < length times
   pub before : 0 < place → item_time times place <ℤ time
-  pub behind : (k : ℕ) → place < k → k < length times → time ≤ℤ item_time times k
+  pub after : (k : ℕ) → place < k → k < length times → time ≤ℤ item_time times k
 
 -- no number is less than the one before it
 abbrev pub AreNonDecreasing : List ℕ → Type 0

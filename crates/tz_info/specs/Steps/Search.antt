@@ -14,7 +14,7 @@ item_time times place = slice_index_or times place (pos 0)
 pub record ArePassed (times : List ℤ) (v : ℤ) (count : ℕ) : Type 0 where
   pub within : count ≤ length times
   pub before : (k : ℕ) → k < count → item_time times k ≤ℤ v
-  pub behind : (k : ℕ) → count ≤ k → k < length times → v <ℤ item_time times k
+  pub after : (k : ℕ) → count ≤ k → k < length times → v <ℤ item_time times k
 
 -- the last of the first `count` items
 pub record IsLastOf {A : Type 0} (items : List A) (count : ℕ) (last : Option A) : Type 0 where
@@ -40,7 +40,7 @@ pub record IsNarrowedTo (times : List ℤ) (v : ℤ) (near : Near) : Type 0 wher
   pub within : near.first + near.count ≤ length times
   pub fits : near.first + near.count < 2 ^ 64
   pub come : item_time times near.first ≤ℤ v
-  pub behind : (k : ℕ) → near.first + near.count ≤ k → k < length times → v <ℤ item_time times k
+  pub after : (k : ℕ) → near.first + near.count ≤ k → k < length times → v <ℤ item_time times k
 
 -- those before `first` come at or before v, those from `high` on after it
 pub record IsLeft (times : List ℤ) (v : ℤ) (first high : ℕ) : Type 0 where
@@ -49,4 +49,4 @@ pub record IsLeft (times : List ℤ) (v : ℤ) (first high : ℕ) : Type 0 where
   pub within : high ≤ length times
   pub fits : high < 2 ^ 64
   pub before : (k : ℕ) → k < first → item_time times k ≤ℤ v
-  pub behind : (k : ℕ) → high ≤ k → k < length times → v <ℤ item_time times k
+  pub after : (k : ℕ) → high ≤ k → k < length times → v <ℤ item_time times k

@@ -32,14 +32,14 @@ IsSpelled (spelled.Alternate std dst start end) = IsWithinDay std.offset × IsWi
 unfoldable pub rule_in : Bool → List ℕ → Result TransitionRule Error
 rule_in extended bytes = read (text extended) bytes >>= λ p. Ok p.0
 
--- what all bytes of a string were read as: the rule, or the error and its place
-abbrev pub IsParsed : Bool → List ℕ → Result TransitionRule ParseError → Type 0
-IsParsed extended bytes (Ok rule) = rule_in extended bytes ≡ Ok rule
+-- what all bytes of a string were read as: what they spell, or the error and its place
+abbrev pub IsParsed : Bool → List ℕ → Result Spelled ParseError → Type 0
+IsParsed extended bytes (Ok s) = (rule_in extended bytes ≡ Ok (rule_of s)) × IsSpelled s
 IsParsed extended bytes (Err e) = (rule_in extended bytes ≡ Err e.error) × (e.position ≡ Some (text_fault_position extended bytes))
 
 -- the same of a string without the white space at its ends, with the place in the whole string
-abbrev pub IsTrimmedRule : List ℕ → Result TransitionRule ParseError → Type 0
-IsTrimmedRule text (Ok rule) = rule_in false (trimmed text) ≡ Ok rule
+abbrev pub IsTrimmedRule : List ℕ → Result Spelled ParseError → Type 0
+IsTrimmedRule text (Ok s) = (rule_in false (trimmed text) ≡ Ok (rule_of s)) × IsSpelled s
 IsTrimmedRule text (Err e) =
     (rule_in false (trimmed text) ≡ Err e.error)
     × (e.position ≡ Some (prefix_len is_ascii_whitespace text + text_fault_position false (trimmed text)))

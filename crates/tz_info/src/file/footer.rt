@@ -1,9 +1,9 @@
 //! The footer of a file (RFC 8536 section 3.3).
 
-ghost use Rattle.std.specs.Prelude.{◌≡◌, option_map};
+ghost use Rattle.std.specs.Prelude.{◌≡◌, option_map, IfOk, IfSome};
 ghost use Rattle.{
   tz_base.specs.Grammar.{IsRead},
-  tz_info.specs.Footers.{footer, footer_text, optional_footer, utf8},
+  tz_info.specs.{Footers.{footer, footer_text, optional_footer, utf8}, Steps.Spelled.{rule_of, IsSpelled}},
 };
 
 use crate::file::contents::byte_or_zero;
@@ -11,26 +11,26 @@ use crate::file::header::after;
 use crate::file::pieces::Pieces;
 use crate::file::place::fault_inside;
 use crate::file::types::read_to_zero;
-use crate::rule::TransitionRule;
-use crate::rule::reader::read_some_rule;
+use crate::rule::reader::text::{Spelled, read_text};
 use crate::trims::{after_space, trimmed};
 use std::str;
 use tz_base::{Cursor, Error, Expected};
 
-/// The rule of the footer, if there is one.
+/// What the footer spells, if it has a rule.
 #[tactic(auto, unfolding(crate::specs::Footers::optional_footer))]
 pub fn read_footer_rule<'a>(
     pieces: &Pieces<'a>,
     cursor: &mut Cursor<'a>,
-) -> Result<Option<TransitionRule>, Error>
-    ensures { IsRead (optional_footer pieces.now.extended (option_map (λ f. f.now) pieces.now.footer))
-        cursor.old (λ r. r) result cursor.new }
+) -> Result<Option<Spelled>, Error>
+    ensures value { IsRead (optional_footer pieces.now.extended (option_map (λ f. f.now) pieces.now.footer))
+        cursor.old (option_map rule_of) result cursor.new }
+    ensures limits { IfOk result (λ found. IfSome found (λ spelled. IsSpelled spelled)) }
 {
     match pieces.footer {
         Some(bytes) => {
             let mut inside = Cursor::new(bytes);
             match read_footer(pieces.extended, &mut inside) {
-                Ok(rule) => Ok(rule),
+                Ok(spelled) => Ok(spelled),
                 Err(error) => {
                     *cursor = fault_inside(bytes, &inside, bytes);
                     Err(error)
@@ -44,8 +44,9 @@ pub fn read_footer_rule<'a>(
 // The TZ string between two newlines, or `None` if that is empty. One newline alone begins and ends
 // the footer.
 #[tactic(auto, unfolding(crate::specs::Footers::footer, crate::specs::Footers::newline))]
-fn read_footer(extended: bool, cursor: &mut Cursor<'_>) -> Result<Option<TransitionRule>, Error>
-    ensures { IsRead (footer extended) cursor.old (λ r. r) result cursor.new }
+fn read_footer(extended: bool, cursor: &mut Cursor<'_>) -> Result<Option<Spelled>, Error>
+    ensures value { IsRead (footer extended) cursor.old (option_map rule_of) result cursor.new }
+    ensures limits { IfOk result (λ found. IfSome found (λ spelled. IsSpelled spelled)) }
 {
     let bytes = cursor.remaining();
     check_utf8(cursor)?;
@@ -59,7 +60,7 @@ fn read_footer(extended: bool, cursor: &mut Cursor<'_>) -> Result<Option<Transit
     let text = trimmed(bytes);
     let mut inside = Cursor::new(text);
     match read_footer_text(extended, &mut inside) {
-        Ok(rule) => Ok(rule),
+        Ok(spelled) => Ok(spelled),
         Err(error) => {
             *cursor = fault_inside(text, &inside, after_space(bytes));
             Err(error)
@@ -83,11 +84,9 @@ fn check_utf8(cursor: &mut Cursor<'_>) -> Result<(), Error>
 
 // A colon in front would name a file, and a 0 byte is in no TZ string.
 #[tactic(auto, unfolding(crate::specs::Footers::footer_text))]
-fn read_footer_text(
-    extended: bool,
-    cursor: &mut Cursor<'_>,
-) -> Result<Option<TransitionRule>, Error>
-    ensures { IsRead (footer_text extended) cursor.old (λ r. r) result cursor.new }
+fn read_footer_text(extended: bool, cursor: &mut Cursor<'_>) -> Result<Option<Spelled>, Error>
+    ensures value { IsRead (footer_text extended) cursor.old (option_map rule_of) result cursor.new }
+    ensures limits { IfOk result (λ found. IfSome found (λ spelled. IsSpelled spelled)) }
 {
     let bytes = cursor.remaining();
     if cursor.read_optional_tag(b":") {
@@ -103,5 +102,5 @@ fn read_footer_text(
     if cursor.is_empty() {
         return Ok(None);
     }
-    read_some_rule(extended, cursor)
+    Ok(Some(read_text(extended, cursor)?))
 }

@@ -62,7 +62,7 @@ pub fn footer_bytes(footer: Option<&[u8]>) -> &[u8]
     }
 }
 
-/// Returns the cursor that is as far behind the front of `from` as the other one is in the part.
+/// Returns the cursor that comes as many bytes after the start of `from` as the other one does in the part.
 pub fn fault_inside<'a>(part: &[u8], inside: &Cursor<'_>, from: &'a [u8]) -> Cursor<'a>
     ensures { result ≡ drop (length part.now - length inside.now) from.now }
 {

@@ -12,6 +12,7 @@ use crate::file::pieces::{Pieces, read_pieces};
 use crate::file::place::lists::from_fault_of_lists;
 use crate::file::types::read_types;
 use crate::rule::TransitionRule;
+use crate::rule::reader::text::rule_of;
 use crate::zone::lists::kept::Kept;
 use crate::zone::lists::valid::check;
 use crate::zone::{LeapSecond, TimeZone};
@@ -77,13 +78,13 @@ fn read_lists<'a>(
 {
     let types = read_types(alloc, bytes, pieces, cursor)?;
     check_indicators(bytes, pieces, cursor)?;
-    let rule = read_footer_rule(pieces, cursor)?;
+    let spelled = read_footer_rule(pieces, cursor)?;
     let transitions = read_transitions(alloc, pieces)?;
     let leap_seconds = read_leap_seconds(alloc, pieces)?;
     Ok(Lists {
         transitions,
         types,
         leap_seconds,
-        rule,
+        rule: spelled.map(rule_of),
     })
 }

@@ -18,6 +18,7 @@ use std::alloc::Global;
 use tz_base::{Cursor, Error, Expected, LocalTimeType};
 
 /// The types of the last block.
+#[tactic(auto, using(crate::proofs::Words::err_from_is_err_and, crate::proofs::ListLaws::each_fails))]
 pub fn read_types<'a>(
     alloc: Global,
     bytes: &'a [u8],

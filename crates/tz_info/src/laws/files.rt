@@ -10,6 +10,7 @@ ghost use Rattle.{
 use tz_base::Error;
 
 /// No bytes spell two zones.
+#[tactic(auto, using(crate::proofs::TzFileLaws::one_zone))]
 pub fn one_zone()
     ensures { (bytes : List ℕ) (y z : Zone) → IsTzFile bytes y → IsTzFile bytes z → y ≡ z }
 {}

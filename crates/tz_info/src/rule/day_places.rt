@@ -10,7 +10,7 @@ use gregorian::{day_number, days_in_month, days_in_year, is_leap_year, month_and
 
 // The month and the day of the month `place` days after the year's 1 January, up to the next
 // 1 January.
-#[tactic(auto, using(crate::proofs::RuleDays::behind_december))]
+#[tactic(auto, using(crate::proofs::RuleDays::after_december))]
 pub(super) fn date_in_year(year: i32, place: u32) -> (usize, i64)
     requires { place ≤ 365 }
     ensures { IsWrittenDate (year_start year +ℤ pos place) year result.0 result.1 }

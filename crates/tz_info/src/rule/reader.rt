@@ -1,19 +1,16 @@
 //! The reader of TZ strings.
 
 ghost use Rattle.std.specs.{Prelude.{◌≡◌, IfErr, IfOk, Some}, Result.{IsOkAnd}};
-ghost use Rattle.{
-  tz_base.specs.Grammar.{IsRead, Nothing, Then},
-  tz_info.specs.{Steps.Spelled.{IsParsed}, TzGrammar.{text, text_fault_position, IsTextFault, IsTzText}},
-};
+ghost use Rattle.tz_info.specs.{Steps.Spelled.{IsParsed}, TzGrammar.{text_fault_position, IsTextFault, IsTzText}};
 
 mod clock;
 mod date;
 mod name;
 pub(crate) mod place;
-mod text;
+pub(crate) mod text;
 
 use crate::rule::transition_rule::TransitionRule;
-use text::{read_text, rule_of};
+use text::{Spelled, read_text, rule_of};
 use tz_base::{Cursor, Error, ParseError};
 
 impl TransitionRule {
@@ -71,36 +68,21 @@ impl TransitionRule {
         ensures place { IfErr result
             (λ e. e.position ≡ Some (text_fault_position extended bytes.now)) }
     {
-        read_all(bytes, extended)
+        Ok(rule_of(read_all(bytes, extended)?))
     }
 }
 
+// What all the bytes spell.
 #[tactic(auto, unfolding(crate::specs::Steps::Spelled::rule_in))]
-pub(crate) fn read_all(bytes: &[u8], extended: bool) -> Result<TransitionRule, ParseError>
+pub(crate) fn read_all(bytes: &[u8], extended: bool) -> Result<Spelled, ParseError>
     ensures { IsParsed extended bytes.now result }
 {
     let mut cursor = Cursor::new(bytes);
     match read_text(extended, &mut cursor) {
-        Ok(spelled) => Ok(rule_of(spelled)),
+        Ok(spelled) => Ok(spelled),
         Err(error) => Err(ParseError {
             error,
             position: Some(bytes.len().saturating_sub(cursor.remaining().len())),
         }),
-    }
-}
-
-// The rule of all bytes of the cursor. It is inlined, and the rule is wrapped where it is made, so that it is moved
-// once less.
-#[inline(always)]
-pub(crate) fn read_some_rule(
-    extended: bool,
-    cursor: &mut Cursor<'_>,
-) -> Result<Option<TransitionRule>, Error>
-    ensures { IsRead (Then (text extended) (λ rule. Nothing (Some rule)))
-        cursor.old (λ rule. rule) result cursor.new }
-{
-    match read_text(extended, cursor) {
-        Ok(spelled) => Ok(Some(rule_of(spelled))),
-        Err(error) => Err(error),
     }
 }

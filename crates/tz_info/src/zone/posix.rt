@@ -10,6 +10,7 @@ ghost use Rattle.{
 
 use crate::rule::TransitionRule;
 use crate::rule::reader::read_all;
+use crate::rule::reader::text::{Spelled, rule_of};
 use crate::trims::{space_in_front, trimmed};
 use crate::zone::time_zone::TimeZone;
 use std::alloc::Global;
@@ -84,7 +85,7 @@ impl TimeZone {
             return TimeZone::utc_zone(alloc);
         }
         match read_trimmed(text.as_bytes()) {
-            Ok(rule) => TimeZone::of_rule(alloc, rule),
+            Ok(spelled) => TimeZone::of_rule(alloc, rule_of(spelled)),
             Err(fault) => Err(fault),
         }
     }
@@ -132,7 +133,7 @@ impl TimeZone {
     ///
     /// Those of [`TimeZone::from_extended_tz`]. [`Error::OutOfMemory`] has no place, and each other
     /// error has one.
-    #[tactic(auto, using(crate::proofs::PosixLaws::string_placed, crate::proofs::TextLaws::text_low))]
+    #[tactic(auto, using(crate::proofs::PosixLaws::string_answers))]
     pub fn parse_extended_tz(alloc: Global, text: &[u8]) -> Result<TimeZone, ParseError>
         // The zone is the string's.
         ensures found { IfOk result (λ z. IsExtendedZone text.now z) }
@@ -148,8 +149,8 @@ impl TimeZone {
         ensures memory { IfErr result
             (λ e. IsOutOfMemory e.error → (z : Zone) × IsExtendedZone text.now z) }
     {
-        let rule = TransitionRule::parse_tz_string(text, true)?;
-        TimeZone::of_rule(alloc, rule)
+        let spelled = read_all(text, true)?;
+        TimeZone::of_rule(alloc, rule_of(spelled))
     }
 
     fn utc_zone(alloc: Global) -> Result<TimeZone, ParseError>
@@ -171,13 +172,13 @@ impl TimeZone {
     }
 }
 
-// The rule of a text without the white space at its ends.
+// What a text spells without the white space at its ends.
 #[tactic(auto, using(crate::proofs::PosixLaws::string_place_within))]
-fn read_trimmed(text: &[u8]) -> Result<TransitionRule, ParseError>
+fn read_trimmed(text: &[u8]) -> Result<Spelled, ParseError>
     ensures { IsTrimmedRule text.now result }
 {
     match read_all(trimmed(text), false) {
-        Ok(rule) => Ok(rule),
+        Ok(spelled) => Ok(spelled),
         Err(ParseError { error, position }) => {
             let position = match position {
                 Some(place) => Some(space_in_front(text) + place),

@@ -19,13 +19,13 @@ use tz_base::{Cursor, Error, Expected, LocalTimeType};
 // What a text spells: one type, or two with the days and times at which the second starts and
 // ends. The rule is made of it at the end, since it is large and each call would copy it.
 #[derive(Clone, Copy)]
-pub(super) enum Spelled {
+pub(crate) enum Spelled {
     Fixed(LocalTimeType),
     Alternate(LocalTimeType, LocalTimeType, (RuleDay, i32), (RuleDay, i32)),
 }
 
 #[inline(always)]
-pub(super) fn rule_of(spelled: Spelled) -> TransitionRule
+pub(crate) fn rule_of(spelled: Spelled) -> TransitionRule
     requires { IsSpelled spelled }
     ensures { result ≡ rule_of spelled }
 {
@@ -40,10 +40,9 @@ pub(super) fn rule_of(spelled: Spelled) -> TransitionRule
     }
 }
 
-// What all bytes of the cursor spell. It is inlined into both callers, so that it isn't moved.
-#[inline(always)]
+// What all bytes of the cursor spell.
 #[tactic(auto, unfolding(crate::specs::TzGrammar::text, crate::specs::TzGrammar::rule))]
-pub(super) fn read_text(extended: bool, cursor: &mut Cursor<'_>) -> Result<Spelled, Error>
+pub(crate) fn read_text(extended: bool, cursor: &mut Cursor<'_>) -> Result<Spelled, Error>
     ensures value { IsRead (text extended) cursor.old rule_of result cursor.new }
     ensures limits { IfOk result (λ spelled. IsSpelled spelled) }
 {

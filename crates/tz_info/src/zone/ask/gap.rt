@@ -105,7 +105,7 @@ impl TimeZone {
     {
         let _ = (self.extremes.least, self.extremes.greatest);
         let shown = self.index.answer(local, probes);
-        let (season, answer) = self.answer_behind(local, shown, probes);
+        let (season, answer) = self.answer_after(local, shown, probes);
         match answer {
             MappedLocalTime::None => {
                 let jump = self.changes.jump(&self.local_types, shown, probes);
@@ -152,14 +152,14 @@ impl TimeZone {
     {
         match jump {
             Some(change) => change,
-            None => self.gap_behind_table(local, season),
+            None => self.gap_after_table(local, season),
         }
     }
 
     // The gap from the last transition on, before which clocks show less: mostly by the moments of
     // the local time's year.
     #[inline(always)]
-    fn gap_behind_table(&self, local: i64, season: Option<Season>) -> HeldChange<'_>
+    fn gap_after_table(&self, local: i64, season: Option<Season>) -> HeldChange<'_>
         requires local { IsWide local }
         requires season { MatchOption season ⊤ (IsSeasonIn self.now local) }
         requires never { IsNeverShown (Shows (TypeAt self.now) local) }

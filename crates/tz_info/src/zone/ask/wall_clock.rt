@@ -97,7 +97,7 @@ impl TimeZone {
             probes.old.rule_questions probes.new.rule_questions }
     {
         let shown = self.table_answer(local, probes);
-        self.answer_behind(local, shown, probes).1
+        self.answer_after(local, shown, probes).1
     }
 
     // What the table shows of the local time.
@@ -117,7 +117,7 @@ impl TimeZone {
     // The answer of all seconds, and the moments of the local time's year if the rule's part was
     // decided by these alone.
     #[inline(always)]
-    pub(super) fn answer_behind(
+    pub(super) fn answer_after(
         &self,
         local: i64,
         shown: Shown,

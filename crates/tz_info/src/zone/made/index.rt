@@ -207,6 +207,7 @@ impl Index {
     // The answer of the last piece that starts at or before the local time. If there are transitions
     // and no pieces, one probe is counted.
     #[inline(always)]
+    #[tactic(auto, using(crate::proofs::WallPieces::latest_answers, crate::proofs::WallPieces::none_answers, crate::proofs::EntryChanges::few_digits))]
     pub(in crate::zone) fn answer(&self, local: i64, probes: &mut Probes) -> Shown
         requires { HasRoomFor (2 ^ 64) probes.old.piece_reads }
         ensures answer { result ≡ answer_at self.now.before self.now.pieces local }

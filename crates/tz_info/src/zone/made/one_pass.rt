@@ -41,18 +41,18 @@ pub(super) fn pieces_in_one_pass(
     let mut latest = i64::MIN;
     let mut before = segment_at(lists.types, entries, 0);
     for place in 1..count {
-        let behind = segment_at(lists.types, entries, place);
-        if is_idle(lists.types, entries, place, before, behind) {
+        let after = segment_at(lists.types, entries, place);
+        if is_idle(lists.types, entries, place, before, after) {
             return Ok(None);
         }
-        let (first, last) = pieces_at(entries, place, before, behind);
+        let (first, last) = pieces_at(entries, place, before, after);
         if is_crossed(place, latest, first.start) {
             return Ok(None);
         }
         latest = last.start;
         pieces.push_reserved(first);
         pieces.push_reserved(last);
-        before = behind;
+        before = after;
     }
     if count == entries.len() {
         let end = cut_of(entries, count, before.offset);
@@ -75,24 +75,24 @@ fn is_idle(
     entries: &[Kept],
     place: usize,
     before: Segment,
-    behind: Segment,
+    after: Segment,
 ) -> bool
     requires before { IsSegment types.now entries.now (place - 1) before }
-    requires behind { IsSegment types.now entries.now place behind }
+    requires after { IsSegment types.now entries.now place after }
     ensures { IsTrue result ↔ ((place < length entries.now)
         × (slice_get types.now (index_of entries.now place)
         ≡ slice_get types.now (index_of entries.now (place - 1)))) }
 {
-    before.offset == behind.offset
+    before.offset == after.offset
         && place < entries.len()
-        && is_same_type(&types[before.index], &types[behind.index])
+        && is_same_type(&types[before.index], &types[after.index])
 }
 
 // Whether the next cut, at that place, does not come after the latest, if there is one.
 #[inline(always)]
 fn is_crossed(place: usize, latest: i64, cut: i64) -> bool
     ensures crossed { IsTrue result → (1 < place) × (cut ≤ℤ latest) }
-    ensures behind { IsFalse result → 1 < place → latest <ℤ cut }
+    ensures after { IsFalse result → 1 < place → latest <ℤ cut }
 {
     place > 1 && cut <= latest
 }
@@ -100,22 +100,22 @@ fn is_crossed(place: usize, latest: i64, cut: i64) -> bool
 // The pieces at the entry between the segment at that place and the one before: in a gap neither
 // shows the local time, in a fold both do.
 #[inline(always)]
-fn pieces_at(entries: &[Kept], place: usize, before: Segment, behind: Segment) -> (Piece, Piece)
+fn pieces_at(entries: &[Kept], place: usize, before: Segment, after: Segment) -> (Piece, Piece)
     requires some { 0 < place }
     requires place { place ≤ length entries.now }
     requires entries { length entries.now < 1_073_741_824 }
     requires before { before.index < 1_073_741_824 }
-    requires behind { behind.index < 1_073_741_824 }
-    ensures { ArePiecesAt entries.now place before behind result.0 result.1 }
+    requires after { after.index < 1_073_741_824 }
+    ensures { ArePiecesAt entries.now place before after result.0 result.1 }
 {
     let end = cut_of(entries, place, before.offset);
-    let start = cut_of(entries, place, behind.offset);
+    let start = cut_of(entries, place, after.offset);
     let (first, answer, last) = if end <= start {
         (end, Shown::Skipped(place), start)
     } else {
-        (start, Shown::Several(before.index, behind.index), end)
+        (start, Shown::Several(before.index, after.index), end)
     };
     let earlier = Piece::small(first, answer);
-    let later = Piece::small(last, Shown::Once(behind.index));
+    let later = Piece::small(last, Shown::Once(after.index));
     (earlier, later)
 }

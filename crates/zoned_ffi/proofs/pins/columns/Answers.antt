@@ -24,5 +24,5 @@ returns-clause-stops c z y refused = record {
   before = (inl (refl, refl), tt);
   time = λ e. omega (arith, ints);
   without = (refl, no_type refused);
-  behind = refl;
+  after = refl;
 }

@@ -1,5 +1,5 @@
 use Rattle.zoned_ffi.proofs.Words.{Fits64, IsWritten, and_parts, arith, get_or, inr, length-set, pos, rules, slice_set, to_z-of_z, ◌+ℤ◌, ◌+◌, ◌∙◌, ◌≡◌}
-use Rattle.zoned_ffi.proofs.Slices.{written_behind, zip_more}
+use Rattle.zoned_ffi.proofs.Slices.{written_after, zip_more}
 use Rattle.zoned_ffi.proofs.column.block.write_pairs.Goals as goal
 
 pub overflow_add-answers : goal.overflow_add-answers
@@ -39,6 +39,6 @@ loop-row-preserved c =
       length-set (slice_set at.answers at.row first) (at.row + 1) second ∙ long,
       omega arith,
       rw last at both,
-      rw last at (written_behind more c.args.answers.now (at.row + 1) second (written_behind at.answers c.args.answers.now at.row first at.invariant.3)),
+      rw last at (written_after more c.args.answers.now (at.row + 1) second (written_after at.answers c.args.answers.now at.row first at.invariant.3)),
       omega arith,
     )

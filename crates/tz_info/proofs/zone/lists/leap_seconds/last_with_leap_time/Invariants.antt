@@ -1,8 +1,8 @@
-use Rattle.tz_info.proofs.{LeapSearch.AreRefusedAfter, LeapStarts.correction_behind, Words.◌≡◌}
+use Rattle.tz_info.proofs.{LeapSearch.AreRefusedAfter, LeapStarts.correction_after, Words.◌≡◌}
 use Rattle.tz_info.proofs.zone.lists.leap_seconds.last_with_leap_time.Given as goal
 
 abbrev pub invariant-loop-entry : goal.invariant-loop-entry
 invariant-loop-entry l = record {
   refused : AreRefusedAfter l.entries l.entry-index l.last;
-  before : l.before ≡ correction_behind l.entries l.entry-index;
+  before : l.before ≡ correction_after l.entries l.entry-index;
 }

@@ -9,7 +9,7 @@ returns c =
     let fe = c.cut_of-end.type_inv in
     let fb = c.cut_of-start.type_inv in
     let fo : SFits w64 c.args.before.offset = search rules in
-    let fp : SFits w64 c.args.behind.offset = search rules in
+    let fp : SFits w64 c.args.after.offset = search rules in
     let ends = simp fits at c.cut_of-end.ensures in
     let starts = simp fits at c.cut_of-start.ensures in
     elim c.if-end-start.branch [

@@ -17,9 +17,9 @@ pub loop-place-preserved : goal.loop-place-preserved
 loop-place-preserved c =
     let ff : SFits w64 c.pieces_at-first.result.0.start = search rules in
     let fl : SFits w64 c.pieces_at-first.result.1.start = search rules in
-    let strict = simp fits at (c.is_crossed.ensures.behind c.if-is_crossed.false) in
+    let strict = simp fits at (c.is_crossed.ensures.after c.if-is_crossed.false) in
     rw add-one (record {
-      pieces = simp fits (open_more c.loop-place.invariant.pieces _ _ _ c.pieces_at-first.ensures c.segment_at-behind.ensures c.args.count _ strict
+      pieces = simp fits (open_more c.loop-place.invariant.pieces _ _ _ c.pieces_at-first.ensures c.segment_at-after.ensures c.args.count _ strict
           c.requires.table (omega arith) (omega arith) (grind arith));
       changes = grind arith;
       room = grind arith;
@@ -30,7 +30,7 @@ returns-then-is_crossed c =
     let ff : SFits w64 c.pieces_at-first.result.0.start = search rules in
     let crossed = simp fits at (c.is_crossed.ensures.crossed c.if-is_crossed.true) in
     inl (crossed_by c.loop-place.invariant.pieces _ (omega arith) crossed.0
-    (cuts_of c.loop-place.invariant.pieces _ _ _ c.pieces_at-first.ensures c.segment_at-behind.ensures).0 crossed.1)
+    (cuts_of c.loop-place.invariant.pieces _ _ _ c.pieces_at-first.ensures c.segment_at-after.ensures).0 crossed.1)
 
 pub returns-then-is_crossed-2 : goal.returns-then-is_crossed-2
 returns-then-is_crossed-2 c =
@@ -52,7 +52,7 @@ returns c =
           let fe = w.cut_of-end.type_inv in
           let last = w.if-count-entries.true in
           let cut = rw here at (simp fits at w.cut_of-end.ensures) in
-          let strict = rw (here, cut) at (simp fits at (w.is_crossed-then-count-entries.ensures.behind w.if-is_crossed-2.false)) in (
+          let strict = rw (here, cut) at (simp fits at (w.is_crossed-then-count-entries.ensures.after w.if-is_crossed-2.false)) in (
             rw (w.pieces-is, w.push_reserved-then-count-entries.ensures.items, simp fits at w.small-piece.ensures, cut, here, c.segment_at.ensures.index)
                 (closed inv (omega arith) strict (omega arith)),
             λ k first below. ends_rise inv (omega arith) strict k first (omega arith),

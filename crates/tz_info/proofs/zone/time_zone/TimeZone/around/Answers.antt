@@ -2,7 +2,7 @@ use Rattle.tz_info.proofs.{
   Fits.fits,
   TableLaws.{gap_by_index, reach_of, rose_by_wall},
   Words.{HasReach, IsShownAmong, ap, arith, length, linear, rules, top_of, ◌≡◌},
-  zone.time_zone.TimeZone.around.Goals.{After-answer-shown, After-answer_behind-season},
+  zone.time_zone.TimeZone.around.Goals.{After-answer-shown, After-answer_after-season},
 }
 use Rattle.tz_info.specs.{Looks.RoseByWallClock, Steps.Entries.AreEntries}
 use Rattle.tz_info.proofs.zone.time_zone.TimeZone.around.Goals as goal
@@ -20,10 +20,10 @@ entries c = rw (← c.self.view_is) c.self.invariant.list
 reach : (c : After-answer-shown) → HasReach c.args.self.now c.args.local
 reach c = reach_of _ _ c.self.inside.extremes c.requires.local (search rules) (search rules) (grind arith)
 
-pub answer_behind-season-requires-clause-shown : goal.answer_behind-season-requires-clause-shown
-answer_behind-season-requires-clause-shown c =
+pub answer_after-season-requires-clause-shown : goal.answer_after-season-requires-clause-shown
+answer_after-season-requires-clause-shown c =
     let fl = c.ranges.local in
-    let d = (goal.at.answer_behind-season-requires-clause-shown c).After-answer-shown in
+    let d = (goal.at.answer_after-season-requires-clause-shown c).After-answer-shown in
     simp fits (c.self.inside.changes, entries d, (said d).wall)
 
 pub gap_at-requires : goal.gap_at-requires
@@ -31,7 +31,7 @@ gap_at-requires c =
     let fl = c.ranges.local in
     let d = (goal.at.gap_at-requires c).After-answer-shown in
     let reach = reach d in
-    let never = rw c.in-None.is at (simp fits at c.answer_behind-season.ensures.found) in
+    let never = rw c.in-None.is at (simp fits at c.answer_after-season.ensures.found) in
     record {
       local = search rules;
       season = search rules;
@@ -42,24 +42,24 @@ gap_at-requires c =
     }
 
 -- one search, and questions to the rule
-cost : (c : After-answer_behind-season) → RoseByWallClock c.args.self.now c.args.probes.now c.answer_behind-season.new.probes
+cost : (c : After-answer_after-season) → RoseByWallClock c.args.self.now c.args.probes.now c.answer_after-season.new.probes
 cost c =
     let n = ap (λ z. length z.transitions) c.self.view_is in
     rose_by_wall _ _ _ _ _ (omega arith) c.answer-shown.ensures.cost
-    (grind (linear, fits)) c.answer_behind-season.ensures.cost
+    (grind (linear, fits)) c.answer_after-season.ensures.cost
 
 pub returns-in-None : goal.returns-in-None
 returns-in-None c =
     let same : c.answer-shown.new.probes.rule_questions ≡ c.args.probes.now.rule_questions = omega arith in
-    let after : c.jump-jump.new.probes.rule_questions ≡ c.answer_behind-season.new.probes.rule_questions = omega arith in
+    let after : c.jump-jump.new.probes.rule_questions ≡ c.answer_after-season.new.probes.rule_questions = omega arith in
     record {
       found = search rules;
-      cost = (_, cost (goal.at.returns-in-None c).After-answer_behind-season, c.jump-jump.ensures.cost);
+      cost = (_, cost (goal.at.returns-in-None c).After-answer_after-season, c.jump-jump.ensures.cost);
       questions = grind (linear, fits);
     }
 
 pub returns-in-Single-clause-cost : goal.returns-in-Single-clause-cost
-returns-in-Single-clause-cost c = (_, cost (goal.at.returns-in-Single-clause-cost c).After-answer_behind-season, search arith)
+returns-in-Single-clause-cost c = (_, cost (goal.at.returns-in-Single-clause-cost c).After-answer_after-season, search arith)
 
 pub returns-in-Ambiguous-clause-cost : goal.returns-in-Ambiguous-clause-cost
-returns-in-Ambiguous-clause-cost c = (_, cost (goal.at.returns-in-Ambiguous-clause-cost c).After-answer_behind-season, search arith)
+returns-in-Ambiguous-clause-cost c = (_, cost (goal.at.returns-in-Ambiguous-clause-cost c).After-answer_after-season, search arith)

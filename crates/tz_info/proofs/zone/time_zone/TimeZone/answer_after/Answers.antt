@@ -4,7 +4,7 @@ use Rattle.tz_info.proofs.{
   WallSegments.{all_segments, table_alone, table_first},
   Words.{ap, arith, linear, sym, ◌∙◌},
 }
-use Rattle.tz_info.proofs.zone.time_zone.TimeZone.answer_behind.Goals as goal
+use Rattle.tz_info.proofs.zone.time_zone.TimeZone.answer_after.Goals as goal
 
 pub types_shown-table-requires : goal.types_shown-table-requires
 types_shown-table-requires c = rw (c.deref.ensures.value, ap (λ z. z.types) c.self.view_is) (table_below _ _ _ c.requires.shown)
