@@ -38,8 +38,8 @@ abbrev pub EndsIn : List ℕ → FilePieces → List ℕ → Type 0
 EndsIn bytes p rest = (before : List ℕ) × (start : List ℕ) × (bytes ≡ before ++ start) × ((p.time_size ≡ 4) ⊎ (p.time_size ≡ 8))
     × Spells (block p.time_size p.counts) start p.parts (footer_bytes p.footer) × (rest ≡ [])
 
-ends_after : {X : Type 0} (g : Grammar X) (bytes : List ℕ) (x : X) (after : List ℕ) (p : FilePieces) (rest : List ℕ) → Spells g bytes x after → EndsIn after p rest
-    → EndsIn bytes p rest
+ends_after : {X : Type 0} (g : Grammar X) (bytes : List ℕ) (x : X) (after : List ℕ) (p : FilePieces) (rest : List ℕ) → Spells g bytes x after
+    → EndsIn after p rest → EndsIn bytes p rest
 ends_after g _ x _ _ _ h (before, start, e, size, is, none) =
     let a = front g _ x _ h in
     (a.0 ++ before, start, a.1 ∙ ap (λ s. a.0 ++ s) e ∙ sym (append_assoc a.0 before start), size, is, none)

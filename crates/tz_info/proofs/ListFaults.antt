@@ -121,4 +121,5 @@ names_of n f xs all k d l = let e = get_or-map f xs k d (f d) l in grind (arith,
 pub names_are : {X : Type 0} (n : ℕ) (f : X → Transition) (xs : List X) → All (λ x. (f x).type_index < n) xs → NameTypes n (map f xs)
 names_are n f = All-map (λ t. t.type_index < n) f
 
-pub ruleset all_of_map = (names_of, names_are)
+-- what decides whether lists make a zone
+pub ruleset list_tests = (names_are, names_of, with_fault, No_type, Not_rising, Other_index, Other_leaps, Other_rule)

@@ -61,3 +61,6 @@ year_found u day year at_day at_year within = let lies = lies_in day in grind (l
 pub alternate_at : (a : AlternateRule) (u day year : ℤ) (dst : Bool) → day ≡ floor_div u 86_400 → LiesIn day year → IsRuleYear year
     → IsDstAt (start_in a) (end_in a) year u dst → AlternateAt a u (type_when a dst)
 alternate_at a u day year dst at_day lies inside when = grind arith
+
+-- at each second a rule has one type, or none
+pub ruleset rule_types = (rule_decided, rule_not_refused, rule_once, rule_time, rule_year)

@@ -150,3 +150,6 @@ module _ (bytes : List ℕ) where
 
 -- what a reader that reports the position needs
 pub ruleset reader = (fault_or_zone, memory, named, no_memory, one_zone, zone_fault)
+
+-- a file has a zone or one fault
+pub ruleset file_faults = (fault_low, fault_once, fault_or_zone, has_fault)

@@ -37,7 +37,7 @@ pub fn rule_days_law()
 {}
 
 /// At each second a rule has one type, or it returns an error.
-#[tactic(auto, using(crate::proofs::RuleLaws::rule_decided, crate::proofs::RuleLaws::rule_not_refused, crate::proofs::RuleLaws::rule_once, crate::proofs::RuleLaws::rule_time, crate::proofs::RuleLaws::rule_year,))]
+#[tactic(auto, using(crate::proofs::RuleLaws::rule_types))]
 pub fn rule_types_law()
     ensures once { (rule : TransitionRule) (u : ℤ) (s t : LocalType) → RuleAt rule u s
         → RuleAt rule u t → s ≡ t }

@@ -1,4 +1,5 @@
 -- The words that the proofs of this crate and of those above it cite, passed on from std, from the crates below and from specs/.
+use Rattle.std.proofs.lemmas.{Grind.elements, List.{flat_map_more, take_more}}
 pub use Rattle.std.{
   proofs.lemmas.{Bool.both_ways, Result.on_err_weaker},
   proofs.Common.{None, Option, Some, ◌^◌},
@@ -33,3 +34,6 @@ unfoldable pub use Rattle.tz_write.specs.{
   Steps.LaidFiles.{counts_bytes, file_bytes, first_half, header_bytes, laid_file, leap_bytes, number_bytes, second_half, signed_bytes, type_bytes},
   Steps.LaidNames.{begins, laid_names},
 }
+
+-- what a loop appends for each item
+pub ruleset appended = (elements, flat_map_more, take_more)

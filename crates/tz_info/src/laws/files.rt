@@ -23,7 +23,7 @@ pub fn rule_is_in_limits()
 
 /// A file has a fault if and only if it spells no valid zone. It has one first fault, and that is
 /// not running out of memory.
-#[tactic(auto, using(crate::proofs::TzFileLaws::fault_low, crate::proofs::TzFileLaws::fault_once, crate::proofs::TzFileLaws::fault_or_zone, crate::proofs::TzFileLaws::has_fault,))]
+#[tactic(auto, using(crate::proofs::TzFileLaws::file_faults))]
 pub fn fault_or_zone()
     ensures apart { (bytes : List ℕ) (e : Error) (zone : Zone) → IsFileFault bytes e
         → IsTzFile bytes zone → ¬ (IsValid zone) }

@@ -72,7 +72,7 @@ fn push_leap_second(bytes: &mut Vec<u8>, leap: LeapSecond) -> Result<(), AllocEr
 }
 
 /// Appends the leap seconds.
-#[tactic(auto, using(std::proofs::lemmas::Grind::elements, std::proofs::lemmas::List::flat_map_more, std::proofs::lemmas::List::take_more, std::proofs::lemmas::List::take_all))]
+#[tactic(auto, using(crate::proofs::Words::appended))]
 pub fn push_leap_seconds(bytes: &mut Vec<u8>, leaps: &[LeapSecond]) -> Result<(), AllocError>
     ensures appended { OnOk result
         (bytes.new.items ≡ bytes.old.items ++ flat_map leap_bytes leaps.now) }

@@ -31,7 +31,7 @@ fn push_type_record(
 }
 
 /// Appends the types.
-#[tactic(auto, using(std::proofs::lemmas::Grind::elements, std::proofs::lemmas::List::flat_map_more, std::proofs::lemmas::List::take_more, std::proofs::lemmas::List::take_all))]
+#[tactic(auto, using(crate::proofs::Words::appended))]
 pub fn push_types(
     bytes: &mut Vec<u8>,
     designations: &[u8],

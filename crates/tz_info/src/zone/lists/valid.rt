@@ -14,7 +14,7 @@ use crate::zone::lists::transition::{AsTransition, Transition};
 use tz_base::{Error, Expected, LocalTimeType};
 
 // Nothing if the lists make a zone, or else their first fault, in one pass over each.
-#[tactic(auto, using(crate::proofs::ListFaults::all_of_map, crate::proofs::ListFaults::with_fault, crate::specs::Zones::No_type, crate::specs::Zones::Not_rising, crate::specs::Zones::Other_index, crate::specs::Zones::Other_leaps, crate::specs::Zones::Other_rule,))]
+#[tactic(auto, using(crate::proofs::ListFaults::list_tests))]
 pub(crate) fn check<T: AsTransition>(
     transitions: &[T],
     types: &[LocalTimeType],
