@@ -97,15 +97,18 @@ module _ (bytes : List ℕ) (p : FilePieces) (after : List ℕ) (is : read file 
   contents_file z rest says =
       let s = (lawful tz_file bytes).takes (z, rest) (rw (is, says) refl) in rw (zone_ends bytes z rest s) at s
 
-  -- what is made of the lists
-  module _ (lists : Zone) (rest : List ℕ) (says : read (contents p) after ≡ Ok (lists, rest)) (r : Result TimeZone Error)
-      (made : MatchResult r (λ z. IsValid lists × (z ≡ lists)) (λ e. (ListFault lists e × ¬ (IsValid lists)) ⊎ ((e ≡ OutOfMemory) × IsValid lists))) where
-    pub made_found : IfOk r (λ z. IsTzFile bytes z × IsValid z)
-    made_found = let file = contents_file lists rest says in grind arith
-
-    pub made_fault : (left : List ℕ) → IsListPlace p left → IfErr r (λ e. IsFaultAt bytes e left)
-    made_fault left place =
+  -- the lists make no valid zone, or one
+  module _ (lists : Zone) (rest : List ℕ) (says : read (contents p) after ≡ Ok (lists, rest)) where
+    pub lists_fault : (e : Error) (left : List ℕ) → ListFault lists e × ¬ (IsValid lists) → IsListPlace p left → IsFaultAt bytes e left
+    lists_fault e left fault place =
         let file = contents_file lists rest says in let has = has_pieces bytes p after is in grind (linear, Not_valid, In_lists)
+
+    module _ (valid : IsValid lists) (r : Result TimeZone Error) (made : MatchResult r (λ z. z ≡ lists) (λ e. e ≡ OutOfMemory)) where
+      pub made_found : IfOk r (λ z. IsTzFile bytes z × IsValid z)
+      made_found = let file = contents_file lists rest says in grind arith
+
+      pub made_fault : (left : List ℕ) → IfErr r (λ e. IsFaultAt bytes e left)
+      made_fault left = let has = has_pieces bytes p after is in grind arith
 
 -- the bytes of a reader that returned an error
 module _ (bytes : List ℕ) (e : Error) (left : List ℕ) (fault : IsFaultAt bytes e left) where

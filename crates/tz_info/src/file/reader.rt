@@ -1,6 +1,6 @@
 //! A file from its first byte to its last: its pieces, the lists that they spell, and the zone.
 
-ghost use Rattle.std.specs.Prelude.{◌≡◌, ◌⊎◌, IfErr, IfOk, MatchResult};
+ghost use Rattle.std.specs.Prelude.{◌≡◌, IfErr, IfOk, MatchResult};
 ghost use Rattle.{
   tz_info.specs.Steps.FileLists.{pieces_of, zone_of_lists, EndFile, IsFaultAt, IsReadInMemory},
   tz_info.specs.{TzFiles.{contents, IsTzFile}, Zones.{IsValid, ListFault}},
@@ -29,12 +29,23 @@ pub struct Lists {
 }
 
 impl Lists {
-    /// The zone of the lists, if they make a valid one.
-    pub fn into_zone(self, alloc: Global) -> Result<TimeZone, Error>
-        ensures { MatchResult result
-            (λ z. IsValid (zone_of_lists self) × (z ≡ zone_of_lists self))
-            (λ e. (ListFault (zone_of_lists self) e × ¬ (IsValid (zone_of_lists self)))
-            ⊎ ((e ≡ Error.OutOfMemory) × IsValid (zone_of_lists self))) }
+    // Their first fault, if they make no valid zone.
+    fn validate(&self) -> Result<(), Error>
+        ensures { MatchResult result (λ _. IsValid (zone_of_lists self.now))
+            (λ e. ListFault (zone_of_lists self.now) e × ¬ (IsValid (zone_of_lists self.now))) }
+    {
+        check(
+            &self.transitions,
+            &self.types,
+            &self.leap_seconds,
+            &self.rule,
+        )
+    }
+
+    // The zone that they make.
+    fn into_zone(self, alloc: Global) -> Result<TimeZone, Error>
+        requires { IsValid (zone_of_lists self) }
+        ensures { MatchResult result (λ z. z ≡ zone_of_lists self) (λ e. e ≡ Error.OutOfMemory) }
     {
         let Lists {
             transitions,
@@ -42,7 +53,6 @@ impl Lists {
             leap_seconds,
             rule,
         } = self;
-        check(&transitions, &types, &leap_seconds, &rule)?;
         TimeZone::of_valid(alloc, transitions, types, leap_seconds, rule)
     }
 }
@@ -55,13 +65,11 @@ pub fn read_zone(alloc: Global, cursor: &mut Cursor<'_>) -> Result<TimeZone, Err
     let bytes = cursor.remaining();
     let pieces = read_pieces(cursor)?;
     let lists = read_lists(alloc, bytes, &pieces, cursor)?;
-    match lists.into_zone(alloc) {
-        Ok(zone) => Ok(zone),
-        Err(error) => {
-            *cursor = Cursor::new(from_fault_of_lists(bytes, &pieces));
-            Err(error)
-        }
+    if let Err(error) = lists.validate() {
+        *cursor = Cursor::new(from_fault_of_lists(bytes, &pieces));
+        return Err(error);
     }
+    lists.into_zone(alloc)
 }
 
 // What the pieces say: first the types are read, one after the other, then the indicators, then

@@ -1,7 +1,7 @@
 use Rattle.tz_info.proofs.{
   FilePieceLaws.{end_file, has_pieces},
-  TzFileLaws.{contents_fault, made_fault, made_found, pieces_fault},
-  Words.{Err, Ok, err_from_is_err_and},
+  TzFileLaws.{contents_fault, lists_fault, made_fault, made_found, pieces_fault},
+  Words.{arith, err_from_is_err_and},
 }
 use Rattle.tz_info.proofs.file.reader.read_zone.Goals as goal
 
@@ -23,7 +23,10 @@ from_fault_of_lists-requires c = rw c.remaining-bytes.ensures (end_file _ _ (has
 
 pub returns-in-Err-clause-fault : goal.returns-in-Err-clause-fault
 returns-in-Err-clause-fault c =
-    rw c.new.ensures (made_fault _ _ _ c.in_ok-pieces.ensures _ _ c.in_ok-lists.ensures (Err c.in-Err.error) c.in-Err.ensures _ c.from_fault_of_lists.ensures)
+    rw c.new.ensures (lists_fault _ _ _ c.in_ok-pieces.ensures _ _ c.in_ok-lists.ensures c.in-Err.error _ c.in-Err.ensures c.from_fault_of_lists.ensures)
 
-pub returns-in-Ok-clause-found : goal.returns-in-Ok-clause-found
-returns-in-Ok-clause-found c = made_found _ _ _ c.in_ok-pieces.ensures _ _ c.in_ok-lists.ensures (Ok c.in-Ok.zone) c.in-Ok.ensures
+pub returns-clause-found : goal.returns-clause-found
+returns-clause-found c = made_found _ _ _ c.in_ok-pieces.ensures _ _ c.in_ok-lists.ensures (grind arith) _ c.into_zone.ensures
+
+pub returns-clause-fault : goal.returns-clause-fault
+returns-clause-fault c = made_fault _ _ _ c.in_ok-pieces.ensures _ _ c.in_ok-lists.ensures (grind arith) _ c.into_zone.ensures _
