@@ -1,19 +1,10 @@
 -- Types of local time, changes of the clocks and spans are equal by `==` if and only if they are equal.
-use Rattle.std.proofs.{Common.{arith, rules, int_eq, ◌≡◌, ◌↔◌, IsTrue, refl, Bool, ◌&&◌}, lemmas.Bool.Decides.{Decides-and}}
+use Rattle.std.proofs.{Common.{arith, rules, int_eq, ◌≡◌, ◌↔◌, IsTrue, Bool, ◌&&◌}, lemmas.Bool.Decides.{Decides-and}}
 use Rattle.std.specs.Option.{option_eq}
 use Rattle.tz_base.specs.{contracts.local_time_type.LocalTimeTypePartialEq.TheImpl.{eq-value as type_eq}, declared.{span.Span.{Span}, change.Change.{Change}}}
 
 abbrev pub IsExact : {X : Type 0} → (X → X → Bool) → Type 0
 IsExact {X} E = (a b : X) → IsTrue (E a b) ↔ (a ≡ b)
-
-pub and_left : (x y : Bool) → IsTrue (x && y) → IsTrue x
-and_left x y h = grind arith
-
-pub and_right : (x y : Bool) → IsTrue (x && y) → IsTrue y
-and_right x y h = grind arith
-
-pub and_both : (x y : Bool) → IsTrue x → IsTrue y → IsTrue (x && y)
-and_both x y h k = rw (h, k) refl
 
 pub type_exact : IsExact type_eq.it
 type_exact a b = search rules

@@ -40,13 +40,8 @@ pub said : {X : Type 0} {r : Result X Error} {P Q : X → Type 0} {F : Error →
     → ((x : X) → Q x → P x) → Decided X r Q F
 said d to from = like d to from (λ err f. f) (λ err f. f)
 
--- the only error is that one, and so it is returned where nothing is meant
-pub by_error : {X : Type 0} {r : Result X Error} {P Q : X → Type 0} {F : Error → Type 0} (other : Error) → Decided X r P F → ((x : X) → P x → Q x)
-    → ((x : X) → Q x → P x) → ((err : Error) → F err → err ≡ other) → Decided X r Q (λ err. ((x : X) → ¬ (Q x)) × (err ≡ other))
-by_error other d to from only = grind (arith, either d)
-
 -- ---- one value after the other
-pub bind : {X Y : Type 0} {r : Result X Error} {P : X → Type 0} {F : Error → Type 0} {f : X → Result Y Error} {Q : X → Y → Type 0} {G : X → Error → Type 0}
+bind : {X Y : Type 0} {r : Result X Error} {P : X → Type 0} {F : Error → Type 0} {f : X → Result Y Error} {Q : X → Y → Type 0} {G : X → Error → Type 0}
     → Decided X r P F → ((x : X) → P x → Decided Y (f x) (Q x) (G x))
     → Decided Y (r >>= f) (λ y. (x : X) × P x × Q x y) (λ err. F err ⊎ ((x : X) × P x × G x err))
 bind d e = grind arith

@@ -1,5 +1,5 @@
 -- What a grammar reads is what it spells, or the error of its fault.
-use Rattle.std.proofs.Common.{Bool, List, Ok, Result, arith, drop, inl, inr, length, refl, take, true, ℕ, [], ◌&&◌, ◌++◌, ◌<◌, ◌==◌, ◌∷◌, ◌≡◌, ◌≤◌, ◌⊎◌}
+use Rattle.std.proofs.Common.{Bool, List, Ok, Result, arith, drop, inl, inr, length, refl, take, ℕ, [], ◌++◌, ◌<◌, ◌∷◌, ◌≡◌, ◌≤◌, ◌⊎◌}
 use Rattle.std.proofs.{Math.Seq.{take-append_seam}, lemmas.{Bool.Decides.{nat_tests}, List.{length-append, length-take, take-append-drop}, Int.{ints}}}
 use Rattle.std.specs.Bool.{Decides}
 use Rattle.tz_base.specs.{Errors.{error_number}, declared.error.Error.{Error}}
@@ -36,9 +36,6 @@ refused_read : {X : Type 0} (refusal : Refusal) → Lawful (Refused {X = X} refu
 refused_read refusal bytes = grind (arith, low)
 
 -- ---- a byte
-pub same_byte : (tag b : ℕ) → Decides ((tag == b) && true) (b ≡ tag)
-same_byte tag b = (λ t. grind (arith, nat_tests), λ e. grind (arith, nat_tests))
-
 marked_read : {X : Type 0} (tag : ℕ) (g h : Grammar X) → Lawful g → Lawful h → Lawful (Marked tag g h)
 unfolding optional_tag_at
 marked_read tag g h lg lh bytes = grind arith

@@ -1,20 +1,13 @@
 -- Steps of a parser: what a value or an error has passed.
-use Rattle.std.proofs.Common.{arith, ◌≡◌, ℕ, ◌<◌, ◌≤◌, refl, List, [], ◌∷◌, ◌++◌, length, drop, Bool, true, false, Ok, Err, Result, inl, inr, ◌⊎◌}
+use Rattle.std.proofs.Common.{arith, ◌≡◌, ℕ, ◌<◌, ◌≤◌, refl, List, [], ◌∷◌, ◌++◌, length, drop, Bool, true, false, Ok, Err, Result, inl, inr}
 use Rattle.std.proofs.lemmas.Bool.{cases_lt}
-use Rattle.tz_base.specs.{Fronts.{◌>>=◌}, declared.error.Error.{Error}}
+use Rattle.tz_base.specs.{declared.error.Error.{Error}}
 
 pub ok_same : {A : Type 0} (r : Result A Error) (x y : A) → r ≡ Ok x → r ≡ Ok y → x ≡ y
 ok_same r x y h k = cc
 
 pub err_same : {A : Type 0} (r : Result A Error) (d e : Error) → r ≡ Err d → r ≡ Err e → d ≡ e
 err_same r d e h k = cc
-
-pub bind_ok : {A B : Type 0} (r : Result A Error) (f : A → Result B Error) (y : B) → (r >>= f) ≡ Ok y → (x : A) × (r ≡ Ok x) × (f x ≡ Ok y)
-bind_ok r f y h = grind arith
-
-pub bind_err : {A B : Type 0} (r : Result A Error) (f : A → Result B Error) (e : Error) → (r >>= f) ≡ Err e
-    → (r ≡ Err e) ⊎ ((x : A) × (r ≡ Ok x) × (f x ≡ Err e))
-bind_err r f e h = grind arith
 
 pub drop_front : (xs ys : List ℕ) → drop (length xs) (xs ++ ys) ≡ ys
 drop_front [] ys = refl

@@ -39,8 +39,5 @@ le_is a b h = grind arith
 pub lt_true : (a b : ℤ) → a <ℤ b → int_lt a b ≡ true
 lt_true a b h = grind arith
 
-pub lt_is : (a b : ℤ) → int_lt a b ≡ true → a <ℤ b
-lt_is a b h = grind arith
-
 pub lt_false : (a b : ℤ) → b ≤ℤ a → int_lt a b ≡ false
 lt_false a b h = grind arith

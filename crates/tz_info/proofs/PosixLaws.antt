@@ -1,10 +1,10 @@
 -- The zone of a TZ string.
 use Rattle.tz_base.specs.declared.parse_error.ParseError.{ParseError}
 use Rattle.tz_info.proofs.{
-  TextLaws.{one_rule, refused_or_spelled, spelled_law, text_low},
+  TextLaws.{spelled_law, text_low},
   TrimLaws.{trimmed_fits},
   Words.{Bool, Decided, Err, Error, IfErr, IsOutOfMemory, IsPosixFault, IsPosixZone, IsTextFault, List, Ok, Result, Some, TransitionRule, Zone, []},
-  Words.{apart, arith, error_number, false, fault_low, fault_once, inl, inr, length, like, made, nil_from_length, plain_zone, pos, posix_zone, refl},
+  Words.{apart, arith, error_number, false, fault_low, fault_once, inl, inr, length, like, made, nil_from_length, plain_zone, pos, posix_zone, refl, said},
   Words.{rule_in, sym, trimmed, true, value_once, ℕ, ◌==◌, ◌>>=◌, ◌∙◌, ◌∷◌, ◌≡◌, ◌≢◌, ◌≤◌},
 }
 use Rattle.tz_info.specs.{
@@ -79,11 +79,8 @@ module _ (bytes : List ℕ) where
   pub extended_fault : (e : Error) → rule_in true bytes ≡ Err e → IsTextFault true bytes e
   extended_fault = (spelled_law _ _).fails
 
-  pub extended_once : (y z : Zone) → IsExtendedZone bytes y → IsExtendedZone bytes z → y ≡ z
-  extended_once y z (a, h, is_y) (b, k, is_z) = rw (is_y, is_z, one_rule _ _ a b h k) refl
-
-  pub extended_apart : (e : Error) (z : Zone) → IsTextFault true bytes e → IsExtendedZone bytes z → ⊥
-  extended_apart e z fault (rule, spells, is) = refused_or_spelled _ _ e rule fault spells
+  pub extended_law : Decided Zone (rule_in true bytes >>= λ rule. Ok (posix_zone rule)) (IsExtendedZone bytes) (IsTextFault true bytes)
+  extended_law = said (made posix_zone (spelled_law _ _)) (λ z h. (h.0, h.1, sym h.2)) (λ z h. (h.0, h.1, sym h.2))
 
 -- running out of memory is reported only if there is a zone
 pub zone_memory : (P : Zone → Type 0) (z : Zone) (r : Result Zone ParseError) → P z → IfErr r (λ e. IsOutOfMemory e.error → (y : Zone) × P y)

@@ -2,9 +2,8 @@
 pub use mir.Val.{SFits}
 pub use Rattle.std.proofs.{
   Common.{Bool, List, [], add-suc, add-zero, ap, arith, cond, div-lt_iff_lt-mul, div-mul-le_self, drop, false, get_or, inl, inr, int_le, int_lt, length},
-  Common.{lt-suc_self, map, max, mul-le-mul_right, nat_abs, negsuc, option_map, pos, refl, replicate, rules, set, suc, sym, take, to_z-of_z, true, w64, zero},
+  Common.{map, max, mul-le-mul_right, nat_abs, negsuc, option_map, pos, refl, replicate, rules, set, suc, sym, take, to_z-of_z, true, w64, zero},
   Common.{ℕ, ℤ, ◌*◌, ◌++◌, ◌+ℤ◌, ◌+◌, ◌-ℤ◌, ◌-◌, ◌/◌, ◌<ℤ◌, ◌<◌, ◌^◌, ◌∙◌, ◌∷◌, ◌≡◌, ◌≢◌, ◌≤ℤ◌, ◌≤◌, ◌⊎◌},
-  Math.Pow.{shr_mono},
   lemmas.{Bool.{cases_eq, cases_lt}, Grind.{get_or-set_at}, Int.{ints}},
   lemmas.{List.{get_or-set_other, length-map, length-replicate, length-set, take-append-le, take_all, Sums.{sum_by-cons}}, Nat.{pow_pos}},
 }

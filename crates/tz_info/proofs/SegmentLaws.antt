@@ -163,5 +163,5 @@ place_begin ts k rising some within =
 pub place_before : (ts : List Transition) (k : ℕ) → AreRising ts → k < length ts → length (passed ts (begin_of ts (suc k) -ℤ pos 1)) ≡ k
 place_before ts k rising within = grind (linear, come_from ts k, come_from ts (suc k), begins_rise ts k)
 
--- from when on an entry has come
+-- when an entry comes into force
 pub ruleset beginning = (come_from, place_most)

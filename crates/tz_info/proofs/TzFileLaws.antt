@@ -97,7 +97,7 @@ module _ (bytes : List ℕ) (p : FilePieces) (after : List ℕ) (is : read file 
   contents_file z rest says =
       let s = (lawful tz_file bytes).takes (z, rest) (rw (is, says) refl) in rw (zone_ends bytes z rest s) at s
 
-  -- the lists make no valid zone, or one
+  -- whether the lists make a valid zone
   module _ (lists : Zone) (rest : List ℕ) (says : read (contents p) after ≡ Ok (lists, rest)) where
     pub lists_fault : (e : Error) (left : List ℕ) → ListFault lists e × ¬ (IsValid lists) → IsListPlace p left → IsFaultAt bytes e left
     lists_fault e left fault place =

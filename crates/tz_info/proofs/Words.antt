@@ -32,13 +32,13 @@ pub use Rattle.std.specs.{
   Borrow.Bor,
   Char.is_ascii_whitespace,
   Int.saturate_signed,
-  List.{AllAdjacentBelow, list_all, list_any, position_from, starts_with},
+  List.{AllAdjacentBelow, list_all, list_any, starts_with},
   Option.option_eq,
   Result.{IsErrAnd, IsOkAnd},
   Str.{IsAsciiWhitespaceBelow, IsAsciiWhitespaceFrom, IsTrimAscii, IsTrimAsciiStart, IsUtf8},
 }
 pub use Rattle.tz_base.proofs.{
-  ForCallers.{Decided, IsExact, apart, bind, by_error, choice, done, drop_front, either, exact_cut, false_unless},
+  ForCallers.{Decided, IsExact, apart, choice, done, drop_front, either, exact_cut, false_unless},
   ForCallers.{fault_low, fault_once, guard, lawful, like, made, refused, runs_are, said, tested, type_exact, value_once},
 }
 pub use Rattle.tz_base.specs.{
@@ -53,7 +53,7 @@ pub use Rattle.tz_base.specs.{
 }
 pub use Rattle.tz_info.proofs.{
   DigitLaws.{digits-le, digits-more},
-  FirstItems.{filter_first, le_false, le_is, le_true, lt_false, lt_is, lt_true, rises},
+  FirstItems.{filter_first, le_false, le_is, le_true, lt_false, lt_true, rises},
   SearchSteps.{first_come, times_ordered},
   SearchWords.{AreOrdered, ArePassed, Bool, Counts, IsLastOf, List, SFits, [], add-suc, add-zero, ap, arith, cases_eq, cases_lt, cond, count_by, drop, false},
   SearchWords.{filter, get_or, inl, inr, int_le, int_lt, ints, length, length-map, length-set, linear, map},
@@ -70,7 +70,7 @@ pub use Rattle.tz_info.specs.{
   FileContents.{designation_of, file_time, is_not_zero, leap_at, leap_second_of, least_offset, pair_test, record_at},
   FileContents.{transition_at, values_below},
   FileHeaders.{magic},
-  FilePieces.{FilePieces, HasCounts, HasPieces, PieceFault, footer_bytes, from_leap_seconds, from_times, from_type_indexes, from_types, from_ut_local},
+  FilePieces.{FilePieces, HasCounts, HasPieces, footer_bytes, from_leap_seconds, from_times, from_type_indexes, from_types, from_ut_local},
   Folds.HasFold,
   Gaps.{HasGap, IsTypeBeforeGap},
   Leaps.{AreCounted, AreLeapSeconds, IsLeapTime, IsLeapTimeRefused, IsNear, IsNextLeap, IsOneStep, IsUnixTime, IsUnixTimeRefused, correction_at},

@@ -1,6 +1,6 @@
 -- The pieces of a TZif file (RFC 8536 section 3).
 use Rattle.std.specs.Prelude.{ℕ, ◌≡◌, Bool, true, false, List, [], ◌++◌, Option, Some, None}
-use Rattle.tz_base.specs.{Grammar.{Grammar, Nothing, End, Rest, Spells, HasFault, ◌>>=◌, ◌>>◌}, declared.error.Error.{Error}}
+use Rattle.tz_base.specs.{Grammar.{Grammar, Nothing, End, Rest, Spells, ◌>>=◌, ◌>>◌}}
 use Rattle.tz_info.specs.{FileHeaders.{header}, FileBlocks.{Parts, block}, declared.file.counts.FileCounts.{FileCounts}}
 use Rattle.tz_info.specs.declared.file.header.{Place.TheVariants.{First, Second}, Version.{Version, TheVariants.{One, Two, Three}}, Counts.{Counts}}
 use Rattle.tz_info.specs.declared.file.header.Header.{Header}
@@ -75,10 +75,6 @@ file = do
 
 abbrev pub HasPieces : List ℕ → FilePieces → Type 0
 HasPieces bytes pieces = Spells file bytes pieces []
-
--- the first piece that is missing or has a fault
-abbrev pub PieceFault : List ℕ → Error → Type 0
-PieceFault bytes e = HasFault file bytes e
 
 -- the block that says what the zone is has that many transitions and leap seconds
 pub record HasCounts (bytes : List ℕ) (c : FileCounts) : Type 0 where

@@ -3,4 +3,4 @@ pub use Rattle.zoned_time.proofs.ForCallers.{same_itself, wall_by_seconds, gap_b
 -- the limits of a date
 pub use Rattle.naive_base.proofs.ForCallers.{date_is, month_bounds}
 -- of a zone that hands its lookups on to another one
-pub use Rattle.zoned.proofs.Wrapped.{IsWrapped, wrapped_wall, wrapped_gap, wrapped_at}
+pub use Rattle.zoned.proofs.Wrapped.{IsWrapped, wrapped_wall, wrapped_gap}

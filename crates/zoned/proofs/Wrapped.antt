@@ -1,6 +1,6 @@
 -- Lemmas for a zone that hands its lookups on to another zone, and wraps the offsets that it gets.
 use Rattle.offset_core.specs.{declared.local_result.LocalResult.{LocalResult, TheVariants.{Ambiguous, None as Never, Single}}, LocalResult.{map_of}}
-use Rattle.zoned_time.specs.{Choice.{IsOffsetBeforeGap}, Zone.{AreOffsetsFor, IsOffsetAt, SameLaw, home_law}}
+use Rattle.zoned_time.specs.{Choice.{IsOffsetBeforeGap}, Zone.{AreOffsetsFor, SameLaw, home_law}}
 use Rattle.zoned.proofs.Words.{Law, Meaning, None, Option, Some, ℤ, ◌≡◌}
 use Rattle.std.proofs.Common.{option_map}
 
@@ -41,11 +41,3 @@ wrapped_gap wrap inner outer w l (Some o) before =
       w.in_force _ o before.1,
       w.home o before.2,
     )
-
-pub wrapped_at : {O P : Type 0} {m : Meaning O} {n : Meaning P} (wrap : O → P) (inner : Law m) (outer : Law n) → IsWrapped wrap inner outer
-    → (u : ℤ) (o : O) → IsOffsetAt inner u o → IsOffsetAt outer u (wrap o)
-wrapped_at wrap inner outer w u o at = record {
-  there = rw (w.off, w.seconds o) at.there;
-  in_force = w.in_force u o at.in_force;
-  same_home = w.home o at.same_home;
-}

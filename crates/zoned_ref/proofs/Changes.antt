@@ -1,7 +1,7 @@
 -- The changes of a zone's types as instants, and that clocks keep their type between them.
 use Rattle.tz_info.proofs.Words.{HasNoChange, IfSome, IsAhead, IsNearest, IsNearestChange, Precedes, ◌<ℤ◌}
-use Rattle.zoned_ref.{specs.ZoneChange.{AreAround, IsUpTo, StandAlike, StandWithin, change_of_instants}, proofs.Words.{AreOffsetsOf, Bool, Change, IsAfter}}
-use Rattle.zoned_ref.proofs.Words.{IsAt, IsInRange, Law, LocalType, MatchOption, Meaning, Option, TypeAt, Zone, Zoned, arith, false, ints, of_secs, option_map}
+use Rattle.zoned_ref.{specs.ZoneChange.{IsUpTo, StandAlike, StandWithin, change_of_instants}, proofs.Words.{AreOffsetsOf, Bool, Change, IsAfter}}
+use Rattle.zoned_ref.proofs.Words.{IsInRange, LocalType, MatchOption, Option, TypeAt, Zone, Zoned, arith, false, ints, option_map}
 use Rattle.zoned_ref.proofs.Words.{pos, stays, subst, true, type_once, ℤ, ◌-ℤ◌, ◌≡◌, ◌≤ℤ◌}
 
 -- ---- the nearest change that instants show
@@ -77,11 +77,7 @@ module _ (z : Zone) (off : ℤ → ℤ) (has : AreOffsetsOf z off) where
   stand_within w change s here found h = λ u there within.
       alike s u here there (λ t. stands w s u t here there within.0 (none_between w s here change (TypeAt z) u found there h within.1))
 
--- ---- two instants of the zone show the change of its types at their seconds
-pub around_by : {O : Type 0} {m : Meaning O} (law : Law m) (u : ℤ) (d e : Zoned O) → IsAt law (of_secs (u -ℤ pos 1) 0) d
-    → IsAt law (of_secs u 0) e → AreAround law d e
-around_by law u d e before at = grind (arith, ints)
-
+-- ---- two instants that show a change of the zone
 pub change_is : {O : Type 0} (type_of : O → LocalType) (c : Change) (d e : Zoned O) → e.utc.s ≡ c.at
     → type_of d.offset ≡ c.before → type_of e.offset ≡ c.after → change_of_instants type_of d e ≡ c
 change_is type_of c d e at before after = grind arith

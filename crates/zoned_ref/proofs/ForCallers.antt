@@ -1,2 +1,2 @@
 -- Lemmas for the crates above.
-pub use Rattle.zoned_ref.proofs.{Changes.{change_is, around_by}, Choices.{choice_covered}, Offsets.{zone_has_offsets}}
+pub use Rattle.zoned_ref.proofs.{Changes.{change_is}, Choices.{choice_covered}, Offsets.{zone_has_offsets}}

@@ -4,5 +4,4 @@ mod Moves
 mod Multiples
 mod Instants
 mod Nearest
-mod Rounded
 pub mod ForCallers

@@ -1,6 +1,6 @@
 -- The words that this crate's proofs cite, passed on from std, from the crates below and from specs/.
 pub use Rattle.std.proofs.lemmas.Int.{to_z_pos}
-pub use Rattle.naive_base.proofs.ForCallers.{moved-leap, moved-plain, moved_leap-behind, moved_leap-within, total-moved}
+pub use Rattle.naive_base.proofs.ForCallers.{total-moved}
 pub use Rattle.naive_base.proofs.Words.{moved, of_total, total, unsigned_abs, ◌-◌, ◌<◌, ◌≤◌}
 pub use Rattle.zoned_time.proofs.Words.{IsInRange, Reading, ap, arith, by_lt_z, floor_div, floors, inl, inr, ints, neg_ℤ, pos, reading, w64, ℕ, ℤ, ◌*ℤ◌, ◌+ℤ◌}
 pub use Rattle.zoned_time.proofs.Words.{◌-ℤ◌, ◌<ℤ◌, ◌∙◌, ◌≡◌, ◌≤ℤ◌, ◌⊎◌}
