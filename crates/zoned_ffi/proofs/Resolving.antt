@@ -1,5 +1,5 @@
 -- What a choice takes, in terms of instants.
-use Rattle.offset_core.specs.declared.around.{Around.{Around, TheVariants.{Gap, Single}}, Taken.{Taken as Found, TheVariants.{InGap, Shown}}}
+use Rattle.offset_core.specs.declared.around.{Around.{Around, TheVariants.{Single}}, Taken.{Taken as Found, TheVariants.{InGap, Shown}}}
 use Rattle.offset_core.specs.declared.{resolve_error.ResolveError.{ResolveError}, choice.{FoldChoice.{FoldChoice}, GapChoice.{GapChoice}}}
 use Rattle.tz_base.specs.declared.change.Change.{Change}
 use Rattle.tz_info.{specs.Around.{AreTypesAround, map_both}, proofs.Words.{IsFirstAtOrAfter, ◌≢◌}}

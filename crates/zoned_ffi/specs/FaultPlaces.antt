@@ -1,5 +1,5 @@
 -- The position of the fault of a TZ string or a file.
-use Rattle.std.specs.{Prelude.{ℕ, ◌≡◌, List, Option, Result, Ok, Err, true}, Option.{unwrap_or}, Str.{IsUtf8, IsValidUpTo}}
+use Rattle.std.specs.{Prelude.{ℕ, ◌≡◌, List, Result, Ok, Err, true}, Option.{unwrap_or}, Str.{IsUtf8, IsValidUpTo}}
 use Rattle.tz_base.specs.declared.{error.Error.{Error}, parse_error.ParseError.{ParseError}}
 use Rattle.tz_info.specs.{PosixZones.{IsPosixFault, IsPosixFaultPlace, IsPosixZone, IsExtendedZone}, TzGrammar.{IsTextFault, text_fault_position}}
 use Rattle.tz_info.specs.{FilePieces.{FilePieces, HasPieces}, FilePlaces.{IsFilePlace}, TzFiles.{IsFileFault, IsTzFile}, Zones.{IsValid, Zone}}

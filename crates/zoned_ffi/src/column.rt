@@ -1,6 +1,6 @@
 //! Columns of instants as local times, and of local times as instants, in one pass.
 
-ghost use Rattle.std.specs.Prelude.{◌≡◌, ◌≢◌, length, MatchOption};
+ghost use Rattle.std.specs.Prelude.{◌≡◌, ◌≢◌, ◌<◌, length, MatchOption};
 ghost use Rattle.{
   zoned_ffi.specs.Columns.{AreAnswered, IsFirstWithout, IsRowNumber, IsSoughtNumber},
   zoned_ffi.specs.Steps.KeptTimes.{AreWritten, IsStop},
@@ -16,7 +16,7 @@ use crate::choice::Choice;
 use crate::refusal::{NO_LOCAL_TIME, OTHER_SIZE};
 use crate::unit::Unit;
 use crate::whole_second::WholeSecond;
-use block::write_block;
+use block::{write_block, write_four_blocks};
 use kept::Kept;
 use short::write_short;
 use table::{STRETCHES, Table};
@@ -57,10 +57,16 @@ pub struct Stop {
 }
 
 // The rows of a column that pays for a table.
-const LONG: usize = 1_024;
+const LONG: usize = 512;
 
-// The rows that are tried at once to lie in one stretch.
+// The same if its times rise.
+const LONG_IN_ORDER: usize = 32_768;
+
+// The rows of a block, which are tried at once to lie in one stretch.
 const BLOCK: usize = 32;
+
+// The rows of four blocks, which are tried at once where the last four blocks lay in one stretch each.
+const FOUR_BLOCKS: usize = 128;
 
 /// Writes the answer to each time, up to the first that has none. Returns the row of that time, if
 /// there is one, and the number that says why.
@@ -69,11 +75,29 @@ fn write_column(question: Question, times: &[i64], answers: &mut [i64]) -> Optio
     ensures { MatchOption result (AreWritten question.entry times.now answers.new)
         (λ s. IsStop question.entry times.now answers.old answers.new s) }
 {
-    if times.len() < LONG {
+    let rows = times.len();
+    if rows < LONG || (rows < LONG_IN_ORDER && are_in_order(times)) {
         write_short(question, times, answers)
     } else {
         write_long(question, times, answers)
     }
+}
+
+// Whether the times of nine rows rise, three neighbours at the front, in the middle and at the end. Only the
+// time that a call takes depends on it.
+fn are_in_order(times: &[i64]) -> bool
+    requires { 6 < length times.now }
+{
+    let middle = times.len() / 2;
+    let last = times.len() - 1;
+    rise(times[0], times[1], times[2])
+        && rise(times[2], times[middle - 1], times[middle])
+        && rise(times[middle], times[middle + 1], times[last - 2])
+        && rise(times[last - 2], times[last - 1], times[last])
+}
+
+fn rise(first: i64, second: i64, third: i64) -> bool {
+    first <= second && second <= third
 }
 
 // The same, with a table.
@@ -85,24 +109,15 @@ fn write_long(question: Question, times: &[i64], answers: &mut [i64]) -> Option<
 {
     let mut stretches = [Kept::none(question); STRETCHES];
     let mut table = Table::none();
-    let blocks = times.len() / BLOCK;
-    for block in 0..blocks {
-        let from = block * BLOCK;
-        let to = from + BLOCK;
-        match write_block(
-            question,
-            times,
-            answers,
-            &mut stretches,
-            &mut table,
-            from,
-            to,
-        ) {
+    let fours = times.len() / FOUR_BLOCKS;
+    for four in 0..fours {
+        let from = four * FOUR_BLOCKS;
+        match write_four_blocks(question, times, answers, &mut stretches, &mut table, from) {
             Some(stop) => return Some(stop),
             None => {}
         }
     }
-    let from = blocks * BLOCK;
+    let from = fours * FOUR_BLOCKS;
     let to = times.len();
     if from == to {
         return None;

@@ -1,11 +1,59 @@
 //! Rows that follow one another, answered together.
 
-ghost use Rattle.std.specs.Prelude.{◌≡◌, ◌≤◌, ◌<◌, drop, length, take, IsTrue, MatchOption};
+ghost use Rattle.std.specs.Prelude.{◌≡◌, ◌≤◌, ◌<◌, ◌+◌, drop, length, take, IsTrue, MatchOption};
 ghost use Rattle.zoned_ffi.specs.Steps.KeptTimes.{AreKept, AreKeptTimes, AreWritten, IsKept, IsStop};
 
 use crate::column::kept::Kept;
 use crate::column::table::{Stretches, Table};
-use crate::column::{Question, Stop};
+use crate::column::{BLOCK, FOUR_BLOCKS, Question, Stop};
+
+/// Writes the answers of the rows of four blocks, from `from` on, up to the first without.
+#[inline(always)]
+pub fn write_four_blocks(
+    question: Question,
+    times: &[i64],
+    answers: &mut [i64],
+    stretches: &mut Stretches,
+    table: &mut Table,
+    from: usize,
+) -> Option<Stop>
+    requires size { length answers.old ≡ length times.now }
+    requires rows { from + 128 ≤ length times.now }
+    requires kept { AreKept question stretches.old }
+    requires before { AreWritten question (take from times.now) (take from answers.old) }
+    ensures size { length answers.new ≡ length times.now }
+    ensures kept { AreKept question.entry stretches.new }
+    ensures answered { MatchOption result
+        (AreWritten question.entry (take (from + 128) times.now) (take (from + 128) answers.new)
+        × (drop (from + 128) answers.new ≡ drop (from + 128) answers.old))
+        (λ s. (from ≤ s.row) × IsStop question.entry times.now answers.old answers.new s) }
+{
+    let to = from + FOUR_BLOCKS;
+    if table.found_last_four() {
+        let kept = table.kept_for(question, stretches, times[from]);
+        if are_in(kept, times, from, to) {
+            write_sums(question, kept, times, answers, from, to);
+            return None;
+        }
+        table.missed_four();
+    }
+    for block in 0..4 {
+        let first = from + block * BLOCK;
+        match write_block(
+            question,
+            times,
+            answers,
+            stretches,
+            table,
+            first,
+            first + BLOCK,
+        ) {
+            Some(stop) => return Some(stop),
+            None => {}
+        }
+    }
+    None
+}
 
 /// Writes the answers of the rows from `from` on and before `to`, up to the first without.
 #[inline(always)]
@@ -48,9 +96,9 @@ pub fn write_block(
     None
 }
 
-// Whether the stretch has the times of all these rows: they are counted, which needs no jump.
+/// Whether the stretch has the times of all these rows: they are counted, which needs no jump.
 #[inline(always)]
-fn are_in(kept: Kept, times: &[i64], from: usize, to: usize) -> bool
+pub fn are_in(kept: Kept, times: &[i64], from: usize, to: usize) -> bool
     requires { (from < to) × (to ≤ length times.now) }
     ensures { IsTrue result → AreKeptTimes times.now from to kept }
 {
@@ -66,9 +114,9 @@ fn are_in(kept: Kept, times: &[i64], from: usize, to: usize) -> bool
     found == to - from
 }
 
-// Writes the answers of these rows, which lie in the stretch.
+/// Writes the answers of these rows, which lie in the stretch.
 #[inline(always)]
-fn write_sums(
+pub fn write_sums(
     question: Question,
     kept: Kept,
     times: &[i64],

@@ -1,12 +1,47 @@
-//! Short columns: a lookup for each time, unless the stretch that is kept has it.
+//! Columns that are short or in order: a lookup for each time, unless the stretch that is kept has it.
 
-ghost use Rattle.std.specs.Prelude.{◌≡◌, length, MatchOption, MatchResult};
+ghost use Rattle.std.specs.Prelude.{◌≡◌, ◌≤◌, drop, length, take, MatchOption, MatchResult};
 ghost use Rattle.zoned_ffi.specs.Steps.KeptTimes.{AreWritten, IsKept, IsNotWritten, IsStop, IsWritten};
 
+use crate::column::block::{are_in, write_sums};
 use crate::column::kept::{Kept, kept_around};
 use crate::column::row::answer_by_zone;
-use crate::column::{NO_TIME, Question, Stop};
-use crate::misses::Misses;
+use crate::column::{BLOCK, NO_TIME, Question, Stop, Way};
+
+// One in so many misses in a row asks for a search, and the third one of a column.
+const MISSES: u8 = 32;
+
+// The last row whose time the stretch that is kept didn't have, and how many such rows came in a row. Only the
+// time that a call takes depends on them: a search takes as long as two lookups of a local time.
+#[derive(Clone, Copy)]
+struct LastMiss {
+    row: usize,
+    in_a_row: u8,
+}
+
+impl LastMiss {
+    fn none() -> LastMiss {
+        LastMiss {
+            row: 0,
+            in_a_row: MISSES - 3,
+        }
+    }
+
+    // Whether to search for the stretch of a time in that row. If the stretch that is kept answered the row
+    // before, the next one may do the same: then a later time asks for a search at once, and an earlier one if
+    // the next row misses too. So an old date among new ones loses no stretch.
+    #[inline(always)]
+    fn is_search_due(&mut self, row: usize, is_later: bool) -> bool {
+        let was_answered = row.wrapping_sub(self.row) > 1;
+        self.row = row;
+        if was_answered {
+            self.in_a_row = MISSES - 1;
+            return is_later;
+        }
+        self.in_a_row = self.in_a_row.wrapping_add(1) % MISSES;
+        self.in_a_row == 0
+    }
+}
 
 /// Writes the answer to each time, up to the first that has none. Returns the row of that time, if there
 /// is one, and the number that says why.
@@ -17,9 +52,65 @@ pub fn write_short(question: Question, times: &[i64], answers: &mut [i64]) -> Op
         (λ s. IsStop question.entry times.now answers.old answers.new s) }
 {
     let mut kept = Kept::none(question);
-    let mut misses = Misses::none();
-    for row in 0..times.len() {
-        match answer(question, &mut kept, &mut misses, times[row]) {
+    let mut last_miss = LastMiss::none();
+    let blocks = times.len() / BLOCK;
+    for block in 0..blocks {
+        let from = block * BLOCK;
+        let to = from + BLOCK;
+        if are_in(kept, times, from, to) {
+            write_sums(question, kept, times, answers, from, to);
+        } else {
+            match write_rows(
+                question,
+                times,
+                answers,
+                &mut kept,
+                &mut last_miss,
+                from,
+                to,
+            ) {
+                Some(stop) => return Some(stop),
+                None => {}
+            }
+        }
+    }
+    let from = blocks * BLOCK;
+    let to = times.len();
+    write_rows(
+        question,
+        times,
+        answers,
+        &mut kept,
+        &mut last_miss,
+        from,
+        to,
+    )
+}
+
+// Writes the answers of the rows from `from` on and before `to`, one by one, up to the first without.
+#[inline(always)]
+fn write_rows(
+    question: Question,
+    times: &[i64],
+    answers: &mut [i64],
+    kept: &mut Kept,
+    last_miss: &mut LastMiss,
+    from: usize,
+    to: usize,
+) -> Option<Stop>
+    requires size { length answers.old ≡ length times.now }
+    requires rows { (from ≤ to) × (to ≤ length times.now) }
+    requires kept { IsKept question kept.old }
+    requires before { AreWritten question (take from times.now) (take from answers.old) }
+    ensures size { length answers.new ≡ length times.now }
+    ensures kept { IsKept question.entry kept.new }
+    ensures answered { MatchOption result
+        (AreWritten question.entry (take to times.now) (take to answers.new)
+        × (drop to answers.new ≡ drop to answers.old))
+        (λ s. (from ≤ s.row) × IsStop question.entry times.now answers.old answers.new s) }
+{
+    for row in from..to {
+        match answer(question, kept, last_miss, row, times[row]) {
             Ok(found) => answers[row] = found,
             Err(number) => return Some(Stop { row, number }),
         }
@@ -29,21 +120,44 @@ pub fn write_short(question: Question, times: &[i64], answers: &mut [i64]) -> Op
 
 // What is written of the time, or the number that says why nothing is.
 #[inline(always)]
-fn answer(question: Question, kept: &mut Kept, misses: &mut Misses, time: i64) -> Result<i64, u32>
+fn answer(
+    question: Question,
+    kept: &mut Kept,
+    last_miss: &mut LastMiss,
+    row: usize,
+    time: i64,
+) -> Result<i64, u32>
     requires { IsKept question kept.old }
     ensures kept { IsKept question.entry kept.new }
     ensures answer { MatchResult result (IsWritten question.entry time)
         (λ n. IsNotWritten question.entry time n) }
 {
-    match kept.answer_to(question, time) {
-        Some(found) => Ok(found),
-        None => {
-            if time != NO_TIME {
-                if misses.is_due(question.unit.part_of(time)) {
-                    *kept = kept_around(question, time);
-                }
+    if let Some(found) = kept.answer_to(question, time) {
+        return Ok(found);
+    }
+    if time != NO_TIME {
+        if is_search_due(question, *kept, last_miss, row, time) {
+            *kept = kept_around(question, time);
+            if let Some(found) = kept.answer_to(question, time) {
+                return Ok(found);
             }
-            answer_by_zone(&question, time)
         }
+    }
+    answer_by_zone(&question, time)
+}
+
+// Whether to search for the stretch of the time in that row. Of instants that become whole seconds no stretch
+// is kept.
+#[inline(always)]
+fn is_search_due(
+    question: Question,
+    kept: Kept,
+    last_miss: &mut LastMiss,
+    row: usize,
+    time: i64,
+) -> bool {
+    match question.way {
+        Way::ToLocal | Way::ToInstants(_) => last_miss.is_search_due(row, kept.high <= time),
+        Way::ToWholeSeconds(_) => false,
     }
 }

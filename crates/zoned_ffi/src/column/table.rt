@@ -40,6 +40,8 @@ pub struct Table {
     // The last tries of a block that failed, and the blocks that are left out before the next try.
     misses: u8,
     left: u8,
+    // The last tries of a block that did not fail: four, if they are more.
+    found: u8,
 }
 
 impl Table {
@@ -53,6 +55,7 @@ impl Table {
             count: 0,
             misses: 0,
             left: 0,
+            found: 0,
         }
     }
 
@@ -68,12 +71,24 @@ impl Table {
     /// A block that was tried lies in one stretch.
     pub fn found_block(&mut self) {
         self.misses = 0;
+        self.found = self.found.wrapping_add(1).min(4);
     }
 
     /// A block that was tried doesn't.
     pub fn missed_block(&mut self) {
         self.left = self.misses;
         self.misses = self.misses.wrapping_add(1).min(MOST_LEFT);
+        self.found = 0;
+    }
+
+    /// Whether to try the next four blocks as a whole.
+    pub fn found_last_four(&self) -> bool {
+        self.found == 4
+    }
+
+    /// Four blocks that were tried don't lie in one stretch.
+    pub fn missed_four(&mut self) {
+        self.found = 0;
     }
 
     // Whether to search for another stretch at the row.

@@ -1,4 +1,4 @@
-use Rattle.zoned_ffi.specs.{Kinds.{kind_number}, Refusals.{Unknown_kind}, declared.kind.Kind.{Kind, TheVariants.{ExtendedText, File, Text}}}
+use Rattle.zoned_ffi.specs.{Kinds.{kind_number}, Refusals.{Unknown_kind}, declared.kind.Kind.{Kind}}
 use Rattle.zoned_ffi.proofs.Words.{arith, ◌≡◌}
 use Rattle.zoned_ffi.proofs.pins.numbers.Goals as goal
 
