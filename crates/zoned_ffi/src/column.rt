@@ -16,8 +16,8 @@ use crate::choice::Choice;
 use crate::refusal::{NO_LOCAL_TIME, OTHER_SIZE};
 use crate::unit::Unit;
 use crate::whole_second::WholeSecond;
-use block::{write_block, write_four_blocks};
-use kept::Kept;
+use block::{are_in, write_block, write_four_blocks};
+use kept::{Kept, kept_around};
 use short::write_short;
 use table::{STRETCHES, Table};
 use tz_info::TimeZone;
@@ -57,10 +57,13 @@ pub struct Stop {
 }
 
 // The rows of a column that pays for a table.
-const LONG: usize = 512;
+const LONG: usize = 768;
 
-// The same if its times rise.
+// The same if its times rise or lie in one stretch.
 const LONG_IN_ORDER: usize = 32_768;
+
+// The rows that show whether they do.
+const SAMPLE: usize = 9;
 
 // The rows of a block, which are tried at once to lie in one stretch.
 const BLOCK: usize = 32;
@@ -76,28 +79,45 @@ fn write_column(question: Question, times: &[i64], answers: &mut [i64]) -> Optio
         (λ s. IsStop question.entry times.now answers.old answers.new s) }
 {
     let rows = times.len();
-    if rows < LONG || (rows < LONG_IN_ORDER && are_in_order(times)) {
+    if rows < LONG || (rows < LONG_IN_ORDER && needs_no_table(question, &sample(times))) {
         write_short(question, times, answers)
     } else {
         write_long(question, times, answers)
     }
 }
 
-// Whether the times of nine rows rise, three neighbours at the front, in the middle and at the end. Only the
-// time that a call takes depends on it.
-fn are_in_order(times: &[i64]) -> bool
-    requires { 6 < length times.now }
+// Whether a column with these times needs no table: they rise, or lie in one stretch.
+#[inline(never)]
+fn needs_no_table(question: Question, sample: &[i64; SAMPLE]) -> bool {
+    rise(sample) || are_in(kept_around(question, sample[0]), sample, 0, SAMPLE)
+}
+
+fn rise(sample: &[i64; SAMPLE]) -> bool {
+    for row in 1..SAMPLE {
+        if sample[row] < sample[row - 1] {
+            return false;
+        }
+    }
+    true
+}
+
+// Three neighbours at the front, in the middle and at the end.
+fn sample(times: &[i64]) -> [i64; SAMPLE]
+    requires { 4 < length times.now }
 {
     let middle = times.len() / 2;
     let last = times.len() - 1;
-    rise(times[0], times[1], times[2])
-        && rise(times[2], times[middle - 1], times[middle])
-        && rise(times[middle], times[middle + 1], times[last - 2])
-        && rise(times[last - 2], times[last - 1], times[last])
-}
-
-fn rise(first: i64, second: i64, third: i64) -> bool {
-    first <= second && second <= third
+    [
+        times[0],
+        times[1],
+        times[2],
+        times[middle - 1],
+        times[middle],
+        times[middle + 1],
+        times[last - 2],
+        times[last - 1],
+        times[last],
+    ]
 }
 
 // The same, with a table.
