@@ -18,9 +18,9 @@ pub const STRETCHES: usize = 512;
 // The parts of the axis, 136 years or more, for which the table notes the pair.
 const PARTS: usize = 2_048;
 
-// The most parts on each side of a time for which a pair that has all of a part is noted: some four years.
+// The most parts on each side of a time for which a pair that has all of a part is noted: a year.
 // So old dates among new ones, 136 years or more away, take few notes from them.
-const REACH: i64 = 64;
+const REACH: i64 = 16;
 
 // How eagerly stretches are searched for.
 const PACE: usize = 16;
