@@ -83,11 +83,10 @@ RATIOS = {1_000: (3, 2), 10_000: (10, 4)}
 def is_sure(form, name, order, rows):
     """Whether such a column had the first of these ratios with a margin of a fifth, also while other work ran.
 
-    In the other orders the library looks for more than one stretch of the zone, and Kolkata takes pandas little time."""
-    is_short, is_index = rows == 1_000, form == "a DatetimeIndex"
-    if order in ("one day", "equal"):
-        return is_short or name in ZONES[: 2 if is_index else 5]
-    return is_short and (not is_index or name == "Asia/Kolkata" or (name, order) == ("Pacific/Apia", "sorted"))
+    In the other orders the library looks for many stretches of the zone, and Kolkata takes pandas little time."""
+    if order in ("sorted", "one day", "equal"):
+        return rows == 1_000 or name != "Asia/Kolkata"
+    return rows == 1_000 and (form == "a Series" or (name, order) == ("Asia/Kolkata", "in no order"))
 
 
 def years(first, end, rows):
