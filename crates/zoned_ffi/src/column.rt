@@ -68,7 +68,7 @@ const SAMPLE: usize = 9;
 // The rows of a block, which are tried at once to lie in one stretch.
 const BLOCK: usize = 32;
 
-// The rows of four blocks, which are tried at once where the last four blocks lay in one stretch each.
+// The rows of four blocks, which are tried at once if each of the last four blocks lay in one stretch.
 const FOUR_BLOCKS: usize = 128;
 
 /// Writes the answer to each time, up to the first that has none. Returns the row of that time, if

@@ -8,7 +8,7 @@ use crate::column::kept::{Kept, kept_around};
 use crate::column::row::answer_by_zone;
 use crate::column::{BLOCK, NO_TIME, Question, Stop, Way};
 
-// One in so many misses in a row asks for a search, and the third one of a column.
+// A search is due at each 32nd miss in a row, and at the third one of a column.
 const MISSES: u8 = 32;
 
 // The last row whose time the stretch that is kept didn't have, and how many such rows came in a row. Only the
