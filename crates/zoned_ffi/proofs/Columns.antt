@@ -5,7 +5,9 @@ use Rattle.zoned_ffi.{specs.declared.{column.Way.TheVariants.{ToLocal}, resolved
 use Rattle.zoned_ffi.proofs.Words.{AreKeptTimes, Choice, Fits64, IsGreatest, IsInRange, IsLeast, IsNoInstant, IsOffsetStretch, IsShownOnce, IsTakenAs, Kept}
 use Rattle.zoned_ffi.proofs.Words.{List, LocalType, MatchOption, None, OffsetStretch, Option, Shows, Some, Taken, TypeAt, Unit, Zone, ap, arith, first_second}
 use Rattle.zoned_ffi.proofs.Words.{floor_div, floors, get_or, ints, neg_ℤ, offsets, per_second, pos, refl, subst, taken_instant, ℕ, ℤ, ◌*ℤ◌, ◌+ℤ◌, ◌+◌, ◌-ℤ◌}
-use Rattle.zoned_ffi.proofs.{Words.{◌<ℤ◌, ◌≡◌, ◌≤ℤ◌, AreWritten, drop, length, take, take_all, ◌∙◌, ◌≤◌}, Slices.{same_after}, Resolving.{none_is, taken_once}}
+use Rattle.zoned_ffi.proofs.{Words.{◌<ℤ◌, ◌≡◌, ◌≤ℤ◌, drop, ◌∙◌, ◌≤◌}, Slices.{same_after}, Resolving.{none_is, taken_once}}
+use Rattle.std.proofs.Common.{bit_or}
+use lib.Bits.{and_le_l, and_le_r, or_add_and}
 use Rattle.tz_info.proofs.{ExtremeLaws.{at_least_least, at_most_greatest}, ForCallers.{type_once}}
 
 abbrev pub least : ℤ
@@ -21,6 +23,13 @@ lie_within from until add k a b d e f g same = record {
   same = same;
   each = λ x low high. (omega (arith, ints), omega (arith, ints), (λ none. omega (arith, ints)), (omega (arith, ints), λ none. omega (arith, ints)));
 }
+
+-- the bits that are set in one of two numbers make as much as each
+pub or_ge_l : (a b : ℕ) → a ≤ bit_or a b
+or_ge_l a b = let sum = or_add_and a b in let less = and_le_r a b in omega arith
+
+pub or_ge_r : (a b : ℕ) → b ≤ bit_or a b
+or_ge_r a b = let sum = or_add_and a b in let less = and_le_l a b in omega arith
 
 -- the stretch has one row more
 pub within_more : (times : List ℤ) (from row : ℕ) (k : Kept) → AreKeptTimes times from row k
@@ -126,13 +135,3 @@ stop_after q times old mid new s from stop late same = record {
   without = stop.without;
   after = stop.after ∙ same_after mid old from s.row late same;
 }
-
--- the last block of a column
-pub last_block : (q : Question) (times old mid new : List ℤ) (from to : ℕ) (r : Option Stop)
-    → MatchOption r (AreWritten q (take to times) (take to new) × (drop to new ≡ drop to mid)) (λ s. (from ≤ s.row) × IsStop q times mid new s)
-    → length times ≤ to → length new ≡ length times → drop from mid ≡ drop from old → MatchOption r (AreWritten q times new) (λ s. IsStop q times old new s)
-last_block q times old mid new from to None (written, rest) whole as_many same =
-    let all : take to times ≡ times = take_all to times whole in
-    let each : take to new ≡ new = take_all to new (omega arith) in
-    subst (λ ys. AreWritten q times ys) each (subst (λ xs. AreWritten q xs (take to new)) all written)
-last_block q times old mid new from to (Some s) (late, stop) whole as_many same = stop_after q times old mid new s from stop late same

@@ -1,6 +1,6 @@
 //! Columns of instants as local times, and of local times as instants, in one pass.
 
-ghost use Rattle.std.specs.Prelude.{◌≡◌, ◌≢◌, ◌<◌, length, MatchOption};
+ghost use Rattle.std.specs.Prelude.{◌≡◌, ◌≢◌, ◌≤◌, length, MatchOption};
 ghost use Rattle.{
   zoned_ffi.specs.Columns.{AreAnswered, IsFirstWithout, IsRowNumber, IsSoughtNumber},
   zoned_ffi.specs.Steps.KeptTimes.{AreWritten, IsStop},
@@ -8,6 +8,7 @@ ghost use Rattle.{
 
 mod block;
 mod kept;
+mod pace;
 mod row;
 mod short;
 mod table;
@@ -16,8 +17,9 @@ use crate::choice::Choice;
 use crate::refusal::{NO_LOCAL_TIME, OTHER_SIZE};
 use crate::unit::Unit;
 use crate::whole_second::WholeSecond;
-use block::{are_in, write_block, write_four_blocks};
+use block::{write_by_table, write_run};
 use kept::{Kept, kept_around};
+use pace::Pace;
 use short::write_short;
 use table::{STRETCHES, Table};
 use tz_info::TimeZone;
@@ -47,6 +49,17 @@ pub struct Question<'a> {
     pub way: Way,
 }
 
+impl Question<'_> {
+    /// Whether stretches give its answers. What is found for an instant isn't as far from each instant of a
+    /// stretch.
+    pub fn keeps_stretches(&self) -> bool {
+        match self.way {
+            Way::ToLocal | Way::ToInstants(_) => true,
+            Way::ToWholeSeconds(_) => false,
+        }
+    }
+}
+
 /// The first row that has no answer, and the number that says why.
 #[derive(Clone, Copy)]
 pub struct Stop {
@@ -57,19 +70,13 @@ pub struct Stop {
 }
 
 // The rows of a column that pays for a table.
-const LONG: usize = 768;
+const LONG: usize = 512;
 
 // The same if its times rise or lie in one stretch.
 const LONG_IN_ORDER: usize = 32_768;
 
 // The rows that show whether they do.
 const SAMPLE: usize = 9;
-
-// The rows of a block, which are tried at once to lie in one stretch.
-const BLOCK: usize = 32;
-
-// The rows of four blocks, which are tried at once if each of the last four blocks lay in one stretch.
-const FOUR_BLOCKS: usize = 128;
 
 /// Writes the answer to each time, up to the first that has none. Returns the row of that time, if
 /// there is one, and the number that says why.
@@ -79,78 +86,98 @@ fn write_column(question: Question, times: &[i64], answers: &mut [i64]) -> Optio
         (λ s. IsStop question.entry times.now answers.old answers.new s) }
 {
     let rows = times.len();
-    if rows < LONG || (rows < LONG_IN_ORDER && needs_no_table(question, &sample(times))) {
-        write_short(question, times, answers)
-    } else {
-        write_long(question, times, answers)
+    if rows < LONG || !question.keeps_stretches() {
+        return write_short(question, times, answers);
     }
+    let sample = sample(times);
+    let middle = middle_of_all(&sample);
+    if rows < LONG_IN_ORDER && (rise(&sample) || lie_in(kept_around(question, middle), &sample)) {
+        return write_short(question, times, answers);
+    }
+    write_long(question, times, answers, middle)
 }
 
-// Whether a column with these times needs no table: they rise, or lie in one stretch.
-#[inline(never)]
-fn needs_no_table(question: Question, sample: &[i64; SAMPLE]) -> bool {
-    rise(sample) || are_in(kept_around(question, sample[0]), sample, 0, SAMPLE)
-}
-
+// Whether these times rise, but for one of them, such as an old date among new ones.
 fn rise(sample: &[i64; SAMPLE]) -> bool {
-    for row in 1..SAMPLE {
-        if sample[row] < sample[row - 1] {
-            return false;
-        }
-    }
-    true
+    let falls = sample.windows(2).filter(|pair| pair[1] < pair[0]).count();
+    falls <= 1
 }
 
-// Three neighbours at the front, in the middle and at the end.
+// Whether they lie in the stretch, but for one.
+fn lie_in(kept: Kept, sample: &[i64; SAMPLE]) -> bool {
+    let others = sample.iter().filter(|time| !kept.has(**time)).count();
+    others <= 1
+}
+
+// A time in their middle, though one or two are far away.
+fn middle_of_all(sample: &[i64; SAMPLE]) -> i64 {
+    middle_of(
+        middle_of(sample[0], sample[1], sample[2]),
+        middle_of(sample[3], sample[4], sample[5]),
+        middle_of(sample[6], sample[7], sample[8]),
+    )
+}
+
+// The one that comes between the other two.
+fn middle_of(one: i64, other: i64, third: i64) -> i64 {
+    one.min(other).max(one.max(other).min(third))
+}
+
+// Three neighbours near the front, in the middle and near the end; not the first row, nor the last one.
 fn sample(times: &[i64]) -> [i64; SAMPLE]
-    requires { 4 < length times.now }
+    requires { 8 ≤ length times.now }
 {
     let middle = times.len() / 2;
     let last = times.len() - 1;
     [
-        times[0],
         times[1],
         times[2],
-        times[middle - 1],
-        times[middle],
+        times[3],
         times[middle + 1],
+        times[middle + 2],
+        times[middle + 3],
+        times[last - 3],
         times[last - 2],
         times[last - 1],
-        times[last],
     ]
 }
 
-// The same, with a table.
+// The same, with a table that begins with the stretch of that time.
 #[inline(never)]
-fn write_long(question: Question, times: &[i64], answers: &mut [i64]) -> Option<Stop>
+fn write_long(question: Question, times: &[i64], answers: &mut [i64], middle: i64) -> Option<Stop>
     requires { length times.now ≡ length answers.old }
     ensures { MatchOption result (AreWritten question.entry times.now answers.new)
         (λ s. IsStop question.entry times.now answers.old answers.new s) }
 {
     let mut stretches = [Kept::none(question); STRETCHES];
-    let mut table = Table::none();
-    let fours = times.len() / FOUR_BLOCKS;
-    for four in 0..fours {
-        let from = four * FOUR_BLOCKS;
-        match write_four_blocks(question, times, answers, &mut stretches, &mut table, from) {
-            Some(stop) => return Some(stop),
-            None => {}
+    let mut table = Table::none_around(question, middle);
+    table.keep_first(question, &mut stretches, middle);
+    let mut pace = Pace::new();
+    let rows = times.len();
+    let mut from = 0;
+    while from < rows {
+        let kept = table.kept_for(question, &stretches, times[from]);
+        let written = write_run(question, kept, times, answers, &mut pace, from);
+        if written > 0 {
+            from += written;
+        } else {
+            let to = pace.missed(from, rows);
+            match write_by_table(
+                question,
+                times,
+                answers,
+                &mut stretches,
+                &mut table,
+                from,
+                to,
+            ) {
+                Some(stop) => return Some(stop),
+                None => {}
+            }
+            from = to;
         }
     }
-    let from = fours * FOUR_BLOCKS;
-    let to = times.len();
-    if from == to {
-        return None;
-    }
-    write_block(
-        question,
-        times,
-        answers,
-        &mut stretches,
-        &mut table,
-        from,
-        to,
-    )
+    None
 }
 
 /// Writes the local time of each instant if there is room for as many: 0, or why not. If an instant

@@ -84,11 +84,16 @@ impl Unit {
     /// The part of the axis that a time counted in this unit lies in: each is 24 to 26 days long.
     #[inline(always)]
     pub fn part_of(self, time: i64) -> i64 {
+        time.wrapping_shr(self.part_bits())
+    }
+
+    // The counts of a part are 2 to that power.
+    fn part_bits(self) -> u32 {
         match self {
-            Unit::Seconds => time >> 21,
-            Unit::Milliseconds => time >> 31,
-            Unit::Microseconds => time >> 41,
-            Unit::Nanoseconds => time >> 51,
+            Unit::Seconds => 21,
+            Unit::Milliseconds => 31,
+            Unit::Microseconds => 41,
+            Unit::Nanoseconds => 51,
         }
     }
 }

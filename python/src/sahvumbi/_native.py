@@ -86,6 +86,8 @@ KEPT = 1 << 12
 FEW = 1 << 14
 # A type without bytes, whose `from_buffer` finds where an array begins.
 _NOTHING = c_char * 0
+# Where an array of int64 that may be written begins, as a brief call takes it.
+_begin: Callable[[Any], Any] = _NOTHING.from_buffer
 INT64 = np.dtype(np.int64)
 # Seconds between which a stretch is kept: the calendar lies among them, and 64 bits reach far beyond.
 FAR = 1 << 50
@@ -343,11 +345,6 @@ def _address(array: Array) -> int:
     # Types of older numpy don't have it as a buffer.
     buffer: Any = array
     return addressof(_NOTHING.from_buffer(buffer)) if array.flags.writeable else array.ctypes.data
-
-
-def _begin(array: Any) -> Any:
-    """Where an array of int64 that may be written begins, as a brief call takes it."""
-    return byref(_NOTHING.from_buffer(array))
 
 
 def _array(array: Array) -> tuple[int, int]:

@@ -1,63 +1,16 @@
 //! Rows that follow one another, answered together.
 
-ghost use Rattle.std.specs.Prelude.{◌≡◌, ◌≤◌, ◌<◌, ◌+◌, drop, length, take, IsTrue, MatchOption};
+ghost use Rattle.std.specs.Prelude.{◌≡◌, ◌≤◌, ◌<◌, ◌<ℤ◌, ◌+◌, drop, length, not, take, IsTrue, MatchOption};
 ghost use Rattle.zoned_ffi.specs.Steps.KeptTimes.{AreKept, AreKeptTimes, AreWritten, IsKept, IsStop};
 
 use crate::column::kept::Kept;
+use crate::column::pace::{NARROW, Pace, WIDE};
 use crate::column::table::{Stretches, Table};
-use crate::column::{BLOCK, FOUR_BLOCKS, Question, Stop};
+use crate::column::{Question, Stop};
 
-/// Writes the answers of the rows of four blocks, from `from` on, up to the first without.
+/// Writes the answers of the rows from `from` on and before `to` by the table, up to the first without.
 #[inline(always)]
-pub fn write_four_blocks(
-    question: Question,
-    times: &[i64],
-    answers: &mut [i64],
-    stretches: &mut Stretches,
-    table: &mut Table,
-    from: usize,
-) -> Option<Stop>
-    requires size { length answers.old ≡ length times.now }
-    requires rows { from + 128 ≤ length times.now }
-    requires kept { AreKept question stretches.old }
-    requires before { AreWritten question (take from times.now) (take from answers.old) }
-    ensures size { length answers.new ≡ length times.now }
-    ensures kept { AreKept question.entry stretches.new }
-    ensures answered { MatchOption result
-        (AreWritten question.entry (take (from + 128) times.now) (take (from + 128) answers.new)
-        × (drop (from + 128) answers.new ≡ drop (from + 128) answers.old))
-        (λ s. (from ≤ s.row) × IsStop question.entry times.now answers.old answers.new s) }
-{
-    let to = from + FOUR_BLOCKS;
-    if table.found_last_four() {
-        let kept = table.kept_for(question, stretches, times[from]);
-        if are_in(kept, times, from, to) {
-            write_sums(question, kept, times, answers, from, to);
-            return None;
-        }
-        table.missed_four();
-    }
-    for block in 0..4 {
-        let first = from + block * BLOCK;
-        match write_block(
-            question,
-            times,
-            answers,
-            stretches,
-            table,
-            first,
-            first + BLOCK,
-        ) {
-            Some(stop) => return Some(stop),
-            None => {}
-        }
-    }
-    None
-}
-
-/// Writes the answers of the rows from `from` on and before `to`, up to the first without.
-#[inline(always)]
-pub fn write_block(
+pub fn write_by_table(
     question: Question,
     times: &[i64],
     answers: &mut [i64],
@@ -77,34 +30,119 @@ pub fn write_block(
         × (drop to answers.new ≡ drop to answers.old))
         (λ s. (from ≤ s.row) × IsStop question.entry times.now answers.old answers.new s) }
 {
-    if table.tries_block() {
-        let kept = table.kept_for(question, stretches, times[from]);
-        if are_in(kept, times, from, to) {
-            table.found_block();
-            write_sums(question, kept, times, answers, from, to);
-            return None;
-        }
-        table.missed_block();
-    }
-    let left = write_pairs(question, times, answers, stretches, table, from, to);
-    for row in left..to {
-        match table.answer(question, stretches, row, times[row]) {
-            Ok(found) => answers[row] = found,
-            Err(number) => return Some(Stop { row, number }),
+    let mut row = from;
+    while row < to {
+        row = write_pairs(question, times, answers, stretches, table, row, to);
+        if row < to {
+            match table.answer(question, stretches, row, times[row]) {
+                Ok(found) => answers[row] = found,
+                Err(number) => return Some(Stop { row, number }),
+            }
+            row += 1;
         }
     }
     None
 }
 
-/// Whether the stretch has the times of all these rows: they are counted, which needs no jump.
+/// Writes the answers of `WIDE` or `NARROW` rows from `from` on if they lie in the stretch: how many, or 0.
 #[inline(always)]
-pub fn are_in(kept: Kept, times: &[i64], from: usize, to: usize) -> bool
+pub fn write_run(
+    question: Question,
+    kept: Kept,
+    times: &[i64],
+    answers: &mut [i64],
+    pace: &mut Pace,
+    from: usize,
+) -> usize
+    requires size { length answers.old ≡ length times.now }
+    requires row { from ≤ length times.now }
+    requires kept { IsKept question kept }
+    requires before { AreWritten question (take from times.now) (take from answers.old) }
+    ensures size { length answers.new ≡ length times.now }
+    ensures rows { from + result ≤ length times.now }
+    ensures answered { AreWritten question.entry (take (from + result) times.now) (take (from + result) answers.new) }
+    ensures rest { drop (from + result) answers.new ≡ drop (from + result) answers.old }
+{
+    let left = times.len() - from;
+    if left >= WIDE
+        && pace.tries_wide()
+        && write_together(question, kept, times, answers, from, from + WIDE)
+    {
+        pace.found(WIDE);
+        return WIDE;
+    }
+    if left >= NARROW && write_together(question, kept, times, answers, from, from + NARROW) {
+        pace.found(NARROW);
+        return NARROW;
+    }
+    0
+}
+
+// Writes the answers of these rows if they lie in the stretch. Whether they do.
+#[inline(always)]
+fn write_together(
+    question: Question,
+    kept: Kept,
+    times: &[i64],
+    answers: &mut [i64],
+    from: usize,
+    to: usize,
+) -> bool
+    requires size { length answers.old ≡ length times.now }
+    requires rows { (from < to) × (to ≤ length times.now) }
+    requires kept { IsKept question kept }
+    requires before { AreWritten question (take from times.now) (take from answers.old) }
+    ensures size { length answers.new ≡ length times.now }
+    ensures answered { IsTrue result → AreWritten question.entry (take to times.now) (take to answers.new) }
+    ensures rest { IsTrue result → drop to answers.new ≡ drop to answers.old }
+    ensures none { IsTrue (not result) → answers.new ≡ answers.old }
+{
+    if !are_in(kept, times, from, to) {
+        return false;
+    }
+    write_sums(question, kept, times, answers, from, to);
+    true
+}
+
+// Whether the stretch has the times of all these rows, if it has the first and the last one. All are tried
+// without a jump: by their distances from its beginning, or by their number if the last is far from that.
+#[inline(always)]
+fn are_in(kept: Kept, times: &[i64], from: usize, to: usize) -> bool
     requires { (from < to) × (to ≤ length times.now) }
     ensures { IsTrue result → AreKeptTimes times.now from to kept }
 {
-    if !kept.has(times[to - 1]) {
+    let last = times[to - 1];
+    if !kept.has(times[from]) || !kept.has(last) {
         return false;
     }
+    if kept.distance_to(last) < kept.length() / 2 {
+        are_at_front(kept, times, from, to)
+    } else {
+        are_counted(kept, times, from, to)
+    }
+}
+
+// Whether the bits that are set in the distance of any of these times make less than the length of the
+// stretch: then each distance is less.
+#[inline(always)]
+fn are_at_front(kept: Kept, times: &[i64], from: usize, to: usize) -> bool
+    requires rows { (from < to) × (to ≤ length times.now) }
+    requires some { kept.low <ℤ kept.high }
+    ensures { IsTrue result → AreKeptTimes times.now from to kept }
+{
+    let mut bits = 0;
+    for row in from..to {
+        bits |= kept.distance_to(times[row]);
+    }
+    bits < kept.length()
+}
+
+// Whether as many of these times lie in the stretch as there are.
+#[inline(always)]
+fn are_counted(kept: Kept, times: &[i64], from: usize, to: usize) -> bool
+    requires { (from < to) × (to ≤ length times.now) }
+    ensures { IsTrue result → AreKeptTimes times.now from to kept }
+{
     let mut found = 0;
     for row in from..to {
         if kept.has(times[row]) {
@@ -114,9 +152,9 @@ pub fn are_in(kept: Kept, times: &[i64], from: usize, to: usize) -> bool
     found == to - from
 }
 
-/// Writes the answers of these rows, which lie in the stretch.
+// Writes the answers of these rows, which lie in the stretch.
 #[inline(always)]
-pub fn write_sums(
+fn write_sums(
     question: Question,
     kept: Kept,
     times: &[i64],

@@ -1,6 +1,6 @@
 //! What a column keeps of the stretches that its times lie in.
 
-ghost use Rattle.std.specs.Prelude.{◌≡◌, ◌↔◌, ◌⊎◌, ◌<ℤ◌, ◌≤ℤ◌, neg_ℤ, pos, ⊤, IsTrue, MatchOption};
+ghost use Rattle.std.specs.Prelude.{◌≡◌, ◌↔◌, ◌-ℤ◌, ◌<ℤ◌, ◌≤ℤ◌, neg_ℤ, pos, ⊤, IfSome, IsTrue, MatchOption};
 ghost use Rattle.zoned_ffi.specs.{Steps.KeptTimes.{IsKept, IsKeptOf, IsWritten, LieWithin}, Units.{IsOffsetStretch}};
 
 use crate::choice::Choice;
@@ -28,8 +28,8 @@ impl Kept {
     {
         let _ = question;
         Kept {
-            low: 0,
-            high: 0,
+            low: i64::MAX,
+            high: i64::MIN,
             add: 0,
         }
     }
@@ -42,11 +42,22 @@ impl Kept {
         (self.low <= time) & (time < self.high)
     }
 
-    // These, or the other ones if these are no times.
-    fn or(self, other: Kept) -> Kept
-        ensures { (result ≡ self) ⊎ (result ≡ other) }
+    /// How far the time comes after the first of them; a time before that is farther than all of them.
+    #[inline(always)]
+    pub fn distance_to(self, time: i64) -> u64
+        requires { self.low <ℤ self.high }
+        ensures { pos result <ℤ (self.high -ℤ self.low) → (self.low ≤ℤ time) × (time <ℤ self.high) }
     {
-        if self.low < self.high { self } else { other }
+        time.wrapping_sub(self.low).cast_unsigned()
+    }
+
+    /// How far the first time after them comes after the first of them.
+    #[inline(always)]
+    pub fn length(self) -> u64
+        requires { self.low <ℤ self.high }
+        ensures { pos result ≡ self.high -ℤ self.low }
+    {
+        self.high.wrapping_sub(self.low).cast_unsigned()
     }
 
     /// The answer to the time if it is one of them.
@@ -90,62 +101,60 @@ impl Kept {
     }
 }
 
+/// A stretch of seconds, from `from` on and before `until`.
+#[derive(Clone, Copy)]
+pub struct Found {
+    /// The first of them.
+    pub from: i64,
+    /// The first after them.
+    pub until: i64,
+    /// What is kept of it.
+    pub kept: Kept,
+}
+
 /// What is kept of the stretch that the time lies in, if it lies far enough from both ends.
 pub fn kept_around(question: Question, time: i64) -> Kept
     ensures { IsKept question.entry result }
 {
-    let greatest = offsets(&question).1;
-    kept_at(question, second_at_offset(question.unit, time, greatest))
-}
-
-/// Of the stretch before that one, or of that one if none comes before it.
-pub fn kept_before(question: Question, kept: Kept) -> Kept
-    requires { IsKept question kept }
-    ensures { IsKept question.entry result }
-{
-    let greatest = offsets(&question).1;
-    let first = second_at_offset(question.unit, kept.low, greatest);
-    kept_at(question, first.wrapping_sub(1)).or(kept)
-}
-
-/// Of the stretch after that one, or of that one if none comes after it.
-pub fn kept_after(question: Question, kept: Kept) -> Kept
-    requires { IsKept question kept }
-    ensures { IsKept question.entry result }
-{
-    let least = offsets(&question).0;
-    kept_at(question, second_at_offset(question.unit, kept.high, least)).or(kept)
-}
-
-// The least offset of the zone and the greatest; of instants both are 0, since no offset moves them.
-fn offsets(question: &Question) -> (i32, i32) {
-    match question.way {
-        Way::ToLocal | Way::ToWholeSeconds(_) => (0, 0),
-        Way::ToInstants(_) => (
-            question.zone.least_offset(),
-            question.zone.greatest_offset(),
-        ),
+    match found_around(question, time) {
+        Some(found) => found.kept,
+        None => Kept::none(question),
     }
 }
 
-// The second of the time, less the offset.
-fn second_at_offset(unit: Unit, time: i64, offset: i32) -> i64 {
-    unit.second_of(time).wrapping_sub(i64::from(offset))
+/// The stretch that the time lies in; of a local time near its beginning the one before, since the greatest
+/// offset of the zone counts.
+#[inline(always)]
+pub fn found_around(question: Question, time: i64) -> Option<Found>
+    ensures { IfSome result (λ f. IsKept question.entry f.kept) }
+{
+    let offset = match question.way {
+        Way::ToLocal | Way::ToWholeSeconds(_) => 0,
+        Way::ToInstants(_) => question.zone.greatest_offset(),
+    };
+    found_at(
+        question,
+        question
+            .unit
+            .second_of(time)
+            .wrapping_sub(i64::from(offset)),
+    )
 }
 
-// What is kept of the stretch that the second lies in.
-fn kept_at(question: Question, second: i64) -> Kept
-    ensures { IsKept question.entry result }
+/// The stretch that the second lies in.
+pub fn found_at(question: Question, second: i64) -> Option<Found>
+    ensures { IfSome result (λ f. IsKept question.entry f.kept) }
 {
     let Question { zone, unit, way } = question;
-    let Some(stretch) = zone.offset_stretch_at(second) else {
-        return Kept::none(question);
-    };
-    match way {
+    let stretch = zone.offset_stretch_at(second)?;
+    let from = stretch.from;
+    let until = stretch.until;
+    let kept = match way {
         Way::ToLocal => instants_in(zone, unit, stretch),
         Way::ToInstants(choice) => local_times_in(zone, unit, choice, stretch),
         Way::ToWholeSeconds(_) => none_in(question, stretch),
-    }
+    };
+    Some(Found { from, until, kept })
 }
 
 // What is found for instants of one stretch isn't as far from each of them: none of it is kept.

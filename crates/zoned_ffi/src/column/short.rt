@@ -1,18 +1,19 @@
 //! Columns that are short or in order: a lookup for each time, unless the stretch that is kept has it.
 
-ghost use Rattle.std.specs.Prelude.{◌≡◌, ◌≤◌, drop, length, take, MatchOption, MatchResult};
+ghost use Rattle.std.specs.Prelude.{◌≡◌, ◌≤◌, ◌<◌, drop, length, take, MatchOption, MatchResult};
 ghost use Rattle.zoned_ffi.specs.Steps.KeptTimes.{AreWritten, IsKept, IsNotWritten, IsStop, IsWritten};
 
-use crate::column::block::{are_in, write_sums};
+use crate::column::block::write_run;
 use crate::column::kept::{Kept, kept_around};
+use crate::column::pace::Pace;
 use crate::column::row::answer_by_zone;
-use crate::column::{BLOCK, NO_TIME, Question, Stop, Way};
+use crate::column::{NO_TIME, Question, Stop};
 
 // A search is due at each 32nd miss in a row, and at the third one of a column.
 const MISSES: u8 = 32;
 
 // The last row whose time the stretch that is kept didn't have, and how many such rows came in a row. Only the
-// time that a call takes depends on them: a search takes as long as two lookups of a local time.
+// time that a call takes depends on them: a search takes somewhat longer than a lookup.
 #[derive(Clone, Copy)]
 struct LastMiss {
     row: usize,
@@ -53,13 +54,15 @@ pub fn write_short(question: Question, times: &[i64], answers: &mut [i64]) -> Op
 {
     let mut kept = Kept::none(question);
     let mut last_miss = LastMiss::none();
-    let blocks = times.len() / BLOCK;
-    for block in 0..blocks {
-        let from = block * BLOCK;
-        let to = from + BLOCK;
-        if are_in(kept, times, from, to) {
-            write_sums(question, kept, times, answers, from, to);
+    let mut pace = Pace::new();
+    let rows = times.len();
+    let mut from = 0;
+    while from < rows {
+        let written = write_run(question, kept, times, answers, &mut pace, from);
+        if written > 0 {
+            from += written;
         } else {
+            let to = pace.missed(from, rows);
             match write_rows(
                 question,
                 times,
@@ -72,19 +75,10 @@ pub fn write_short(question: Question, times: &[i64], answers: &mut [i64]) -> Op
                 Some(stop) => return Some(stop),
                 None => {}
             }
+            from = to;
         }
     }
-    let from = blocks * BLOCK;
-    let to = times.len();
-    write_rows(
-        question,
-        times,
-        answers,
-        &mut kept,
-        &mut last_miss,
-        from,
-        to,
-    )
+    None
 }
 
 // Writes the answers of the rows from `from` on and before `to`, one by one, up to the first without.
@@ -99,7 +93,7 @@ fn write_rows(
     to: usize,
 ) -> Option<Stop>
     requires size { length answers.old ≡ length times.now }
-    requires rows { (from ≤ to) × (to ≤ length times.now) }
+    requires rows { (from < to) × (to ≤ length times.now) }
     requires kept { IsKept question kept.old }
     requires before { AreWritten question (take from times.now) (take from answers.old) }
     ensures size { length answers.new ≡ length times.now }
@@ -146,8 +140,7 @@ fn answer(
     answer_by_zone(&question, time)
 }
 
-// Whether to search for the stretch of the time in that row. Of instants that become whole seconds no stretch
-// is kept.
+// Whether to search for the stretch of the time in that row.
 #[inline(always)]
 fn is_search_due(
     question: Question,
@@ -156,8 +149,5 @@ fn is_search_due(
     row: usize,
     time: i64,
 ) -> bool {
-    match question.way {
-        Way::ToLocal | Way::ToInstants(_) => last_miss.is_search_due(row, kept.high <= time),
-        Way::ToWholeSeconds(_) => false,
-    }
+    question.keeps_stretches() && last_miss.is_search_due(row, kept.high <= time)
 }

@@ -1,114 +1,115 @@
-//! What a long column keeps: stretches in pairs of neighbours, and a table that says for each part of the
-//! axis which pair has its times.
+//! What a long column keeps: stretches in the order of time, and a table that says for each part of the
+//! axis with which of them it begins.
 
 ghost use Rattle.std.specs.Prelude.{◌<◌, MatchResult};
 ghost use Rattle.zoned_ffi.specs.Steps.KeptTimes.{AreKept, IsKept, IsNotWritten, IsWritten};
 
-use crate::column::kept::{Kept, kept_after, kept_around, kept_before};
+use crate::column::kept::{Kept, found_around, found_at, kept_around};
 use crate::column::row::{answer_by, answer_by_zone};
 use crate::column::{NO_TIME, Question};
 
-/// The stretches that are kept, two for each number of a pair. They aren't part of the table, since
-/// a struct of both would be moved when it is made.
+/// The stretches that are kept. They aren't part of the table, since a struct of both would be moved when it
+/// is made.
 pub type Stretches = [Kept; STRETCHES];
 
-/// How many they are.
-pub const STRETCHES: usize = 512;
+/// How many they are. Places 0 to 255 make a ring in the order of time, whose place 0 is kept at place 256
+/// too; the last place is that of one more stretch, from elsewhere.
+pub const STRETCHES: usize = 258;
 
-// The parts of the axis, 136 years or more, for which the table notes the pair.
+// The place at which that of place 0 is kept too.
+const PLACE_0_AGAIN: usize = 256;
+
+// The place of the one from elsewhere.
+const ELSEWHERE: usize = 257;
+
+// The most stretches in the ring: the place after the last one stays without a time.
+const MOST: usize = 255;
+
+// The parts of the axis, 136 years or more, for which the table can note a stretch.
 const PARTS: usize = 2_048;
 
-// The most parts on each side of a time for which a pair that has all of a part is noted: a year.
-// So old dates among new ones, 136 years or more away, take few notes from them.
-const REACH: i64 = 16;
+// How many parts away from those that are noted another one may be, to be noted too: 17 years or more. So
+// old dates among new ones take no notes.
+const REACH: i64 = 256;
 
-// How eagerly stretches are searched for.
-const PACE: usize = 16;
+// How many more stretches than rows may have been looked for.
+const AHEAD: usize = 8;
 
-// The blocks in a row that may be left out.
-const MOST_LEFT: u8 = 16;
+// The first of so many times that no stretch has asks for the one from elsewhere.
+const MISSES: u8 = 64;
 
-/// Which pair a part of the axis has, what has been searched, and which blocks lie in one stretch.
+/// Which stretch a part of the axis begins with, and which stretches are kept. Only the time that a call
+/// takes depends on it: each stretch is right by itself.
 #[derive(Clone, Copy)]
 pub struct Table {
-    // The number of a pair for each part.
+    // The place of a stretch for each part.
     parts: [u8; PARTS],
-    // The pair that the next search replaces.
-    next: u8,
-    // The searches so far.
+    // It is noted for the parts from `begin` on and before `end`.
+    begin: i64,
+    end: i64,
+    // The ring has the zone's stretches from the second `from` on and before `until`, but for those so short
+    // that nothing is kept of them.
+    from: i64,
+    until: i64,
+    // Their first time, and the first after them.
+    low: i64,
+    high: i64,
+    // The places of the first one and the last one.
+    first: u8,
+    last: u8,
+    // How many were looked for.
     count: usize,
-    // The last tries of a block that failed, and the blocks that are left out before the next try.
+    // The times that no stretch has, modulo `MISSES`.
     misses: u8,
-    left: u8,
-    // The last tries of a block that did not fail: four, if they are more.
-    found: u8,
 }
 
 impl Table {
-    /// The table before the first search. Where searches don't help, as after the last transition of a zone
-    /// whose rule goes on, their number grows with the root of the rows.
+    /// The table before the first stretch, for times around that one.
     #[inline(always)]
-    pub fn none() -> Table {
+    pub fn none_around(question: Question, time: i64) -> Table {
+        let part = question.unit.part_of(time);
         Table {
             parts: [0; PARTS],
-            next: 0,
+            begin: part,
+            end: part,
+            from: i64::MIN,
+            until: i64::MAX,
+            low: time,
+            high: time,
+            first: 0,
+            last: 0,
             count: 0,
             misses: 0,
-            left: 0,
-            found: 0,
         }
     }
 
-    /// Whether to try the next block as a whole. After each miss in a row one more block is left out.
-    pub fn tries_block(&mut self) -> bool {
-        if self.left == 0 {
-            return true;
+    /// Keeps the stretch of the time, from which on the others are found.
+    pub fn keep_first(&mut self, question: Question, stretches: &mut Stretches, time: i64)
+        requires { AreKept question stretches.old }
+        ensures { AreKept question.entry stretches.new }
+    {
+        let Some(found) = found_around(question, time) else {
+            return;
+        };
+        self.from = found.from;
+        self.until = found.until;
+        let kept = found.kept;
+        if kept.low < kept.high {
+            put(question, stretches, 0, kept);
+            self.low = kept.low;
+            self.high = kept.high;
         }
-        self.left = self.left.wrapping_sub(1);
-        false
     }
 
-    /// A block that was tried lies in one stretch.
-    pub fn found_block(&mut self) {
-        self.misses = 0;
-        self.found = self.found.wrapping_add(1).min(4);
-    }
-
-    /// A block that was tried doesn't.
-    pub fn missed_block(&mut self) {
-        self.left = self.misses;
-        self.misses = self.misses.wrapping_add(1).min(MOST_LEFT);
-        self.found = 0;
-    }
-
-    /// Whether to try the next four blocks as a whole.
-    pub fn found_last_four(&self) -> bool {
-        self.found == 4
-    }
-
-    /// Four blocks that were tried don't lie in one stretch.
-    pub fn missed_four(&mut self) {
-        self.found = 0;
-    }
-
-    // Whether to search for another stretch at the row.
-    fn is_due(&mut self, row: usize) -> bool {
-        if row.wrapping_mul(PACE) < self.count.wrapping_mul(self.count) {
-            return false;
-        }
-        self.count = self.count.wrapping_add(1);
-        true
-    }
-
-    /// The stretch that is kept for the time, if one is: the later one of its part's pair, unless the time
-    /// comes before that.
+    /// The stretch that is kept for the time, if one is: that with which its part begins, or the next one
+    /// if the time doesn't come before that.
     #[inline(always)]
     pub fn kept_for(&self, question: Question, stretches: &Stretches, time: i64) -> Kept
         requires { AreKept question stretches.now }
         ensures { IsKept question.entry result }
     {
         let part = question.unit.part_of(time);
-        let first = self.parts[index_of(part)] as usize * 2;
+        let first = self.parts[index_of(part)] as usize;
         stretches[first + (stretches[first + 1].low <= time) as usize]
     }
 
@@ -131,14 +132,17 @@ impl Table {
             .answer_to(question, time)
         {
             Some(found) => Ok(found),
-            None => self.search_and_answer(&question, stretches, row, time),
+            None if self.reaches(question.unit.part_of(time)) => {
+                self.answer_nearby(&question, stretches, row, time)
+            }
+            None => self.answer_elsewhere(&question, stretches, time),
         }
     }
 
-    // The same for a time of which no stretch is kept.
+    // The same for a time of which no stretch is kept so far, but whose part can be noted.
     #[tactic(auto, using(crate::proofs::Casts::passed_on))]
     #[inline(never)]
-    fn search_and_answer(
+    fn answer_nearby(
         &mut self,
         question: &Question,
         stretches: &mut Stretches,
@@ -150,70 +154,188 @@ impl Table {
         ensures answer { MatchResult result (IsWritten question.now time)
             (λ n. IsNotWritten question.now time n) }
     {
+        self.keep_towards(*question, stretches, row, time);
+        self.note(question.unit.part_of(time), time);
+        let kept = self.kept_for(*question, stretches, time);
+        if kept.has(time) {
+            return answer_by(*question, kept, time);
+        }
+        self.answer_elsewhere(question, stretches, time)
+    }
+
+    // The same by the stretch from elsewhere, which becomes that of the time if a search is due.
+    #[tactic(auto, using(crate::proofs::Casts::passed_on))]
+    #[inline(never)]
+    fn answer_elsewhere(
+        &mut self,
+        question: &Question,
+        stretches: &mut Stretches,
+        time: i64,
+    ) -> Result<i64, u32>
+        requires { AreKept question.now stretches.old }
+        ensures kept { AreKept question.now stretches.new }
+        ensures answer { MatchResult result (IsWritten question.now time)
+            (λ n. IsNotWritten question.now time n) }
+    {
         if time == NO_TIME {
             return Ok(NO_TIME);
         }
-        if !self.is_due(row) {
+        let kept = stretches[ELSEWHERE];
+        if kept.has(time) {
+            return answer_by(*question, kept, time);
+        }
+        self.misses = self.misses.wrapping_add(1) % MISSES;
+        if self.misses != 1 {
             return answer_by_zone(question, time);
         }
-        let kept = self.search(*question, stretches, time);
+        let kept = kept_around(*question, time);
+        put_at(*question, stretches, ELSEWHERE, kept);
         answer_by(*question, kept, time)
     }
 
-    // Keeps the stretch of the time: with the next one or, if it begins in the part of the time, with the
-    // one before.
-    #[inline(never)]
-    fn search(&mut self, question: Question, stretches: &mut Stretches, time: i64) -> Kept
+    // Keeps stretches up to that of the time. It looks for no more of them than there were rows, and some.
+    fn keep_towards(&mut self, question: Question, stretches: &mut Stretches, row: usize, time: i64)
         requires { AreKept question stretches.old }
-        ensures kept { AreKept question.entry stretches.new }
-        ensures stretch { IsKept question.entry result }
-    {
-        let kept = kept_around(question, time);
-        if !kept.has(time) {
-            return kept;
-        }
-        let part = question.unit.part_of(time);
-        if question.unit.part_of(kept.low) == part {
-            let early = kept_before(question, kept);
-            self.put(question, stretches, part, early, kept);
-        } else {
-            let late = kept_after(question, kept);
-            self.put(question, stretches, part, kept, late);
-        }
-        kept
-    }
-
-    // Keeps the pair, and notes it for the part, and for those near it that it has all of.
-    fn put(
-        &mut self,
-        question: Question,
-        stretches: &mut Stretches,
-        part: i64,
-        early: Kept,
-        late: Kept,
-    )
-        requires kept { AreKept question stretches.old }
-        requires early { IsKept question early }
-        requires late { IsKept question late }
         ensures { AreKept question.entry stretches.new }
     {
-        let unit = question.unit;
-        let low = unit.part_of(early.low.min(late.low));
-        let high = unit.part_of(early.high.max(late.high));
-        let pair = self.next;
-        self.next = pair.wrapping_add(1);
-        let first = pair as usize * 2;
-        stretches[first] = early;
-        stretches[first + 1] = late;
-        self.parts[index_of(part)] = pair;
-        let from = low.max(part.wrapping_sub(REACH)).wrapping_add(1);
-        for near in from..high.min(part.wrapping_add(REACH)) {
-            self.parts[index_of(near)] = pair;
+        for _ in self.count..row.saturating_add(AHEAD).min(MOST) {
+            if !self.keep_one(question, stretches, time) {
+                return;
+            }
+        }
+    }
+
+    // Whether that part is near those that are noted, and the table can note all parts up to it.
+    fn reaches(&self, part: i64) -> bool {
+        let after_begin = part.wrapping_sub(self.begin);
+        let before_end = self.end.wrapping_sub(part);
+        -REACH <= after_begin.min(before_end) && after_begin.max(before_end) <= PARTS as i64
+    }
+
+    // Keeps one stretch more, unless the time lies among those that are kept. Whether it did.
+    fn keep_one(&mut self, question: Question, stretches: &mut Stretches, time: i64) -> bool
+        requires { AreKept question stretches.old }
+        ensures { AreKept question.entry stretches.new }
+    {
+        if self.high <= time {
+            self.note_up_to(question.unit.part_of(self.high));
+            self.keep_next(question, stretches);
+            return true;
+        }
+        if time < self.low {
+            self.note_down_to(question.unit.part_of(self.low));
+            self.keep_previous(question, stretches);
+            return true;
+        }
+        false
+    }
+
+    // Keeps the stretch after those that are kept.
+    fn keep_next(&mut self, question: Question, stretches: &mut Stretches)
+        requires { AreKept question stretches.old }
+        ensures { AreKept question.entry stretches.new }
+    {
+        self.count = self.count.wrapping_add(1);
+        let Some(found) = found_at(question, self.until) else {
+            self.high = i64::MAX;
+            return;
+        };
+        self.until = found.until;
+        let kept = found.kept;
+        if kept.low < kept.high {
+            self.last = self.last.wrapping_add(1);
+            put(question, stretches, self.last, kept);
+            self.high = kept.high;
+        }
+    }
+
+    // Keeps the stretch before those that are kept. The part in which it ends begins with it.
+    fn keep_previous(&mut self, question: Question, stretches: &mut Stretches)
+        requires { AreKept question stretches.old }
+        ensures { AreKept question.entry stretches.new }
+    {
+        self.count = self.count.wrapping_add(1);
+        let Some(found) = found_at(question, self.from.wrapping_sub(1)) else {
+            self.low = i64::MIN;
+            return;
+        };
+        self.from = found.from;
+        let kept = found.kept;
+        if kept.low < kept.high {
+            self.first = self.first.wrapping_sub(1);
+            put(question, stretches, self.first, kept);
+            self.low = kept.low;
+            let last = question.unit.part_of(kept.high);
+            self.begin = self.begin.max(last.wrapping_add(1));
+        }
+    }
+
+    // Notes the part of the time and those up to it, if the stretch of the time is kept.
+    fn note(&mut self, part: i64, time: i64) {
+        if self.low <= time && time < self.high {
+            self.note_up_to(part);
+            self.note_down_to(part);
+        }
+    }
+
+    // Notes the last stretch for the parts after those that are noted, up to that one.
+    fn note_up_to(&mut self, part: i64) {
+        let end = part
+            .wrapping_add(1)
+            .min(self.begin.wrapping_add(PARTS as i64));
+        self.note_for(self.end, end, self.last);
+        self.end = self.end.max(end);
+    }
+
+    // Notes the first stretch for the parts before those that are noted, down to that one.
+    fn note_down_to(&mut self, part: i64) {
+        let begin = part.max(self.end.wrapping_sub(PARTS as i64));
+        self.note_for(begin, self.begin, self.first);
+        self.begin = self.begin.min(begin);
+    }
+
+    // Notes the place for the parts from `begin` on and before `end`.
+    fn note_for(&mut self, begin: i64, end: i64, place: u8) {
+        if end <= begin {
+            return;
+        }
+        let count = (end.wrapping_sub(begin).cast_unsigned() as usize).min(PARTS);
+        let from = index_of(begin);
+        let until = from + count;
+        if until <= PARTS {
+            self.parts[from..until].fill(place);
+        } else {
+            self.parts[from..].fill(place);
+            self.parts[..until - PARTS].fill(place);
         }
     }
 }
 
-// The place at which the pair of the part is noted.
+// Keeps the stretch at that place of the ring.
+fn put(question: Question, stretches: &mut Stretches, place: u8, kept: Kept)
+    requires kept { AreKept question stretches.old }
+    requires this { IsKept question kept }
+    ensures { AreKept question.entry stretches.new }
+{
+    put_at(question, stretches, place as usize, kept);
+    if place == 0 {
+        put_at(question, stretches, PLACE_0_AGAIN, kept);
+    }
+}
+
+// Keeps the stretch at that place.
+#[inline(always)]
+fn put_at(question: Question, stretches: &mut Stretches, place: usize, kept: Kept)
+    requires place { place < 258 }
+    requires kept { AreKept question stretches.old }
+    requires this { IsKept question kept }
+    ensures { AreKept question.entry stretches.new }
+{
+    let _ = question;
+    stretches[place] = kept;
+}
+
+// The place at which the stretch of the part is noted.
 #[inline(always)]
 fn index_of(part: i64) -> usize
     ensures { result < 2_048 }

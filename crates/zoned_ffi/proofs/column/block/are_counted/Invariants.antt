@@ -1,5 +1,5 @@
 use Rattle.zoned_ffi.proofs.Words.{AreKeptTimes, ◌+◌, ◌≡◌, ◌≤◌}
-use Rattle.zoned_ffi.proofs.column.block.are_in.Given as goal
+use Rattle.zoned_ffi.proofs.column.block.are_counted.Given as goal
 
 -- as many rows so far at most, and all of them only if the stretch has them
 abbrev pub invariant-loop-row : goal.invariant-loop-row

@@ -1,7 +1,0 @@
-use Rattle.zoned_ffi.proofs.column.kept.kept_at.Goals as goal
-
-pub returns-in-ToLocal : goal.returns-in-ToLocal
-returns-in-ToLocal c = rw c.in-ToLocal.is c.instants_in.ensures
-
-pub returns-in-ToInstants : goal.returns-in-ToInstants
-returns-in-ToInstants c = rw c.in-ToInstants.is c.local_times_in.ensures
