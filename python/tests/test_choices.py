@@ -227,6 +227,15 @@ def test_infer_by_all_choices():
     assert min(counts.values()) > 50
 
 
+def test_infer_in_folds_of_two_lengths():
+    """Clocks showed 0 at -1 and at 0, and -1 at -2 and at 1: both (-1, 1) and (0, 1) are in order."""
+    lists = Lists([(-5, 0), (-4, 0), (-3, 0), (-2, 2), (0, 1), (1, 0), (2, 1), (3, 0)], [-2, 0, 1, 1, 0])
+    zone = Zone.from_bytes(lists.file())
+    with pytest.raises(sahvumbi.FoldError) as raised:
+        zone.localize([0, -1], fold="infer")
+    assert raised.value.row == 0
+
+
 @pytest.mark.parametrize("minutes", [60, 30, 20, 15])
 @pytest.mark.parametrize(
     "name",

@@ -220,25 +220,45 @@ def decide(column: Column, answers: Array, folds: Folds, groups: Optional[Array]
     in the order.
 
     A run is neighbouring rows of a group that lie in one fold, in which each first instant comes before each last one.
-    So rows in order of time are first instants up to a row, and last ones from it on: the row that shows an earlier time
-    than the row above or, if none does, the row that repeats the time above. Raises `FoldError` at the first row of a
-    run that has no such row, or at the second one of a run that has two.
+    So rows in order of time are first instants up to a row, and last ones from it on. If several rows may be that one,
+    it is the only one for which no two neighbours are the same instant. Raises `FoldError` at the first row of a run
+    that may be both, or at the first up to which no choice is in order.
     """
     rows, last, places = _in_order(column, answers, folds, groups)
     first = answers[rows]
     goes_on = (np.diff(places) == 1) & (first[1:] < last[:-1]) & (first[:-1] < last[1:])
-    run = np.concatenate([[0], np.cumsum(~goes_on)])
-    begins = np.flatnonzero(np.concatenate([[True], ~goes_on]))
-    falls = np.concatenate([[False], goes_on & (first[1:] < first[:-1])])
-    repeats = np.concatenate([[False], goes_on & (first[1:] == first[:-1])])
-    repeats &= np.bincount(run[falls], minlength=begins.size)[run] == 0
-    steps = falls | repeats
-    is_one_fold = np.maximum.reduceat(first, begins) < np.minimum.reduceat(last, begins)
-    is_decided = is_one_fold & (np.bincount(run[steps], minlength=begins.size) == 1)
+    runs = Runs(first, last, goes_on)
+    least, greatest = runs.turns(np.less)
+    turn, other = runs.turns(np.less_equal)
+    turn[least == greatest] = other[least == greatest] = least[least == greatest]
+    is_decided = runs.are_one_fold & (least <= greatest) & (turn == other)
     if not is_decided.all():
-        raise _undecided(column, rows, run, begins, falls, steps, is_one_fold, is_decided)
-    turned = np.cumsum(steps)
-    answers[rows] = np.where(turned > turned[begins][run], last, first)
+        raise _undecided(column, rows, runs, is_decided)
+    answers[rows] = np.where(np.arange(rows.size) < turn[runs.run], first, last)
+
+
+class Runs:
+    """Runs of rows that clocks showed several times."""
+
+    def __init__(self, first: Array, last: Array, goes_on: Array):
+        self.first, self.last, self.goes_on = first, last, goes_on
+        # The run of each row, where each begins and ends, and whether each of its first instants comes before each last one.
+        self.run = np.concatenate([[0], np.cumsum(~goes_on)])
+        self.begins = np.flatnonzero(np.concatenate([[True], ~goes_on]))
+        self.ends = np.append(self.begins[1:], first.size)
+        self.are_one_fold = np.maximum.reduceat(first, self.begins) < np.minimum.reduceat(last, self.begins)
+
+    def falls(self, instants: Array, comes_before: np.ufunc) -> Array:
+        """Returns the rows whose instant comes before that of the row above, in the same run."""
+        return np.flatnonzero(self.goes_on & comes_before(instants[1:], instants[:-1])) + 1
+
+    def turns(self, comes_before: np.ufunc) -> tuple[Array, Array]:
+        """Returns the least and the greatest row of each run from which on last instants are in order, if first ones come before;
+        the end of the run is one. There is none if the least is greater."""
+        of_first, of_last = self.falls(self.first, comes_before)[::-1], self.falls(self.last, comes_before)
+        least, greatest = self.begins.copy(), self.ends.copy()
+        least[self.run[of_last]], greatest[self.run[of_first]] = of_last, of_first
+        return least, greatest
 
 
 def _in_order(
@@ -262,37 +282,34 @@ def _in_order(
     return in_order, last[np.searchsorted(rows, in_order)], places + groups[in_order]
 
 
-def _undecided(
-    column: Column,
-    rows: Array,
-    run: Array,
-    begins: Array,
-    falls: Array,
-    steps: Array,
-    is_one_fold: Array,
-    is_decided: Array,
-) -> RowError:
+def _undecided(column: Column, rows: Array, runs: Runs, is_decided: Array) -> RowError:
     """Returns the error of the first row that the order doesn't decide."""
-    turns = np.flatnonzero(steps)
-    following = np.flatnonzero(run[turns[1:]] == run[turns[:-1]])[::-1]
-    # The first two rows of each run of which one only should be there, if it has two.
-    pairs = np.full((begins.size, 2), -1)
-    pairs[run[turns[following]]] = np.stack([turns[following], turns[following + 1]], 1)
-    named, has_falls = begins.copy(), np.bincount(run[falls], minlength=begins.size) > 0
-    is_out_of_order = is_one_fold & has_falls
-    named[is_out_of_order] = pairs[is_out_of_order, 1]
+    least, greatest = runs.turns(np.less)
+    # The first row of each run up to which no choice is in order.
+    falls = runs.falls(runs.last, np.less)[::-1]
+    falls = falls[falls > greatest[runs.run[falls]]]
+    named = np.where(runs.are_one_fold, least, runs.begins)
+    named[runs.run[falls]] = np.where(runs.are_one_fold[runs.run[falls]], falls, named[runs.run[falls]])
     undecided = np.flatnonzero(~is_decided)
-    mine = int(undecided[rows[named[undecided]].argmin()])
-    pair = rows[pairs[mine]] if column.places is None else column.places[rows[pairs[mine]]]
-    if not is_one_fold[mine]:
+    mine = undecided[rows[named[undecided]].argmin()]
+    repeats = runs.falls(runs.first, np.equal)
+    repeats = repeats[runs.run[repeats] == mine]
+    if not runs.are_one_fold[mine]:
         why = "folds of the zone overlap here"
-    elif pairs[mine, 0] < 0:
+    elif least[mine] > greatest[mine]:
+        one, other = _told(column, rows[[greatest[mine], named[mine]]])
+        why = f"rows {one} and {other} both go back to an earlier time, and clocks are set back once"
+    elif repeats.size < 2:
         why = "none of the neighbouring rows in this fold goes back to an earlier time or repeats one"
-    elif has_falls[mine]:
-        why = f"rows {pair[0]} and {pair[1]} both go back to an earlier time, and clocks are set back once"
     else:
-        why = f"rows {pair[0]} and {pair[1]} both repeat the time above, so one of them is the same instant as the row above"
+        one, other = _told(column, rows[repeats[:2]])
+        why = f"rows {one} and {other} both repeat the time above, so one of them is the same instant as the row above"
     words = f"{WORDS[FOLD]}, and the order of rows doesn't decide it: {why}"
     error = column.error(FoldError, int(rows[named[mine]]), FOLD, words)
     error.advice = "pass is_dst=, offset= or fold= for each row, or by= for several series"
     return error
+
+
+def _told(column: Column, rows: Array) -> Array:
+    """Returns the rows as the caller counts them."""
+    return rows if column.places is None else column.places[rows]
