@@ -22,21 +22,30 @@ const PLACE_0_AGAIN: usize = 256;
 // The place of the one from elsewhere.
 const ELSEWHERE: usize = 257;
 
+// The place of the first one that is kept. It isn't 0, which is noted for all parts at first.
+const START: u8 = 128;
+
 // The most stretches in the ring: the place after the last one stays without a time.
 const MOST: usize = 255;
 
 // The parts of the axis, 136 years or more, for which the table can note a stretch.
 const PARTS: usize = 2_048;
 
-// How many parts away from those that are noted another one may be, to be noted too: 17 years or more. So
-// old dates among new ones take no notes.
+// How many parts away from those that are noted another one may be, to be noted too: 17 years or more. So a
+// few old dates among new ones take no notes.
 const REACH: i64 = 256;
+
+// How many parts may be noted for a time from elsewhere.
+const MOST_FROM_ELSEWHERE: i64 = 1_536;
+
+// How many parts of a stretch are noted beyond the one that is asked about.
+const MORE: i64 = 64;
 
 // How many more stretches than rows may have been looked for.
 const AHEAD: usize = 8;
 
-// The first of so many times that no stretch has asks for the one from elsewhere.
-const MISSES: u8 = 64;
+// The first of so many times from elsewhere asks for its stretch, and that in the middle for a note.
+const FROM_ELSEWHERE: u8 = 64;
 
 /// Which stretch a part of the axis begins with, and which stretches are kept. Only the time that a call
 /// takes depends on it: each stretch is right by itself.
@@ -59,8 +68,8 @@ pub struct Table {
     last: u8,
     // How many were looked for.
     count: usize,
-    // The times that no stretch has, modulo `MISSES`.
-    misses: u8,
+    // The times from elsewhere, modulo `FROM_ELSEWHERE`.
+    from_elsewhere: u8,
 }
 
 impl Table {
@@ -76,10 +85,10 @@ impl Table {
             until: i64::MAX,
             low: time,
             high: time,
-            first: 0,
-            last: 0,
+            first: START,
+            last: START,
             count: 0,
-            misses: 0,
+            from_elsewhere: 0,
         }
     }
 
@@ -95,7 +104,7 @@ impl Table {
         self.until = found.until;
         let kept = found.kept;
         if kept.low < kept.high {
-            put(question, stretches, 0, kept);
+            put(question, stretches, START, kept);
             self.low = kept.low;
             self.high = kept.high;
         }
@@ -155,7 +164,7 @@ impl Table {
             (λ n. IsNotWritten question.now time n) }
     {
         self.keep_towards(*question, stretches, row, time);
-        self.note(question.unit.part_of(time), time);
+        self.note(*question, time);
         let kept = self.kept_for(*question, stretches, time);
         if kept.has(time) {
             return answer_by(*question, kept, time);
@@ -180,12 +189,12 @@ impl Table {
         if time == NO_TIME {
             return Ok(NO_TIME);
         }
+        self.from_elsewhere = self.from_elsewhere.wrapping_add(1) % FROM_ELSEWHERE;
         let kept = stretches[ELSEWHERE];
         if kept.has(time) {
             return answer_by(*question, kept, time);
         }
-        self.misses = self.misses.wrapping_add(1) % MISSES;
-        if self.misses != 1 {
+        if self.from_elsewhere != 1 {
             return answer_by_zone(question, time);
         }
         let kept = kept_around(*question, time);
@@ -205,11 +214,19 @@ impl Table {
         }
     }
 
-    // Whether that part is near those that are noted, and the table can note all parts up to it.
+    // Whether to note that part and all up to it: it is near those that are noted, or a note is due and leaves
+    // room for more of them.
     fn reaches(&self, part: i64) -> bool {
         let after_begin = part.wrapping_sub(self.begin);
         let before_end = self.end.wrapping_sub(part);
-        -REACH <= after_begin.min(before_end) && after_begin.max(before_end) <= PARTS as i64
+        let most = if self.from_elsewhere == FROM_ELSEWHERE / 2 {
+            MOST_FROM_ELSEWHERE
+        } else if -REACH <= after_begin.min(before_end) {
+            PARTS as i64
+        } else {
+            return false;
+        };
+        after_begin.max(before_end) <= most
     }
 
     // Keeps one stretch more, unless the time lies among those that are kept. Whether it did.
@@ -270,11 +287,14 @@ impl Table {
         }
     }
 
-    // Notes the part of the time and those up to it, if the stretch of the time is kept.
-    fn note(&mut self, part: i64, time: i64) {
+    // Notes the part of the time, those up to it, and some more of its stretch, if that is kept.
+    fn note(&mut self, question: Question, time: i64) {
         if self.low <= time && time < self.high {
-            self.note_up_to(part);
-            self.note_down_to(part);
+            let part = question.unit.part_of(time);
+            let last = question.unit.part_of(self.high);
+            let first = question.unit.part_of(self.low);
+            self.note_up_to(last.min(part.wrapping_add(MORE)));
+            self.note_down_to(first.max(part.wrapping_sub(MORE)));
         }
     }
 
