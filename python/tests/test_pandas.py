@@ -179,12 +179,13 @@ def test_answers_by_public_ways(monkeypatch, name):
     _containers.quick_times.cache_clear()
     for kind in (pd.Series, pd.DatetimeIndex):
         monkeypatch.delitem(_plain.QUICK, kind)
+        monkeypatch.delitem(_plain.QUICK_INSTANTS, kind)
     for form, columns in forms.items():
         equal = pd.testing.assert_series_equal if form == "Series" else pd.testing.assert_index_equal
         for answer, expected in zip(answers(*columns), quick[form]):
             assert answer.name == name
             equal(answer, expected)
-    assert not _plain.QUICK
+    assert not _plain.QUICK and not _plain.QUICK_INSTANTS
 
 
 # Columns that are answered without a `Column` made of them
@@ -252,6 +253,43 @@ def test_columns_that_are_left(monkeypatch):
     for instants in (LOCALS.dt.to_period("D"), ROWS - ROWS, left[5], ROWS.astype(str), ROWS.to_frame()):
         with pytest.raises(TypeError, match="is no column of time"):
             NEW_YORK.to_local(instants)
+
+
+# Local times around a gap and around a fold, and NaT.
+CLOCKS = pd.DatetimeIndex([*pd.date_range("2021-03-14 01:00", "2021-03-14 04:00", freq="20min"), pd.NaT], name="read")
+CLOCKS = CLOCKS.append(pd.date_range("2021-11-07", "2021-11-07 03:00", freq="20min"))
+
+
+def localized(column, *words):
+    """What is answered to the column as numbers, or the error and its row."""
+    try:
+        return pd.DatetimeIndex(NEW_YORK.localize(column, *words)).asi8.tolist()
+    except sahvumbi.RowError as error:
+        return type(error), error.row
+
+
+@pytest.mark.parametrize("clocks", [CLOCKS, CLOCKS[:3], CLOCKS[6:13], CLOCKS[14:], CLOCKS[:0], CLOCKS.repeat(30)], ids=len)
+@pytest.mark.parametrize("fold", ["raise", "earliest", "latest", "nat", "infer", 1])
+@pytest.mark.parametrize("gap", ["raise", "shift", "after", "shift_back", "before", "nat"])
+def test_plain_local_times(clocks, gap, fold):
+    """Their instants are those of an array of the same times, also the second time, when the quick way is known."""
+    expected = localized(clocks.to_numpy(), gap, fold)
+    for column in (clocks, pd.Series(clocks, index=range(5, 5 + len(clocks)), name="read")):
+        for _ in range(2):
+            assert localized(column, gap, fold) == expected
+        if not isinstance(expected, tuple):
+            answer = NEW_YORK.localize(column, gap, fold)
+            assert type(answer) is type(column) and answer.name == column.name and str(answer.dtype) == "datetime64[ns, UTC]"
+            assert not isinstance(answer, pd.Series) or answer.index is column.index
+    assert set(_plain.QUICK_INSTANTS) == {pd.Series, pd.DatetimeIndex}
+
+
+def test_local_times_that_are_left():
+    """Those with a zone of their own, and those that the words don't go with, have their errors."""
+    NEW_YORK.localize(CLOCKS, "nat", "nat")
+    for wrong, words, why in ((TIMES, (), "local times have no zone"), (CLOCKS, ("shift_forward",), "after"), (CLOCKS, ("nat", "first"), "fold is one of")):
+        with pytest.raises((TypeError, ValueError), match=why):
+            NEW_YORK.localize(wrong, *words)
 
 
 @pytest.mark.skipif(pd.__version__ >= "2.2", reason="pandas has no such option")

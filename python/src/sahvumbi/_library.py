@@ -135,7 +135,7 @@ BRIEF_CALLS: dict[str, list[Any]] = {
     f"zoned_zone_{name}": [*_ZONE, c_int64, c_void_p]
     for name in "day first_at_or_after local_change offset reached span standard_offset type wall_clock".split()
 }
-BRIEF_CALLS["zoned_column_locals"] = CALLS["zoned_column_locals"]
+BRIEF_CALLS.update({name: CALLS[name] for name in ("zoned_column_locals", "zoned_column_instants")})
 
 PATH = Path(__file__).with_name("libzoned_ffi.so")
 # What the library's code needs of a processor, in the words of /proc/cpuinfo.
@@ -191,9 +191,9 @@ def _loaded() -> tuple[ctypes.CDLL, ctypes.PyDLL]:
 
 
 LIBRARY, BRIEF = _loaded()
-#: The call about few rows, for more of them: it gives the lock away.
-LONG_LOCALS = LIBRARY["zoned_column_locals"]
-LONG_LOCALS.restype = c_uint32
+#: The calls about few rows, for more of them: they give the lock away.
+LONG_LOCALS, LONG_INSTANTS = LIBRARY["zoned_column_locals"], LIBRARY["zoned_column_instants"]
+LONG_LOCALS.restype = LONG_INSTANTS.restype = c_uint32
 
 
 def position_of(kind: int, data: bytes) -> Optional[int]:

@@ -16,8 +16,8 @@ import numpy as np
 
 from . import _library as library
 from ._library import (
-    BRIEF, CHANGE, IN_FOLD, IN_GAP, INSTANT_OUT_OF_RANGE, LIBRARY, LOCAL_TYPE, LONG_LOCALS, NO_CHANGE, NO_LOCAL_TIME,
-    NO_OFFSET, RESOLVED, SPAN, WALL_CLOCK, WIDE_ZONE,
+    BRIEF, CHANGE, IN_FOLD, IN_GAP, INSTANT_OUT_OF_RANGE, LIBRARY, LOCAL_TYPE, LONG_INSTANTS, LONG_LOCALS, NO_CHANGE,
+    NO_LOCAL_TIME, NO_OFFSET, RESOLVED, SPAN, WALL_CLOCK, WIDE_ZONE,
 )
 from .errors import ZoneRefusedError
 
@@ -84,6 +84,9 @@ AROUND = 2 * 86_400
 KEPT = 1 << 12
 # Rows that a brief call is asked. It keeps Python's lock for less than the five milliseconds after which another thread gets it.
 FEW = 1 << 14
+# So many rows of a quick call have no instant.
+MOST_LOST = 64
+NANOSECONDS = c_int64(10**9)
 # A type without bytes, whose `from_buffer` finds where an array begins.
 _NOTHING = c_char * 0
 # Where an array of int64 that may be written begins, as a brief call takes it.
@@ -143,6 +146,26 @@ class NativeZone:
         call = BRIEF.zoned_column_locals if size <= FEW else LONG_LOCALS
         # The last one is for the row that has none, which isn't read.
         return None if call(self._zone, per_second, asked, rows, room, rows, byref(rows)) else answers.view(instants.dtype)
+
+    def quick_instants(self, gap: int, fold: int, lost: tuple[int, ...], local_times: Array) -> Optional[Array]:
+        """Returns the instants of at most `ROWS` local times, counted in nanoseconds, by the policies.
+
+        A row that has none becomes NaT if its number is among `lost`. Else, or if too many rows have none, None is returned.
+        Both are datetime64, and the local times may be written."""
+        begin, size = 0, local_times.size
+        asked, answers, row = local_times.view(INT64), np.empty(size, INT64), c_size_t()
+        call = BRIEF.zoned_column_instants if size <= FEW else LONG_INSTANTS
+        for _ in range(MOST_LOST):
+            rows = c_size_t(size - begin)
+            places = _begin(asked[begin:]), rows, _begin(answers[begin:]), rows, byref(row)
+            number = call(self._zone, gap, fold, NANOSECONDS, *places)
+            if not number:
+                return answers.view(local_times.dtype)
+            if number not in lost:
+                return None
+            begin += row.value + 1
+            answers[begin - 1] = LEAST
+        return None
 
     # Local times, counted in seconds but for those of `instants`.
 

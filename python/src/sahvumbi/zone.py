@@ -23,7 +23,7 @@ from ._library import EXTENDED_STRING, FILE, TEXT
 from ._localize import localized
 from ._names import bytes_of_file, bytes_of_key
 from ._native import NativeZone
-from ._plain import QUICK
+from ._plain import QUICK, QUICK_INSTANTS
 from ._single import ZoneTime
 
 Self = TypeVar("Self", bound="Zone")
@@ -363,10 +363,11 @@ class Zone:
         """
         must_have_no_others("Zone.localize", others)
         if is_dst is None and offset is None and by is None and errors == "raise" and tz == "UTC":
-            instant = single.instant(self._native, local_times, gap, fold)
+            instant = QUICK_INSTANTS.get(type(local_times), single.instant)(self._native, local_times, gap, fold)
             if instant is not None:
                 return instant
         column = taken(local_times, "zone.localize(s.index)", may_be_aware=False)
+        plain.learn_instants(type(local_times), column)
         choice = chosen(column, gap, fold, is_dst, offset, by, errors, shown_in(tz))
         return choice.answer(column, localized(self._native, column, choice))
 
