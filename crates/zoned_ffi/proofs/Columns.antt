@@ -135,3 +135,9 @@ stop_after q times old mid new s from stop late same = record {
   without = stop.without;
   after = stop.after ∙ same_after mid old from s.row late same;
 }
+
+pub stop_if_any : (q : Question) (times old mid new : List ℤ) (Whole : Type 0) (from : ℕ) (r : Option Stop)
+    → MatchOption r Whole (λ s. (from ≤ s.row) × IsStop q times mid new s) → drop from mid ≡ drop from old
+    → MatchOption r Whole (λ s. IsStop q times old new s)
+stop_if_any q times old mid new Whole from None whole same = whole
+stop_if_any q times old mid new Whole from (Some s) (late, stop) same = stop_after q times old mid new s from stop late same

@@ -1,6 +1,6 @@
 //! Columns of instants as local times, and of local times as instants, in one pass.
 
-ghost use Rattle.std.specs.Prelude.{◌≡◌, ◌≢◌, ◌≤◌, length, MatchOption};
+ghost use Rattle.std.specs.Prelude.{◌≡◌, ◌≢◌, ◌≤◌, ◌<◌, length, take, MatchOption};
 ghost use Rattle.{
   zoned_ffi.specs.Columns.{AreAnswered, IsFirstWithout, IsRowNumber, IsSoughtNumber},
   zoned_ffi.specs.Steps.KeptTimes.{AreWritten, IsStop},
@@ -18,7 +18,7 @@ use crate::refusal::{NO_LOCAL_TIME, OTHER_SIZE};
 use crate::unit::Unit;
 use crate::whole_second::WholeSecond;
 use block::{write_by_table, write_run};
-use kept::{Kept, kept_around};
+use kept::Kept;
 use pace::Pace;
 use short::write_short;
 use table::{STRETCHES, Table};
@@ -69,13 +69,7 @@ pub struct Stop {
     pub number: u32,
 }
 
-// The rows of a column that pays for a table.
-const LONG: usize = 512;
-
-// The same if its times rise or lie in one stretch.
-const LONG_IN_ORDER: usize = 32_768;
-
-// The rows that show whether they do.
+// The rows that show where most times lie.
 const SAMPLE: usize = 9;
 
 /// Writes the answer to each time, up to the first that has none. Returns the row of that time, if
@@ -85,28 +79,15 @@ fn write_column(question: Question, times: &[i64], answers: &mut [i64]) -> Optio
     ensures { MatchOption result (AreWritten question.entry times.now answers.new)
         (λ s. IsStop question.entry times.now answers.old answers.new s) }
 {
-    let rows = times.len();
-    if rows < LONG || !question.keeps_stretches() {
-        return write_short(question, times, answers);
+    match write_short(question, times, answers) {
+        Err(stop) => Some(stop),
+        Ok(row) => {
+            if row == times.len() {
+                return None;
+            }
+            write_long(question, times, answers, row)
+        }
     }
-    let sample = sample(times);
-    let middle = middle_of_all(&sample);
-    if rows < LONG_IN_ORDER && (rise(&sample) || lie_in(kept_around(question, middle), &sample)) {
-        return write_short(question, times, answers);
-    }
-    write_long(question, times, answers, middle)
-}
-
-// Whether these times rise, but for one of them, such as an old date among new ones.
-fn rise(sample: &[i64; SAMPLE]) -> bool {
-    let falls = sample.windows(2).filter(|pair| pair[1] < pair[0]).count();
-    falls <= 1
-}
-
-// Whether they lie in the stretch, but for one.
-fn lie_in(kept: Kept, sample: &[i64; SAMPLE]) -> bool {
-    let others = sample.iter().filter(|time| !kept.has(**time)).count();
-    others <= 1
 }
 
 // A time in their middle, though one or two are far away.
@@ -142,19 +123,26 @@ fn sample(times: &[i64]) -> [i64; SAMPLE]
     ]
 }
 
-// The same, with a table that begins with the stretch of that time.
+// Writes the answers from a row on, with a table.
 #[inline(never)]
-fn write_long(question: Question, times: &[i64], answers: &mut [i64], middle: i64) -> Option<Stop>
-    requires { length times.now ≡ length answers.old }
+fn write_long(question: Question, times: &[i64], answers: &mut [i64], start: usize) -> Option<Stop>
+    requires size { length answers.old ≡ length times.now }
+    requires row { start < length times.now }
+    requires before { AreWritten question (take start times.now) (take start answers.old) }
     ensures { MatchOption result (AreWritten question.entry times.now answers.new)
-        (λ s. IsStop question.entry times.now answers.old answers.new s) }
+        (λ s. (start ≤ s.row) × IsStop question.entry times.now answers.old answers.new s) }
 {
+    let middle = if times.len() < 8 {
+        times[start]
+    } else {
+        middle_of_all(&sample(times))
+    };
     let mut stretches = [Kept::none(question); STRETCHES];
     let mut table = Table::none_around(question, middle);
     table.keep_first(question, &mut stretches, middle);
     let mut pace = Pace::new();
     let rows = times.len();
-    let mut from = 0;
+    let mut from = start;
     while from < rows {
         let kept = table.kept_for(question, &stretches, times[from]);
         let written = write_run(question, kept, times, answers, &mut pace, from);

@@ -1,4 +1,5 @@
-//! Columns that are short or in order: a lookup for each time, unless the stretch that is kept has it.
+//! Columns that are short or in order, and the first rows of others: a lookup for each time, unless the stretch
+//! that is kept has it.
 
 ghost use Rattle.std.specs.Prelude.{◌≡◌, ◌≤◌, ◌<◌, drop, length, take, MatchOption, MatchResult};
 ghost use Rattle.zoned_ffi.specs.Steps.KeptTimes.{AreWritten, IsKept, IsNotWritten, IsStop, IsWritten};
@@ -9,6 +10,14 @@ use crate::column::pace::Pace;
 use crate::column::row::answer_by_zone;
 use crate::column::{NO_TIME, Question, Stop};
 
+// The fewest rows that pay for a table.
+const LONG: usize = 640;
+
+// The fewest lookups that show that a table is needed, if one in so many rows was looked up.
+const LOOKUPS: usize = 12;
+
+const ONE_IN: usize = 8;
+
 // A search is due at each 32nd miss in a row, and at the third one of a column.
 const MISSES: u8 = 32;
 
@@ -18,6 +27,8 @@ const MISSES: u8 = 32;
 struct LastMiss {
     row: usize,
     in_a_row: u8,
+    // How many rows were looked up so far.
+    lookups: usize,
 }
 
 impl LastMiss {
@@ -25,7 +36,13 @@ impl LastMiss {
         LastMiss {
             row: 0,
             in_a_row: MISSES - 3,
+            lookups: 0,
         }
+    }
+
+    // Whether as many of the rows so far were looked up as need a table.
+    fn needs_table(&self, rows: usize) -> bool {
+        self.lookups >= LOOKUPS.max(rows / ONE_IN)
     }
 
     // Whether to search for the stretch of a time in that row. If the stretch that is kept answered the row
@@ -44,12 +61,15 @@ impl LastMiss {
     }
 }
 
-/// Writes the answer to each time, up to the first that has none. Returns the row of that time, if there
-/// is one, and the number that says why.
+/// Writes the answers, up to the first time that has none, or up to a row from which on a table pays. Returns
+/// the row after those that are written, or the row without an answer and the number that says why.
 #[inline(never)]
-pub fn write_short(question: Question, times: &[i64], answers: &mut [i64]) -> Option<Stop>
+pub fn write_short(question: Question, times: &[i64], answers: &mut [i64]) -> Result<usize, Stop>
     requires { length times.now ≡ length answers.old }
-    ensures { MatchOption result (AreWritten question.entry times.now answers.new)
+    ensures size { length answers.new ≡ length times.now }
+    ensures answered { MatchResult result
+        (λ row. (row ≤ length times.now) × AreWritten question.entry (take row times.now) (take row answers.new)
+        × (drop row answers.new ≡ drop row answers.old))
         (λ s. IsStop question.entry times.now answers.old answers.new s) }
 {
     let mut kept = Kept::none(question);
@@ -58,6 +78,9 @@ pub fn write_short(question: Question, times: &[i64], answers: &mut [i64]) -> Op
     let rows = times.len();
     let mut from = 0;
     while from < rows {
+        if rows - from >= LONG && last_miss.needs_table(from) {
+            return Ok(from);
+        }
         let written = write_run(question, kept, times, answers, &mut pace, from);
         if written > 0 {
             from += written;
@@ -72,13 +95,13 @@ pub fn write_short(question: Question, times: &[i64], answers: &mut [i64]) -> Op
                 from,
                 to,
             ) {
-                Some(stop) => return Some(stop),
+                Some(stop) => return Err(stop),
                 None => {}
             }
             from = to;
         }
     }
-    None
+    Ok(from)
 }
 
 // Writes the answers of the rows from `from` on and before `to`, one by one, up to the first without.
@@ -149,5 +172,12 @@ fn is_search_due(
     row: usize,
     time: i64,
 ) -> bool {
-    question.keeps_stretches() && last_miss.is_search_due(row, kept.high <= time)
+    if !question.keeps_stretches() {
+        return false;
+    }
+    let is_due = last_miss.is_search_due(row, kept.high <= time);
+    if !is_due {
+        last_miss.lookups = last_miss.lookups.wrapping_add(1);
+    }
+    is_due
 }

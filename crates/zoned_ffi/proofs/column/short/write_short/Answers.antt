@@ -4,8 +4,8 @@ use Rattle.zoned_ffi.proofs.column.short.write_short.Goals as goal
 pub loop-from-preserved-then-written-gt0 : goal.loop-from-preserved-then-written-gt0
 loop-from-preserved-then-written-gt0 c = grind (arith, same_after)
 
-pub returns-in-Some : goal.returns-in-Some
-returns-in-Some c =
+pub returns-in-Some-clause-answered : goal.returns-in-Some-clause-answered
+returns-in-Some-clause-answered c =
     let h = c.in-Some.ensures.answered in
     stop_after c.args.question _ _ c.write_run-written.new.answers _ _ c.loop-from.from h.1 h.0 (grind (arith, same_after))
 
