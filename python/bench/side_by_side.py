@@ -4,9 +4,9 @@
 usage: python/bench/side_by_side.py [--rows N] [--write] [--part NAME ..]
 
 Prints the tables of docs/PYTHON.md, or with --write puts them there, all of them and only on an idle machine. It takes
-five minutes. With pandas 2 they are fewer, and have a place of their own. --part prints some of them: ratios, sizes, steps,
-values, calls, memory, kinds; arrow, which needs pyarrow; and limits: what the library's call alone takes of a call on 1,000 to
-100,000 rows, and what a copy takes that is made an answer. After tools/python_tests.sh this measures and writes them:
+five minutes. --part prints some of them: ratios, sizes, steps, values, calls, memory, kinds; arrow, which needs pyarrow; and
+limits: what the library's call alone takes of a call on 1,000 to 100,000 rows, and what a copy takes that is made an answer.
+After tools/python_tests.sh this measures and writes them:
 
     PYTHONPATH=python/src /usr/bin/python3 python/bench/side_by_side.py --write
 
@@ -44,9 +44,7 @@ from sahvumbi._containers import index_of_times, series_of_times
 from sahvumbi._library import BRIEF
 
 PAGE = Path(__file__).resolve().parents[2] / "docs/PYTHON.md"
-IS_FIRST = pd.__version__.startswith("1.")
-BEGIN = f"<!-- what python/bench/side_by_side.py prints{'' if IS_FIRST else ' with pandas 2'} -->\n"
-END = "<!-- end -->\n"
+BEGIN, END = "<!-- what python/bench/side_by_side.py prints -->\n", "<!-- end -->\n"
 ZONES = [
     "America/New_York",
     "Australia/Lord_Howe",
@@ -56,7 +54,7 @@ ZONES = [
     "Pacific/Apia",
 ]
 CALLS = "to_local", "offsets", "types", "localize", "start_of_day"
-PARTS = ["ratios", "sizes", "steps", "values", "calls", "memory", "kinds"] if IS_FIRST else ["ratios", "sizes", "arrow"]
+PARTS = ["ratios", "sizes", "steps", "values", "calls", "memory", "kinds"]
 # pandas 1 and 2 have each its own word.
 HOUR = "H" if pd.__version__ < "2.2" else "h"
 DAY = int(np.datetime64("2021-07-01", "s").astype(int))
@@ -479,8 +477,7 @@ def main():
     if given.write:
         text = PAGE.read_text()
         head, rest = text.split(BEGIN)
-        after = rest.split(END, 1)[1]
-        PAGE.write_text(head + BEGIN + "\n" + "\n".join(lines) + END + after)
+        PAGE.write_text(head + BEGIN + "\n" + "\n".join(lines) + END + rest.split(END)[1])
 
 
 main()
