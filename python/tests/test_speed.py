@@ -76,7 +76,7 @@ FORMS = {
     "a Series": (pd.Series, lambda rows, name: rows.dt.tz_convert(name).dt.tz_localize(None)),
     "a DatetimeIndex": (pd.Index, lambda rows, name: rows.tz_convert(name).tz_localize(None)),
 }
-#: How many times as fast as pandas a column of so many rows is on an idle machine.
+#: By number of rows: how many times as fast as pandas a column is on an idle machine.
 RATIOS = {1_000: 3, 10_000: 10}
 # What part of that is asked of any machine.
 SURE = 0.8

@@ -253,8 +253,9 @@ class Runs:
         return np.flatnonzero(self.goes_on & comes_before(instants[1:], instants[:-1])) + 1
 
     def turns(self, comes_before: np.ufunc) -> tuple[Array, Array]:
-        """Returns the least and the greatest row of each run from which on last instants are in order, if first ones come before;
-        the end of the run is one. There is none if the least is greater."""
+        """Returns the least and the greatest row of each run at which first instants can turn into last ones and keep the order.
+
+        It may be the end of the run. No row can if the least is above the greatest."""
         of_first, of_last = self.falls(self.first, comes_before)[::-1], self.falls(self.last, comes_before)
         least, greatest = self.begins.copy(), self.ends.copy()
         least[self.run[of_last]], greatest[self.run[of_first]] = of_last, of_first

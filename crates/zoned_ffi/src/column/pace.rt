@@ -5,7 +5,7 @@ ghost use Rattle.std.specs.Prelude.{◌≤◌, ◌<◌};
 /// The rows that are tried together.
 pub const NARROW: usize = 32;
 
-/// The same once so many in a row lay in one stretch.
+/// The rows that are tried together after as many in a row lay in one stretch.
 pub const WIDE: usize = 128;
 
 // The most rows that are answered one by one before the next try.

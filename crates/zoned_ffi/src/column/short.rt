@@ -13,7 +13,7 @@ use crate::column::{NO_TIME, Question, Stop};
 // The fewest rows that pay for a table.
 const LONG: usize = 640;
 
-// The fewest lookups that show that a table is needed, if one in so many rows was looked up.
+// A table is needed after 12 lookups, if they are one in eight rows or more.
 const LOOKUPS: usize = 12;
 
 const ONE_IN: usize = 8;

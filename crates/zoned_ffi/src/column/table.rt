@@ -44,7 +44,8 @@ const MORE: i64 = 64;
 // How many more stretches than rows may have been looked for.
 const AHEAD: usize = 8;
 
-// The first of so many times from elsewhere asks for its stretch, and that in the middle for a note.
+// Of 64 times from elsewhere the first may replace the stretch that they share, and the one in the middle may
+// be noted.
 const FROM_ELSEWHERE: u8 = 64;
 
 /// Which stretch a part of the axis begins with, and which stretches are kept. Only the time that a call
