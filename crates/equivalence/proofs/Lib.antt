@@ -1,0 +1,13 @@
+pub mod Alike
+pub mod HeadersAlike
+pub mod TextsAlike
+pub mod TrimsAlike
+pub mod Listed
+pub mod RecordsAlike
+pub mod ListsAlike
+pub mod TypesAlike
+pub mod IndicatorsAlike
+pub mod FootersAlike
+pub mod FilesAlike
+pub mod PosixAlike
+pub mod PartsAlike

@@ -1,0 +1,13 @@
+pub mod OldRefusals
+pub mod OldNames
+pub mod OldGrammar
+pub mod OldRuleDays
+pub mod OldTzGrammar
+pub mod OldTrims
+pub mod OldFileHeaders
+pub mod OldFileBlocks
+pub mod OldFilePieces
+pub mod OldFileContents
+pub mod OldFooters
+pub mod OldTzFiles
+pub mod OldPosixZones
