@@ -64,8 +64,9 @@ _Static_assert(ZONED_UNEXPECTED_END == 7 && ZONED_MISSING_TAG == 8 && ZONED_PARS
 _Static_assert(ZONED_TIME_ZONE == 12 && ZONED_TRANSITION_RULE == 13 && ZONED_UNSUPPORTED_TZ_FILE == 14, "faults of the bytes");
 _Static_assert(ZONED_UNSUPPORTED_TZ_STRING == 15 && ZONED_UTF8 == 16 && ZONED_OUT_OF_MEMORY == 17, "faults of the bytes");
 _Static_assert(ZONED_GAP_REFUSE == 0 && ZONED_GAP_SHIFT_FORWARD == 1 && ZONED_GAP_END == 2, "choices for gaps");
-_Static_assert(ZONED_GAP_SHIFT_BACKWARD == 3, "a choice for gaps");
-_Static_assert(ZONED_FOLD_REFUSE == 0 && ZONED_FOLD_EARLIEST == 1 && ZONED_FOLD_LATEST == 2, "choices for folds");
+_Static_assert(ZONED_GAP_SHIFT_BACKWARD == 3 && ZONED_GAP_NO_TIME == 4, "choices for gaps");
+_Static_assert(ZONED_FOLD_REFUSE == 0 && ZONED_FOLD_EARLIEST == 1 && ZONED_FOLD_LATEST == 2 && ZONED_FOLD_NO_TIME == 3,
+               "choices for folds");
 _Static_assert(ZONED_IN_GAP == 21 && ZONED_IN_FOLD == 22 && ZONED_INSTANT_OUT_OF_RANGE == 23, "why there is no instant");
 _Static_assert(ZONED_NEVER == 0 && ZONED_ONCE == 1 && ZONED_SEVERAL_TIMES == 2 && ZONED_OUT_OF_RANGE == 3, "how often");
 _Static_assert(ZONED_NO_OFFSET == -2147483647 - 1, "no offset");
@@ -281,8 +282,8 @@ int main(void) {
     IS(zoned_zone_instant(&zone, ZONED_GAP_REFUSE, ZONED_FOLD_LATEST, LOCALS[1], taken), ZONED_OK);
     IS(taken[0].instant, 1636266600);
     IS(taken[0].offset, -18000);
-    IS(zoned_zone_instant(&zone, 4, ZONED_FOLD_LATEST, LOCALS[1], taken), ZONED_UNKNOWN_CHOICE);
-    IS(zoned_zone_instant(&zone, ZONED_GAP_REFUSE, 3, LOCALS[1], taken), ZONED_UNKNOWN_CHOICE);
+    IS(zoned_zone_instant(&zone, ZONED_GAP_NO_TIME, ZONED_FOLD_LATEST, LOCALS[1], taken), ZONED_UNKNOWN_CHOICE);
+    IS(zoned_zone_instant(&zone, ZONED_GAP_REFUSE, ZONED_FOLD_NO_TIME, LOCALS[1], taken), ZONED_UNKNOWN_CHOICE);
     IS(zoned_zone_instant(&zone, ZONED_GAP_END, ZONED_FOLD_REFUSE, LOCALS[0], taken), ZONED_OK);
     IS(taken[0].instant, 1615705200);
     IS(taken[0].offset, -14400);
@@ -498,7 +499,8 @@ int main(void) {
     const int64_t shown[4] = {1615689000500, 1636248600500, ZONED_NO_TIME, 1615689000500};
     int64_t times[4] = {77, 77, 77, 77};
     row = 77;
-    IS(zoned_column_instants(&zone, 4, ZONED_FOLD_REFUSE, 60, shown, 4, times, 4, &row), ZONED_UNKNOWN_CHOICE);
+    IS(zoned_column_instants(&zone, 5, ZONED_FOLD_REFUSE, 60, shown, 4, times, 4, &row), ZONED_UNKNOWN_CHOICE);
+    IS(zoned_column_instants(&zone, ZONED_GAP_REFUSE, 4, 60, shown, 4, times, 4, &row), ZONED_UNKNOWN_CHOICE);
     IS(zoned_column_instants(&zone, ZONED_GAP_END, ZONED_FOLD_LATEST, 60, shown, 4, times, 4, &row), ZONED_UNKNOWN_UNIT);
     IS(zoned_column_instants(&zone, ZONED_GAP_END, ZONED_FOLD_LATEST, 1000, shown, 4, times, 3, &row), ZONED_OTHER_SIZE);
     IS(times[0], 77);
@@ -517,6 +519,16 @@ int main(void) {
     IS(row, 2);
     IS(times[1], 1636266600500);
     IS(times[3], 77);
+    row = 77;
+    IS(zoned_column_instants(&zone, ZONED_GAP_NO_TIME, ZONED_FOLD_LATEST, 1000, shown, 4, times, 4, &row), ZONED_OK);
+    IS(times[0], ZONED_NO_TIME);
+    IS(times[1], 1636266600500);
+    IS(times[3], ZONED_NO_TIME);
+    IS(row, 77);
+    IS(zoned_column_instants(&zone, ZONED_GAP_REFUSE, ZONED_FOLD_NO_TIME, 1000, shown + 1, 3, times + 1, 3, &row), ZONED_IN_GAP);
+    IS(times[1], ZONED_NO_TIME);
+    IS(times[2], ZONED_NO_TIME);
+    IS(row, 2);
     /* A wrong count is reported, and nothing is written. */
     int32_t guarded[4] = {77, 77, 77, 77};
     IS(zoned_zone_offsets(&zone, instants, 3, guarded + 1, 2), ZONED_OTHER_SIZE);

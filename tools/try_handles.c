@@ -657,15 +657,21 @@ static void try_column(struct tried *of) {
     EXPECT(is_untouched(locals + first, (COLUMN - first) * sizeof *locals));
 }
 
-/* The instant of a local time by zoned_zone_instant of its second, or the number that says why it has none. */
+/* The instant of a local time by zoned_zone_instant of its second, or the number that says why it has none. In a gap or in a fold it may
+   be no time. */
 static uint32_t has_instant(struct tried *of, int64_t per_second, uint32_t gap, uint32_t fold, int64_t local, int64_t *instant) {
     int64_t at = local / per_second - (local % per_second < 0);
+    int may_miss_gaps = gap == ZONED_GAP_NO_TIME, may_miss_folds = fold == ZONED_FOLD_NO_TIME;
     zoned_resolved resolved;
     zoned_wall_clock clock;
-    *instant = local;
+    *instant = ZONED_NO_TIME;
     if (local == ZONED_NO_TIME) return ZONED_OK;
+    if (may_miss_gaps) gap = ZONED_GAP_REFUSE;
+    if (may_miss_folds) fold = ZONED_FOLD_REFUSE;
     EXPECT(zoned_zone_instant(&of->zone, gap, fold, at, &resolved) == ZONED_OK);
     EXPECT(zoned_zone_wall_clock(&of->zone, at, &clock) == ZONED_OK);
+    if (resolved.number == ZONED_IN_GAP && may_miss_gaps) return ZONED_OK;
+    if (resolved.number == ZONED_IN_FOLD && may_miss_folds) return ZONED_OK;
     if (resolved.number && resolved.number != ZONED_INSTANT_OUT_OF_RANGE) return resolved.number;
     if (clock.shown == ZONED_OUT_OF_RANGE) return ZONED_INSTANT_OUT_OF_RANGE;
     int64_t second = resolved.instant;
@@ -686,9 +692,9 @@ static void try_instants_of_column(struct tried *of) {
     static const int64_t UNITS[] = {1, 1000, 1000000, 1000000000, 0, -1, 60};
     int64_t locals[COLUMN] = {0}, instants[COLUMN], per_second = UNITS[below(below(8) ? 4 : 7)];
     size_t count = below(COLUMN + 1), room = below(8) ? count : below(COLUMN + 1), row = 77, first = 0;
-    uint32_t gap = (uint32_t)below(below(8) ? 4 : 6), fold = (uint32_t)below(below(8) ? 3 : 5), why = ZONED_OK;
+    uint32_t gap = (uint32_t)below(below(8) ? 5 : 7), fold = (uint32_t)below(below(8) ? 4 : 6), why = ZONED_OK;
     int is_unit = per_second > 0 && per_second != 60, is_sorted = below(2) == 0;
-    int is_choice = gap <= ZONED_GAP_SHIFT_BACKWARD && fold <= ZONED_FOLD_LATEST;
+    int is_choice = gap <= ZONED_GAP_NO_TIME && fold <= ZONED_FOLD_NO_TIME;
     int64_t step = (int64_t)below(20000) * (is_unit ? per_second : 1);
     for (size_t i = 0; i < count; i++) {
         locals[i] = time_of(is_unit ? per_second : 1);

@@ -110,6 +110,10 @@ template <class Unit> void try_unit(const time_zone &new_york) {
                         same("to_sys", unit, count, instant, one_instant(new_york, Unit(count), choice));
                         same("to_sys_column", unit, count, instant, row_of_instants(new_york, Unit(count), choice));
                     });
+                    // Columns have policies of their own: what the others reject is no time.
+                    auto due = due_instant(second, rest, unit, {});
+                    if (due.number) due = {ZONED_OK, ZONED_NO_TIME};
+                    same("to_sys_column", unit, count, due, row_of_instants(new_york, Unit(count), {gap::no_time, fold::no_time}));
                 }
 }
 

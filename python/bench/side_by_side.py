@@ -3,9 +3,10 @@
 
 usage: python/bench/side_by_side.py [--rows N] [--write] [--part NAME ..]
 
-Prints the tables of docs/PYTHON.md, or with --write puts them there, all of them and only on an idle machine. It takes
-five minutes. --part prints some of them: ratios, sizes, steps, values, calls, memory, kinds; arrow, which needs pyarrow; and
-limits: what the library's call alone takes of a call on 1,000 to 100,000 rows, and what a copy takes that is made an answer.
+Prints the tables of docs/PYTHON.md, or with --write puts them there, all of them and only on an idle machine: with pandas 1
+those of its first block, and with a later one those of the second. It takes five minutes. --part prints some of them:
+ratios, sizes, steps, values, calls, memory, kinds; arrow, which needs pyarrow; and limits: what the library's call alone
+takes of a call on 1,000 to 100,000 rows, and what a copy takes that is made an answer.
 After tools/python_tests.sh this measures and writes them:
 
     PYTHONPATH=python/src /usr/bin/python3 python/bench/side_by_side.py --write
@@ -45,6 +46,7 @@ from sahvumbi._library import BRIEF
 
 PAGE = Path(__file__).resolve().parents[2] / "docs/PYTHON.md"
 BEGIN, END = "<!-- what python/bench/side_by_side.py prints -->\n", "<!-- end -->\n"
+BEGIN_LATER = "<!-- what it prints with pandas 2 and pyarrow -->\n"
 ZONES = [
     "America/New_York",
     "Australia/Lord_Howe",
@@ -54,7 +56,8 @@ ZONES = [
     "Pacific/Apia",
 ]
 CALLS = "to_local", "offsets", "types", "localize", "start_of_day"
-PARTS = ["ratios", "sizes", "steps", "values", "calls", "memory", "kinds"]
+IS_LATER = not pd.__version__.startswith("1.")
+PARTS = ["ratios", "sizes", "values", "arrow"] if IS_LATER else ["ratios", "sizes", "steps", "values", "calls", "memory", "kinds"]
 # pandas 1 and 2 have each its own word.
 HOUR = "H" if pd.__version__ < "2.2" else "h"
 DAY = int(np.datetime64("2021-07-01", "s").astype(int))
@@ -281,7 +284,7 @@ def arrow(rows):
         lines.append(row("to local times", order, *(f"{1e9 * each / rows:.1f} ns" for each in times)))
         local = zone.to_local(column)
         naive = local.to_pandas()
-        choices = {"ambiguous_time": "earliest", "nonexistent_time": "earliest"}
+        choices = {"ambiguous": "earliest", "nonexistent": "earliest"}
         asks = [
             lambda: zone.localize(local, gap="shift", fold="earliest"),
             lambda: pandas_instants(naive, zone.key),
@@ -475,9 +478,9 @@ def main():
             lines.append(line)
             print(line, flush=True)
     if given.write:
-        text = PAGE.read_text()
-        head, rest = text.split(BEGIN)
-        PAGE.write_text(head + BEGIN + "\n" + "\n".join(lines) + END + rest.split(END)[1])
+        begin = BEGIN_LATER if IS_LATER else BEGIN
+        head, rest = PAGE.read_text().split(begin)
+        PAGE.write_text(head + begin + "\n" + "\n".join(lines) + END + rest.split(END, 1)[1])
 
 
 main()

@@ -62,6 +62,19 @@ def test_one_value_is_a_row(zone):
 
 
 @pytest.mark.parametrize("zone", ZONES, ids=repr)
+def test_one_value_at_the_second_of_a_change_is_a_row(zone):
+    changes = zone.changes(-(2**31), 2**31)
+    for at, *offsets in zip(changes.at.tolist(), changes.offset_before.tolist(), changes.offset_after.tolist()):
+        for second in (at - 1, at, at + 1):
+            assert zone.to_local(second) == zone.to_local([second])[0], second
+            assert zone.types(second).abbreviation == zone.types([second]).abbreviation[0], second
+        for local in {at + offset + near for offset in offsets for near in (-1, 0, 1)}:
+            for fold in ("earliest", "latest"):
+                assert zone.localize(local, gap="shift", fold=fold) == zone.localize([local], gap="shift", fold=fold)[0], local
+            assert zone.start_of_day(local) == zone.start_of_day([local])[0], local
+
+
+@pytest.mark.parametrize("zone", ZONES, ids=repr)
 def test_the_tzinfo_is_of_the_same_types(zone):
     for moment in MOMENTS:
         shown = answer(zone.to_local, moment)

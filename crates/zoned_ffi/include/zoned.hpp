@@ -60,9 +60,15 @@ enum class gap : uint32_t {
     refuse = ZONED_GAP_REFUSE,
     shift_forward = ZONED_GAP_SHIFT_FORWARD,
     end = ZONED_GAP_END,
-    shift_backward = ZONED_GAP_SHIFT_BACKWARD
+    shift_backward = ZONED_GAP_SHIFT_BACKWARD,
+    no_time = ZONED_GAP_NO_TIME // of columns only
 };
-enum class fold : uint32_t { refuse = ZONED_FOLD_REFUSE, earliest = ZONED_FOLD_EARLIEST, latest = ZONED_FOLD_LATEST };
+enum class fold : uint32_t {
+    refuse = ZONED_FOLD_REFUSE,
+    earliest = ZONED_FOLD_EARLIEST,
+    latest = ZONED_FOLD_LATEST,
+    no_time = ZONED_FOLD_NO_TIME // of columns only
+};
 
 // The policies of std::chrono: the earliest or the latest instant that shows a local time, and the end of a gap.
 #if ZONED_STD_CHRONO >= 2
@@ -319,7 +325,7 @@ public:
         check(number, row);
     }
 
-    // Local times as instants, in these units. No time stays.
+    // Local times as instants, in these units. No time stays, and by gap::no_time and fold::no_time local times become it.
     template <class Locals, class Instants>
     void to_sys_column(const Locals &locals, Instants &&instants, policy choice = {}) const {
         auto from = numbers<local_t>(locals.data());

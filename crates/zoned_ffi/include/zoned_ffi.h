@@ -299,15 +299,17 @@ enum zoned_gap {
     ZONED_GAP_SHIFT_FORWARD = 1, /* the instant at which a clock that was not set forward shows it. New York's clocks skipped
                                     02:30 on 2021-03-14: it is the instant at which they showed 03:30 */
     ZONED_GAP_END = 2,          /* the second at which the gap ends: the instant at which they showed 03:00 */
-    ZONED_GAP_SHIFT_BACKWARD = 3 /* the instant at which a clock that had been set forward already shows it: the instant at which
-                                    they showed 01:30. Temporal's and jiff's "earlier", fold=1 of Python's PEP 495, cctz's `post` */
+    ZONED_GAP_SHIFT_BACKWARD = 3, /* the instant at which a clock that had been set forward already shows it: the instant at which
+                                     they showed 01:30. Temporal's and jiff's "earlier", fold=1 of Python's PEP 495, cctz's `post` */
+    ZONED_GAP_NO_TIME = 4        /* in zoned_column_instants: ZONED_NO_TIME, as NaT in pandas. Other calls have no such policy */
 };
 
 /* `fold`: what to return for a local time that they show several times. */
 enum zoned_fold {
     ZONED_FOLD_REFUSE = 0,   /* nothing */
     ZONED_FOLD_EARLIEST = 1, /* the first instant */
-    ZONED_FOLD_LATEST = 2    /* the last */
+    ZONED_FOLD_LATEST = 2,   /* the last */
+    ZONED_FOLD_NO_TIME = 3   /* in zoned_column_instants: ZONED_NO_TIME */
 };
 
 /* The instant of a local time. */
@@ -334,7 +336,8 @@ uint32_t zoned_zone_instants(const struct zoned_zone *zone, uint32_t gap, uint32
 
 /* instants[i] is the instant of locals[i] under the policies. Both are counted in one unit, of which per_second make a second, as
    in zoned_column_locals. The policies decide for the second that the local time lies in, and what it has beyond that second is
-   added to the instant, unless the instant is the end of a gap. ZONED_NO_TIME stays.
+   added to the instant, unless the instant is the end of a gap. ZONED_NO_TIME stays; by ZONED_GAP_NO_TIME and ZONED_FOLD_NO_TIME local
+   times in gaps and in folds become it.
 
    ZONED_IN_GAP, ZONED_IN_FOLD, ZONED_INSTANT_OUT_OF_RANGE: locals[*row] is the first that has no instant, for this reason; it is
    out of range if it lies outside the years -262143 to 262142 or its instant doesn't fit 64 bits. The rows before it are

@@ -1,10 +1,10 @@
 -- Answers to a column's times: by a lookup, and by what is kept of a stretch.
 use Rattle.zoned_ffi.specs.{Columns.{IsInstantOf, IsInstantTaken, IsRowNumber, second_holding}, Steps.KeptTimes.{IsKeptOf, LieWithin, IsStop}}
-use Rattle.zoned_ffi.specs.{Units.{IsCounted, IsLocal, IsWithout, uncounted}, declared.column.{Question.{Question}, Stop.{Stop}, Way.TheVariants.{ToInstants}}}
+use Rattle.zoned_ffi.specs.{Units.{IsCounted, IsLocal, IsWithout, uncounted}, declared.{choice.Missing.{Missing}, column.{Question.{Question}, Stop.{Stop}, Way.TheVariants.{ToInstants}}}}
 use Rattle.zoned_ffi.{specs.declared.{column.Way.TheVariants.{ToLocal}, resolved.Taken.TheVariants.{GapEnd, InForce, Shifted}}, proofs.Words.{All-contains}}
 use Rattle.zoned_ffi.proofs.Words.{AreKeptTimes, Choice, Fits64, IsGreatest, IsInRange, IsLeast, IsNoInstant, IsOffsetStretch, IsShownOnce, IsTakenAs, Kept}
 use Rattle.zoned_ffi.proofs.Words.{List, LocalType, MatchOption, None, OffsetStretch, Option, Shows, Some, Taken, TypeAt, Unit, Zone, ap, arith, first_second}
-use Rattle.zoned_ffi.proofs.Words.{floor_div, floors, get_or, ints, neg_ℤ, offsets, per_second, pos, refl, subst, taken_instant, ℕ, ℤ, ◌*ℤ◌, ◌+ℤ◌, ◌+◌, ◌-ℤ◌}
+use Rattle.zoned_ffi.proofs.Words.{floor_div, floors, get_or, inl, ints, neg_ℤ, offsets, per_second, pos, refl, subst, taken_instant, ℕ, ℤ, ◌*ℤ◌, ◌+ℤ◌, ◌+◌, ◌-ℤ◌}
 use Rattle.zoned_ffi.proofs.{Words.{◌<ℤ◌, ◌≡◌, ◌≤ℤ◌, drop, ◌∙◌, ◌≤◌}, Slices.{same_after}, Resolving.{none_is, taken_once}}
 use Rattle.std.proofs.Common.{bit_or}
 use lib.Bits.{and_le_l, and_le_r, or_add_and}
@@ -86,12 +86,12 @@ module _ (z : Zone) (unit : Unit) where
   -- and to local times, by a choice
   module _ (choice : Choice) where
     -- such local times, by the counts of the bounds
-    pub local_times_kept : (s : OffsetStretch) (low high p q r t f e from until add : ℤ) (k : Kept) → IsOffsetStretch z s
+    pub local_times_kept : (m : Missing) (s : OffsetStretch) (low high p q r t f e from until add : ℤ) (k : Kept) → IsOffsetStretch z s
         → Fits64 s.from → Fits64 s.until → IsLeast (offsets z.types z.rule) low → IsGreatest (offsets z.types z.rule) high
         → p ≡ s.from *ℤ pos (per_second unit) → q ≡ high *ℤ pos (per_second unit) → r ≡ s.until *ℤ pos (per_second unit) → t ≡ low *ℤ pos (per_second unit)
         → f ≡ first_second *ℤ pos (per_second unit) → e ≡ pos 8_210_266_876_800 *ℤ pos (per_second unit) → add ≡ neg_ℤ (s.offset *ℤ pos (per_second unit))
-        → (p +ℤ q) ≤ℤ from → f ≤ℤ from → until ≤ℤ (r +ℤ t) → until ≤ℤ e → LieWithin from until add k → IsKeptOf z unit (ToInstants choice) k
-    local_times_kept s low high p q r t f e from until add k stretch fits_from fits_until is_low is_high ep eq er et ef ee ea a b c d within =
+        → (p +ℤ q) ≤ℤ from → f ≤ℤ from → until ≤ℤ (r +ℤ t) → until ≤ℤ e → LieWithin from until add k → IsKeptOf z unit (ToInstants choice m) k
+    local_times_kept m s low high p q r t f e from until add k stretch fits_from fits_until is_low is_high ep eq er et ef ee ea a b c d within =
         λ x since before.
         let at = within.each x since before in
         let local = floor_div x (per_second unit) in
@@ -103,7 +103,7 @@ module _ (z : Zone) (unit : Unit) where
         let counted : IsCounted (x +ℤ k.add) = rw within.same at.3 in
         let less : (x +ℤ neg_ℤ (s.offset *ℤ pos (per_second unit))) ≡ x -ℤ (s.offset *ℤ pos (per_second unit)) = omega (arith, ints) in
         let taken = IsInstantTaken.by_offset found.0 (taken_once z local choice found.0 found.1) cc in
-        (counted, at.2, record { in_range = (first, omega (arith, ints)); taken = taken; counted = counted })
+        (counted, at.2, inl (record { in_range = (first, omega (arith, ints)); taken = taken; counted = counted }))
 
     -- the instant by what is taken
     taken_gives : (local : ℤ) (taken : Taken) → IsTakenAs z (second_holding unit local) choice taken

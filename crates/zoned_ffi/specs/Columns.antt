@@ -1,11 +1,12 @@
 -- Columns: instants as local times, and local times as instants, counted in a unit.
-use Rattle.std.specs.{Prelude.{ℕ, ℤ, ◌≡◌, ◌≢◌, ◌⊎◌, ◌-ℤ◌, ◌*ℤ◌, ◌<◌, ◌≤◌, pos, List, drop, length, take, slice_index_or}, List.{AllZip}}
+use Rattle.std.specs.Prelude.{ℕ, ℤ, ◌≡◌, ◌≢◌, ◌⊎◌, ◌-ℤ◌, ◌*ℤ◌, ◌<◌, ◌≤◌, ◌==◌, pos, true, if◌then◌else◌, List, drop, length, take, slice_index_or}
+use Rattle.std.specs.List.{AllZip}
 use Rattle.gregorian.specs.Year.{floor_div}
 use Rattle.naive_base.specs.Range.{IsInRange}
 use Rattle.tz_base.specs.LocalTypes.{LocalType}
 use Rattle.tz_info.specs.Zones.{Zone}
 use Rattle.zoned_ffi.specs.{Resolved.{IsNoneTaken, IsTakenGapEnd, IsTakenType}, WholeSeconds.{IsFound, IsNotFound}}
-use Rattle.zoned_ffi.specs.{Units.{IsCounted, IsLocal, IsWithout, no_time, per_second}, declared.{choice.Choice.{Choice}, column.Way.{Way}, unit.Unit.{Unit}}}
+use Rattle.zoned_ffi.specs.{Units.{IsCounted, IsLocal, IsWithout, no_time, per_second}, declared.{choice.{Choice.{Choice}, Missing.{Missing}}, column.Way.{Way}, unit.Unit.{Unit}}}
 use Rattle.zoned_ffi.specs.declared.whole_second.WholeSecond.{WholeSecond}
 use Rattle.zoned_ffi.specs.declared.column.Way.TheVariants as ways
 
@@ -34,6 +35,24 @@ pub data IsNoInstant (z : Zone) (unit : Unit) (choice : Choice) (local : ℤ) : 
   uncounted : (instant : ℤ) → IsInRange (second_holding unit local) → IsInstantTaken z unit choice local instant → ¬ (IsCounted instant)
       → IsNoInstant z unit choice local 23
 
+-- the choice of a column: 4 for gaps and 3 for folds reject local times as 0 does, but what is rejected becomes no time
+abbrev pub gap_asked : ℕ → ℕ
+gap_asked gap = if gap == 4 then 0 else gap
+
+abbrev pub fold_asked : ℕ → ℕ
+fold_asked fold = if fold == 3 then 0 else fold
+
+abbrev pub missing_of : ℕ → ℕ → Missing
+missing_of gap fold = record { in_gaps = gap == 4; in_folds = fold == 3 }
+
+-- a local time that is rejected with that number, in a gap 21 and in a fold 22, becomes no time
+abbrev pub IsMissing : Missing → ℕ → Type 0
+IsMissing m n = ((n ≡ 21) × (m.in_gaps ≡ true)) ⊎ ((n ≡ 22) × (m.in_folds ≡ true))
+
+-- it has no instant for such a reason
+abbrev pub IsMissingInstant : Zone → Unit → Choice → Missing → ℤ → Type 0
+IsMissingInstant z unit choice m local = (n : ℕ) × IsNoInstant z unit choice local n × IsMissing m n
+
 -- the whole second that is found for an instant, counted in the unit. The last second before the instant is the one that the unit before
 -- it lies in
 pub record IsWholeSecondOf (z : Zone) (unit : Unit) (sought : WholeSecond) (instant time : ℤ) : Type 0 where
@@ -49,16 +68,17 @@ pub data IsNoWholeSecondOf (z : Zone) (unit : Unit) (sought : WholeSecond) (inst
   uncounted : (second : ℤ) → IsFound z sought (second_holding unit instant) (second_holding unit (instant -ℤ pos 1)) second
       → ¬ (IsCounted (second *ℤ pos (per_second unit))) → IsNoWholeSecondOf z unit sought instant 23
 
--- the answer to a time of a column: the local time of an instant, the instant of a local time, or a whole second for an instant
+-- the answer to a time of a column: the local time of an instant, the instant of a local time or no time, or a whole second for an
+-- instant
 abbrev pub IsAnswered : Zone → Unit → Way → ℤ → ℤ → Type 0
 IsAnswered z unit ways.ToLocal x y = IsLocal z unit x y
-IsAnswered z unit (ways.ToInstants choice) x y = IsInstantOf z unit choice x y
+IsAnswered z unit (ways.ToInstants choice m) x y = IsInstantOf z unit choice x y ⊎ (IsMissingInstant z unit choice m x × (y ≡ no_time))
 IsAnswered z unit (ways.ToWholeSeconds sought) x y = IsWholeSecondOf z unit sought x y
 
 -- the number of the error that a time without an answer gets
 abbrev pub IsNotAnswered : Zone → Unit → Way → ℤ → ℕ → Type 0
 IsNotAnswered z unit ways.ToLocal x n = (n ≡ 37) × IsWithout z unit x
-IsNotAnswered z unit (ways.ToInstants choice) x n = IsNoInstant z unit choice x n
+IsNotAnswered z unit (ways.ToInstants choice m) x n = IsNoInstant z unit choice x n × ¬ (IsMissing m n)
 IsNotAnswered z unit (ways.ToWholeSeconds sought) x n = IsNoWholeSecondOf z unit sought x n
 
 -- what is written: no time stays none

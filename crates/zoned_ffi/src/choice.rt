@@ -1,8 +1,12 @@
 //! Choices for local times in gaps and folds, as C numbers them.
 
-ghost use Rattle.std.specs.Prelude.{◌≡◌, MatchOption};
-ghost use Rattle.zoned_ffi.specs.Resolved.{IsChoice, IsChoiceOf, policy_of};
+ghost use Rattle.std.specs.Prelude.{◌≡◌, ◌↔◌, IsTrue, MatchOption};
+ghost use Rattle.zoned_ffi.specs.{
+  Columns.{fold_asked, gap_asked, missing_of, IsMissing},
+  Resolved.{IsChoice, IsChoiceOf, policy_of},
+};
 
+use crate::refusal::{IN_FOLD, IN_GAP};
 use offset_core::{Choice as Policy, FoldChoice, GapChoice};
 
 /// What to take of a local time in a gap.
@@ -65,4 +69,49 @@ pub fn choice_of(gap: u32, fold: u32) -> Option<Choice>
         _ => return None,
     };
     Some(Choice { gap, fold })
+}
+
+// The number by which a column gives local times in gaps no time.
+const NO_TIME_IN_GAPS: u32 = 4;
+
+// The number by which it gives those in folds no time.
+const NO_TIME_IN_FOLDS: u32 = 3;
+
+/// Which local times that a choice rejects become no time in a column.
+#[derive(Clone, Copy)]
+pub struct Missing {
+    /// Those in gaps.
+    pub in_gaps: bool,
+    /// Those in folds.
+    pub in_folds: bool,
+}
+
+impl Missing {
+    /// Those of the numbers of a column's choice.
+    pub fn of(gap: u32, fold: u32) -> Missing
+        ensures { result ≡ missing_of gap fold }
+    {
+        Missing {
+            in_gaps: gap == NO_TIME_IN_GAPS,
+            in_folds: fold == NO_TIME_IN_FOLDS,
+        }
+    }
+
+    /// Whether a local time that is rejected with that number is one of them.
+    pub fn has(self, number: u32) -> bool
+        ensures { IsTrue result ↔ IsMissing self number }
+    {
+        (self.in_gaps && number == IN_GAP) || (self.in_folds && number == IN_FOLD)
+    }
+}
+
+/// The choice of the numbers of a column's choice. The numbers by which what is rejected becomes no time reject
+/// it too.
+pub fn column_choice_of(gap: u32, fold: u32) -> Option<Choice>
+    ensures { MatchOption result (¬ (IsChoice (gap_asked gap) (fold_asked fold)))
+        (λ choice. IsChoiceOf (gap_asked gap) (fold_asked fold) choice) }
+{
+    let gap = if gap == NO_TIME_IN_GAPS { 0 } else { gap };
+    let fold = if fold == NO_TIME_IN_FOLDS { 0 } else { fold };
+    choice_of(gap, fold)
 }

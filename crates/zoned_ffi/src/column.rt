@@ -13,7 +13,7 @@ mod row;
 mod short;
 mod table;
 
-use crate::choice::Choice;
+use crate::choice::{Choice, Missing};
 use crate::refusal::{NO_LOCAL_TIME, OTHER_SIZE};
 use crate::unit::Unit;
 use crate::whole_second::WholeSecond;
@@ -32,8 +32,8 @@ pub(crate) const NO_TIME: i64 = i64::MIN;
 pub enum Way {
     /// Instants become local times.
     ToLocal,
-    /// Local times become instants, under a choice for gaps and folds.
-    ToInstants(Choice),
+    /// Local times become instants, under a choice for gaps and folds. Some that it rejects become no time.
+    ToInstants(Choice, Missing),
     /// Instants become whole seconds that are found for them.
     ToWholeSeconds(WholeSecond),
 }
@@ -54,7 +54,7 @@ impl Question<'_> {
     /// stretch.
     pub fn keeps_stretches(&self) -> bool {
         match self.way {
-            Way::ToLocal | Way::ToInstants(_) => true,
+            Way::ToLocal | Way::ToInstants(_, _) => true,
             Way::ToWholeSeconds(_) => false,
         }
     }
@@ -127,16 +127,12 @@ fn sample(times: &[i64]) -> [i64; SAMPLE]
 #[inline(never)]
 fn write_long(question: Question, times: &[i64], answers: &mut [i64], start: usize) -> Option<Stop>
     requires size { length answers.old ≡ length times.now }
-    requires row { start < length times.now }
+    requires rows { (start < length times.now) × (8 ≤ length times.now) }
     requires before { AreWritten question (take start times.now) (take start answers.old) }
     ensures { MatchOption result (AreWritten question.entry times.now answers.new)
         (λ s. (start ≤ s.row) × IsStop question.entry times.now answers.old answers.new s) }
 {
-    let middle = if times.len() < 8 {
-        times[start]
-    } else {
-        middle_of_all(&sample(times))
-    };
+    let middle = middle_of_all(&sample(times));
     let mut stretches = [Kept::none(question); STRETCHES];
     let mut table = Table::none_around(question, middle);
     table.keep_first(question, &mut stretches, middle);
@@ -209,15 +205,16 @@ pub fn answer_times(
     zone: &TimeZone,
     unit: Unit,
     choice: Choice,
+    missing: Missing,
     locals: &[i64],
     instants: &mut [i64],
     row: &mut usize,
 ) -> u32
     ensures answered { result ≡ 0
-        → AreAnswered zone.now unit (Way.ToInstants choice) locals.now instants.new
+        → AreAnswered zone.now unit (Way.ToInstants choice missing) locals.now instants.new
         × (row.new ≡ row.old) }
     ensures without { IsRowNumber result
-        → IsFirstWithout zone.now unit (Way.ToInstants choice) locals.now
+        → IsFirstWithout zone.now unit (Way.ToInstants choice missing) locals.now
         instants.old instants.new row.new result }
     ensures refused { result ≢ 0 → ¬ (IsRowNumber result)
         → (result ≡ 32) × (length locals.now ≢ length instants.old)
@@ -229,7 +226,7 @@ pub fn answer_times(
     let question = Question {
         zone,
         unit,
-        way: Way::ToInstants(choice),
+        way: Way::ToInstants(choice, missing),
     };
     match write_column(question, locals, instants) {
         Some(stop) => {

@@ -11,7 +11,18 @@ ghost use Rattle.{
   tz_info.specs.{Folds.{HasFold, Repeats, SkipsOrRepeats}, TzFiles.{IsTzFile}},
   tz_info.specs.Zones.{IsTypeRefused, IsValid, TypeAt, Zone},
   tz_write.specs.WrittenTexts.{IsWrittenText},
-  zoned_ffi.specs.Columns.{second_holding, IsAnsweredOrNone, IsFirstWithout, IsInstantOf, IsNoInstant},
+  zoned_ffi.specs.Columns.{
+    fold_asked,
+    gap_asked,
+    missing_of,
+    second_holding,
+    IsAnsweredOrNone,
+    IsFirstWithout,
+    IsInstantOf,
+    IsMissing,
+    IsMissingInstant,
+    IsNoInstant,
+  },
   zoned_ffi.specs.Columns.{IsNoWholeSecondOf, IsRowNumber, IsSoughtNumber, IsWholeSecondOf},
   zoned_ffi.specs.{FaultPlaces.{no_position, IsFaultPosition}, Steps.SetBack.{set_back, summer, winter}},
   zoned_ffi.specs.{Fields.{AreFieldsOf, IsNoLocalOf}, WrittenSpans.{written_span, IsWrittenSpanAt}},
@@ -86,6 +97,26 @@ pub fn choice_numbers()
     ensures backward { IsChoiceOf 3 0 (record { gap = ChoiceInGap.ShiftBackward; fold = FoldChoice.Refuse }) }
     ensures gap_4 { ¬ (IsChoice 4 0) }
     ensures fold_3 { ¬ (IsChoice 0 3) }
+{}
+
+/// In a column 4 for gaps and 3 for folds reject local times too, and those become no time. One out of range
+/// doesn't.
+pub fn column_choice_numbers()
+    ensures gap { gap_asked 4 ≡ 0 }
+    ensures other_gap { gap_asked 3 ≡ 3 }
+    ensures fold { fold_asked 3 ≡ 0 }
+    ensures other_fold { fold_asked 4 ≡ 4 }
+    ensures of_gaps { missing_of 4 0 ≡ record { in_gaps = true; in_folds = false } }
+    ensures of_folds { missing_of 0 3 ≡ record { in_gaps = false; in_folds = true } }
+    ensures in_gap { IsMissing (missing_of 4 0) 21 }
+    ensures in_fold { IsMissing (missing_of 0 3) 22 }
+    ensures not_in_gap { ¬ (IsMissing (missing_of 0 3) 21) }
+    ensures outside { ¬ (IsMissing (missing_of 4 3) 23) }
+    ensures instant { (z : Zone) (choice : Choice) → IsNoneTaken z (pos 1_615_689_000) choice 21
+        → IsMissingInstant z Unit.Milliseconds choice (missing_of 4 0) (pos 1_615_689_000_500) }
+    ensures no_time { (z : Zone) (choice : Choice) → IsNoneTaken z (pos 1_615_689_000) choice 21
+        → IsAnsweredOrNone z Unit.Milliseconds (Way.ToInstants choice (missing_of 4 0))
+        (pos 1_615_689_000_500) no_time }
 {}
 
 /// In a gap a policy that shifts forward takes the type before it, and one that shifts backward the type

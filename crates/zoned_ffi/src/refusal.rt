@@ -36,6 +36,12 @@ pub const UNKNOWN_STEP: u32 = 47;
 /// What it returns if a file has more transitions or leap seconds than its caller allows.
 pub const ABOVE_LIMITS: u32 = 48;
 
+/// The number of a local time in a gap for which no instant is taken.
+pub const IN_GAP: u32 = 21;
+
+/// That of a local time in a fold.
+pub const IN_FOLD: u32 = 22;
+
 /// The number of a local time that is outside the calendar's range, or whose instant is.
 pub const INSTANT_OUT_OF_RANGE: u32 = 23;
 

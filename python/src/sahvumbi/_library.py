@@ -21,8 +21,8 @@ FILE, TEXT, EXTENDED_STRING = range(3)
 #: How often a local time is shown: `zoned_shown`.
 NEVER, ONCE, SEVERAL_TIMES, OUT_OF_RANGE = range(4)
 #: What is taken for a local time in a gap, `zoned_gap`, and for one in a fold, `zoned_fold`.
-GAP_REFUSE, GAP_SHIFT_FORWARD, GAP_END, GAP_SHIFT_BACKWARD = range(4)
-FOLD_REFUSE, FOLD_EARLIEST, FOLD_LATEST = range(3)
+GAP_REFUSE, GAP_SHIFT_FORWARD, GAP_END, GAP_SHIFT_BACKWARD, GAP_NO_TIME = range(5)
+FOLD_REFUSE, FOLD_EARLIEST, FOLD_LATEST, FOLD_NO_TIME = range(4)
 #: What calls return: `zoned_number`.
 IN_GAP, IN_FOLD, INSTANT_OUT_OF_RANGE = 21, 22, 23
 NO_CHANGE = 35

@@ -10,8 +10,8 @@ from ._choice import Choice, Fault
 from ._columns import BLOCK, FIRST_SECOND, LAST_SECOND, NO_ROWS, Block, Column
 from ._containers import NAT, Array
 from ._library import (
-    FOLD_EARLIEST, FOLD_LATEST, FOLD_REFUSE, GAP_END, GAP_REFUSE, GAP_SHIFT_BACKWARD, GAP_SHIFT_FORWARD, IN_FOLD,
-    IN_GAP, NEVER, ONCE, OUT_OF_RANGE, SEVERAL_TIMES,
+    FOLD_EARLIEST, FOLD_LATEST, FOLD_NO_TIME, FOLD_REFUSE, GAP_END, GAP_NO_TIME, GAP_REFUSE, GAP_SHIFT_BACKWARD,
+    GAP_SHIFT_FORWARD, NEVER, ONCE, OUT_OF_RANGE, SEVERAL_TIMES,
 )
 from ._native import NativeZone
 from .errors import FOLD, GAP, WORDS, FoldError, RowError
@@ -24,6 +24,9 @@ OUTSIDE = "the local time is outside the years -262143 to 262142"
 # What the zone decides by itself. Before the end of a gap comes a unit of the column, which the zone can't know.
 GAPS = {"shift": GAP_SHIFT_FORWARD, "after": GAP_END, "shift_back": GAP_SHIFT_BACKWARD}
 FOLDS = {"earliest": FOLD_EARLIEST, "latest": FOLD_LATEST}
+# What it decides for a column.
+GAPS_OF_COLUMNS = {**GAPS, "nat": GAP_NO_TIME}
+FOLDS_OF_COLUMNS = {**FOLDS, "nat": FOLD_NO_TIME}
 # If fewer rows than these come between two that are left, more of them are left at a time.
 CLOSE = 128
 
@@ -47,23 +50,18 @@ def localized(native: NativeZone, column: Column, choice: Choice) -> Array:
 
 
 def _left(native: NativeZone, column: Column, choice: Choice, answers: Array) -> Iterator[Array]:
-    """Writes the instants that the zone gives by itself, and NaT for a row that becomes it, unless many do.
+    """Writes the instants that the zone gives by itself.
 
     Yields the places of the other rows, in order, `BLOCK` at most at a time."""
     left, count, row, step, size = [], 0, 0, 1, len(column)
-    gap, fold = GAPS.get(choice.gap, GAP_REFUSE), FOLDS.get(choice.fold, FOLD_REFUSE)
+    gap, fold = GAPS_OF_COLUMNS.get(choice.gap, GAP_REFUSE), FOLDS_OF_COLUMNS.get(choice.fold, FOLD_REFUSE)
     asked = native.instants(gap, fold, column.per_second, column.values, answers)
     # The call gives instants outside the calendar too.
     asks = column.fits_calls() and column.lies_in(FIRST_SECOND + FAR, LAST_SECOND - FAR)
-    lost = [number for number, word in ((IN_GAP, choice.gap), (IN_FOLD, choice.fold)) if word == "nat"]
     while row < size:
-        found, number = asked(row) or (size, 0) if asks else (row, 0)
-        if found == size:
+        found = asked(row) if asks else row
+        if found is None:
             break
-        if number in lost and found - row >= CLOSE:
-            answers[found] = NAT
-            row = found + 1
-            continue
         step = min(2 * step, BLOCK) if found - row < CLOSE else 1
         row = min(found + step, found + BLOCK - count, size)
         left.append(np.arange(found, row))

@@ -50,11 +50,17 @@ class InForce(NamedTuple):
     dst: timedelta
 
 
-class Stop(NamedTuple):
-    """The first row of a column that has no answer, and the number that says why."""
+class OneChange(NamedTuple):
+    """The only change of the clocks within some days."""
 
-    row: int
-    number: int
+    at: int
+    """The Unix second from which on `after` is in force."""
+    before: InForce
+    after: InForce
+    first_local: int
+    """The first local time that clocks skip or show again."""
+    end_local: int
+    """The first after those."""
 
 
 @lru_cache(1 << 10)
@@ -79,13 +85,12 @@ STRETCH = 1_000 * 31_556_952
 # Days of a stretch whose type is kept, as a power of two, and days around it in which no clock may
 # change: an offset of a narrow zone is less than one. So a local time of the stretch is shown once.
 DAYS_OF_STRETCH = 3
+SECONDS_OF_STRETCH = 86_400 << DAYS_OF_STRETCH
 AROUND = 2 * 86_400
 # How many stretches a zone keeps.
 KEPT = 1 << 12
 # Rows that a brief call is asked. It keeps Python's lock for less than the five milliseconds after which another thread gets it.
 FEW = 1 << 14
-# So many rows of a quick call have no instant.
-MOST_LOST = 64
 NANOSECONDS = c_int64(10**9)
 # A type without bytes, whose `from_buffer` finds where an array begins.
 _NOTHING = c_char * 0
@@ -107,11 +112,12 @@ class _Handle(library.Handle):
 class NativeZone:
     """An open zone. Raises `ZoneRefusedError` if the bytes are none."""
 
-    __slots__ = ("kind", "data", "what", "_zone", "_kept", "_is_narrow")
+    __slots__ = ("kind", "data", "what", "_zone", "_kept", "_changing", "_is_narrow")
 
     def __init__(self, kind: int, data: bytes, what: str):
         self.kind, self.data, self.what = kind, data, what
         self._kept: dict[int, Optional[InForce]] = {}
+        self._changing: dict[int, OneChange] = {}
         self._is_narrow: Optional[bool] = None
         self._zone = byref(_Handle())
         number = LIBRARY.zoned_open(kind, data, len(data), self._zone)
@@ -133,8 +139,7 @@ class NativeZone:
         up to the first row that has none, and returns that row.
 
         Units are those of `COLUMN_UNITS`. The least int64 is no time, and stays."""
-        stop = self._written(LIBRARY.zoned_column_locals, (per_second,), *_rows_of(instants, answers), 0)
-        return stop and stop.row
+        return self._written(LIBRARY.zoned_column_locals, (per_second,), *_rows_of(instants, answers), 0)
 
     def quick_local_times(self, per_second: c_int64, instants: Array) -> Optional[Array]:
         """Returns the local times of at most `ROWS` instants as `local_times` writes them, or None if a row has none.
@@ -147,33 +152,25 @@ class NativeZone:
         # The last one is for the row that has none, which isn't read.
         return None if call(self._zone, per_second, asked, rows, room, rows, byref(rows)) else answers.view(instants.dtype)
 
-    def quick_instants(self, gap: int, fold: int, lost: tuple[int, ...], local_times: Array) -> Optional[Array]:
-        """Returns the instants of at most `ROWS` local times, counted in nanoseconds, by the policies.
+    def quick_instants(self, gap: int, fold: int, local_times: Array) -> Optional[Array]:
+        """Returns the instants of at most `ROWS` local times, counted in nanoseconds, as `instants` writes them, or None if
+        a row has none.
 
-        A row that has none becomes NaT if its number is among `lost`. Else, or if too many rows have none, None is returned.
         Both are datetime64, and the local times may be written."""
-        begin, size = 0, local_times.size
-        asked, answers, row = local_times.view(INT64), np.empty(size, INT64), c_size_t()
+        size = local_times.size
+        answers, rows = np.empty(size, INT64), c_size_t(size)
+        asked, room = _begin(local_times.view(INT64)), _begin(answers)
         call = BRIEF.zoned_column_instants if size <= FEW else LONG_INSTANTS
-        for _ in range(MOST_LOST):
-            rows = c_size_t(size - begin)
-            places = _begin(asked[begin:]), rows, _begin(answers[begin:]), rows, byref(row)
-            number = call(self._zone, gap, fold, NANOSECONDS, *places)
-            if not number:
-                return answers.view(local_times.dtype)
-            if number not in lost:
-                return None
-            begin += row.value + 1
-            answers[begin - 1] = LEAST
-        return None
+        number = call(self._zone, gap, fold, NANOSECONDS, asked, rows, room, rows, byref(rows))
+        return None if number else answers.view(local_times.dtype)
 
     # Local times, counted in seconds but for those of `instants`.
 
     def instants(
         self, gap: int, fold: int, per_second: int, local_times: Array, answers: Array
-    ) -> Callable[[int], Optional[Stop]]:
-        """Returns a call that writes the instant that the choice takes for each local time, from a
-        row on and up to the next one that has none, and returns that row, and why."""
+    ) -> Callable[[int], Optional[int]]:
+        """Returns a call that writes the instant that the policies take for each local time, from a row on and up to the
+        next one that has none, and returns that row."""
         words = gap, fold, per_second
         return partial(self._written, LIBRARY.zoned_column_instants, words, *_rows_of(local_times, answers))
 
@@ -200,6 +197,7 @@ class NativeZone:
         except KeyError:
             if len(self._kept) >= KEPT:
                 self._kept.clear()
+                self._changing.clear()
             found = self._kept[stretch] = self._in_force_through(stretch)
             return found
 
@@ -207,12 +205,37 @@ class NativeZone:
         begin, end = ((at << DAYS_OF_STRETCH) * 86_400 for at in (stretch, stretch + 1))
         if not self.is_narrow() or not -FAR < begin < FAR:
             return None
-        span = library.Span()
-        if BRIEF.zoned_zone_span(self._zone, c_int64(begin), byref(span)):
+        before = self._span_of(begin - AROUND)
+        if before is None:
             return None
-        if span.from_ > begin - AROUND or span.until < end + AROUND:
+        if before.until >= end + AROUND:
+            return self._in_force_by(begin, before)
+        after = self._span_of(before.until)
+        if after is not None and after.until >= end + AROUND:
+            self._changing[stretch] = self._one_change(before, after)
+        return None
+
+    def _one_change(self, before: library.Span, after: library.Span) -> OneChange:
+        """The change between two spans."""
+        at, offsets = after.from_, (before.local_type.offset, after.local_type.offset)
+        sides = self._in_force_by(at - 1, before), self._in_force_by(at, after)
+        return OneChange(at, *sides, at + min(offsets), at + max(offsets))
+
+    def in_force_near(self, instant: int) -> Optional[InForce]:
+        """What is in force at a Unix second for whose day `in_force` is None, if clocks change once within some days."""
+        change = self._changing.get(instant // SECONDS_OF_STRETCH)
+        if change is None:
             return None
-        return self._in_force_at(begin, span.local_type)
+        return change.before if instant < change.at else change.after
+
+    def in_force_near_local(self, local_time: int) -> Optional[InForce]:
+        """The same at a local time, if clocks show it once."""
+        change = self._changing.get(local_time // SECONDS_OF_STRETCH)
+        if change is None:
+            return None
+        if local_time < change.first_local:
+            return change.before
+        return change.after if local_time >= change.end_local else None
 
     def is_narrow(self) -> bool:
         """Whether all offsets of the zone are less than a day."""
@@ -223,13 +246,18 @@ class NativeZone:
 
     def only_type(self) -> Optional[InForce]:
         """What is in force at all seconds, if clocks never change; else None."""
-        span = library.Span()
-        if BRIEF.zoned_zone_span(self._zone, c_int64(0), byref(span)):
-            return None
-        is_whole = span.from_ == LEAST and span.until == GREATEST
-        return self._in_force_at(0, span.local_type) if is_whole else None
+        span = self._span_of(0)
+        is_whole = span is not None and span.from_ == LEAST and span.until == GREATEST
+        return self._in_force_by(0, span) if span is not None and is_whole else None
 
-    def _in_force_at(self, instant: int, found: library.LocalType) -> InForce:
+    def _span_of(self, instant: int) -> Optional[library.Span]:
+        """The span of a Unix second, or None if the zone has no type there."""
+        span = library.Span()
+        return None if BRIEF.zoned_zone_span(self._zone, c_int64(instant), byref(span)) else span
+
+    def _in_force_by(self, instant: int, span: library.Span) -> InForce:
+        """What is in force at an instant, by its span."""
+        found = span.local_type
         local_type = _type_of(found.offset, found.is_dst, found.abbreviation)
         dst = timedelta(0, self.amount_at(instant))
         return InForce(local_type.seconds, local_type.offset, local_type, dst)
@@ -339,8 +367,9 @@ class NativeZone:
 
     def _written(
         self, call: Any, words: tuple[int, ...], asked: int, answers: int, size: int, begin: int
-    ) -> Optional[Stop]:
-        """Has a call write its answers about rows of int64, from a row on and up to the first one that has none.
+    ) -> Optional[int]:
+        """Has a call write its answers about rows of int64, from a row on and up to the first one that has none, and returns
+        that row.
 
         `asked` and `answers` are where the rows begin."""
         row = c_size_t()
@@ -348,7 +377,7 @@ class NativeZone:
             rows, skipped = min(size - begin, ROWS), 8 * begin
             number = call(self._zone, *words, asked + skipped, rows, answers + skipped, rows, byref(row))
             if number in ROW_REFUSED:
-                return Stop(begin + row.value, number)
+                return begin + row.value
             self._must_be_answered(number)
             begin += rows
         return None

@@ -12,8 +12,8 @@ from typing import Any, Callable, NamedTuple, Optional
 
 from ._columns import Column
 from ._containers import TIMES, Array, IndexContainer, SeriesContainer, quick_series, quick_times
-from ._library import FOLD_REFUSE, GAP_REFUSE, IN_FOLD, IN_GAP
-from ._localize import FOLDS, GAPS
+from ._library import FOLD_REFUSE, GAP_REFUSE
+from ._localize import FOLDS_OF_COLUMNS, GAPS_OF_COLUMNS
 from ._native import COLUMN_UNITS, ROWS, NativeZone
 
 
@@ -28,26 +28,17 @@ class Form(NamedTuple):
     """Makes a Series' block over that."""
 
 
-class Policy(NamedTuple):
-    """What the library is asked to do with local times that clocks skipped, or showed several times."""
-
-    gap: int
-    fold: int
-    lost: tuple[int, ...]
-    """The numbers of the rows that become NaT."""
-
-
 #: By the types of numpy that columns had: how instants become local times, and local times instants.
 LOCAL_FORMS: dict[Any, Form] = {}
 INSTANT_FORMS: dict[Any, Form] = {}
 #: By the classes that columns had: what returns the local times of instants, and the instants of local times.
 QUICK: dict[type, Callable[[NativeZone, Any], Any]] = {}
 QUICK_INSTANTS: dict[type, Callable[[NativeZone, Any, Any, Any], Any]] = {}
-#: By the words of a call. The others are left.
+#: What the library is asked, by the words of a call. The others are left.
 POLICIES = {
-    (gap, fold): Policy(gap_number, fold_number, (IN_GAP,) * (gap == "nat") + (IN_FOLD,) * (fold == "nat"))
-    for gap, gap_number in {**GAPS, "raise": GAP_REFUSE, "nat": GAP_REFUSE}.items()
-    for fold, fold_number in {**FOLDS, "raise": FOLD_REFUSE, "nat": FOLD_REFUSE}.items()
+    (gap, fold): (of_gap, of_fold)
+    for gap, of_gap in {**GAPS_OF_COLUMNS, "raise": GAP_REFUSE}.items()
+    for fold, of_fold in {**FOLDS_OF_COLUMNS, "raise": FOLD_REFUSE}.items()
 }
 # A type with a zone of its own isn't numpy's, so it has no form.
 NO_FORM = AttributeError, KeyError, TypeError

@@ -178,7 +178,7 @@ def types(native: NativeZone, instant: Any) -> Optional[LocalTypes]:
     """The type of local time at an instant, with its offset as `offset` has it."""
     if type(instant) is datetime:
         since = _since(instant)
-        kept = native.in_force(since.days)
+        kept = native.in_force(since.days) or native.in_force_near(seconds_of(since))
         found = native.type_at(seconds_of(since)) if kept is None else kept.local_type
         return None if found is None else _types(found, found.offset)
     counted = _counted(instant)
@@ -186,7 +186,7 @@ def types(native: NativeZone, instant: Any) -> Optional[LocalTypes]:
         return None
     form, count = counted
     second = count // form.per_second
-    kept = native.in_force(second // DAY)
+    kept = native.in_force(second // DAY) or native.in_force_near(second)
     found = native.type_at(second) if kept is None else kept.local_type
     return None if found is None else _types(found, form.length(found.seconds))
 
@@ -203,7 +203,7 @@ def instant(native: NativeZone, local: Any, gap: Any, fold: Any) -> Any:
         if local.tzinfo is not None:
             return None
         since = local - EPOCH
-        kept = native.in_force(since.days)
+        kept = native.in_force(since.days) or native.in_force_near_local(seconds_of(since))
         if kept is not None:
             return _utc(since - kept.offset)
         chosen = _chosen(native, seconds_of(since), fold)
@@ -213,7 +213,7 @@ def instant(native: NativeZone, local: Any, gap: Any, fold: Any) -> Any:
         return None
     form, count = counted
     second = count // form.per_second
-    kept = native.in_force(second // DAY)
+    kept = native.in_force(second // DAY) or native.in_force_near_local(second)
     seconds = _chosen(native, second, fold) if kept is None else kept.seconds
     return None if seconds is None else _instant(form, count - seconds * form.per_second)
 
@@ -223,7 +223,7 @@ def start_of_day(native: NativeZone, local: Any) -> Any:
     kind = type(local)
     if kind is date or (kind is datetime and local.tzinfo is None):
         day = local.toordinal() - FIRST_DAY
-        kept = native.in_force(day)
+        kept = native.in_force(day) or native.in_force_near_local(day * DAY)
         if kept is not None:
             return _utc(timedelta(day) - kept.offset)
         first = native.first_instant_of(day * DAY)
@@ -233,7 +233,7 @@ def start_of_day(native: NativeZone, local: Any) -> Any:
         return None
     form, count = counted
     day = count // form.per_second // DAY
-    kept = native.in_force(day)
+    kept = native.in_force(day) or native.in_force_near_local(day * DAY)
     first = native.first_instant_of(day * DAY) if kept is None else day * DAY - kept.seconds
     return None if first is None else _instant(form, first * form.per_second)
 
@@ -283,13 +283,13 @@ def _chosen(native: NativeZone, local: int, fold: str) -> Optional[int]:
 
 def _seconds_at(native: NativeZone, second: int) -> Optional[int]:
     """The offset at a Unix second, in seconds."""
-    kept = native.in_force(second // DAY)
+    kept = native.in_force(second // DAY) or native.in_force_near(second)
     return native.offset_at(second) if kept is None else kept.seconds
 
 
 def _offset_at(native: NativeZone, since: timedelta) -> Optional[timedelta]:
     """The offset at a time since 1970-01-01 00:00:00 UTC."""
-    kept = native.in_force(since.days)
+    kept = native.in_force(since.days) or native.in_force_near(seconds_of(since))
     if kept is not None:
         return kept.offset
     found = native.offset_at(seconds_of(since))
@@ -321,11 +321,12 @@ class ZoneTime(tzinfo):
     only a flag for that: the amount is inferred from standard time before and after.
     """
 
-    __slots__ = ("zone", "_in_force")
+    __slots__ = ("zone", "_in_force", "_in_force_near")
 
     def __init__(self, zone: Zone):
         self.zone = zone
         self._in_force = zone._native.in_force
+        self._in_force_near = zone._native.in_force_near_local
 
     def _only(self) -> Optional[InForce]:
         """What is in force at a time of day without a date: known if clocks never change."""
@@ -341,7 +342,7 @@ class ZoneTime(tzinfo):
         if when is None:
             only = self._only()
             return None if only is None else only.offset
-        kept = self._in_force(when.toordinal() - FIRST_DAY)
+        kept = self._in_force(when.toordinal() - FIRST_DAY) or self._in_force_near(_seconds(when))
         if kept is not None:
             return kept.offset
         clock = self.zone._native.wall_clock(_seconds(when))
@@ -354,7 +355,7 @@ class ZoneTime(tzinfo):
         if when is None:
             only = self._only()
             return None if only is None else only.local_type.abbreviation
-        kept = self._in_force(when.toordinal() - FIRST_DAY)
+        kept = self._in_force(when.toordinal() - FIRST_DAY) or self._in_force_near(_seconds(when))
         return self._type(when).abbreviation if kept is None else kept.local_type.abbreviation
 
     def dst(self, when: Optional[datetime]) -> Optional[timedelta]:
@@ -363,7 +364,7 @@ class ZoneTime(tzinfo):
         if when is None:
             only = self._only()
             return None if only is None else only.dst
-        kept = self._in_force(when.toordinal() - FIRST_DAY)
+        kept = self._in_force(when.toordinal() - FIRST_DAY) or self._in_force_near(_seconds(when))
         if kept is not None:
             return kept.dst
         return timedelta(0, self.zone._native.amount_at(self._instant(when)))
@@ -379,6 +380,9 @@ class ZoneTime(tzinfo):
         if kept is not None:
             return when + kept.offset
         instant = _seconds(when)
+        kept = native.in_force_near(instant)
+        if kept is not None and self._in_force_near(instant + kept.seconds) is not None:
+            return when + kept.offset
         found = _at(native, instant)
         shown = when + found.offset
         is_first = native.wall_clock(instant + found.seconds).first == instant

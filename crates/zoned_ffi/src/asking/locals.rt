@@ -4,12 +4,13 @@
 ghost use Rattle.std.specs.Prelude.{◌≡◌, ◌≢◌, ◌⊎◌, length, pos};
 ghost use Rattle.{
   tz_info.specs.Zones.{Zone},
-  zoned_ffi.specs.{Columns.{AreAnswered, IsFirstWithout, IsRowNumber}, Units.{per_second, IsUnit}},
+  zoned_ffi.specs.Columns.{fold_asked, gap_asked, missing_of, AreAnswered, IsFirstWithout, IsRowNumber},
+  zoned_ffi.specs.Units.{per_second, IsUnit},
   zoned_ffi.specs.Handles.{IsLent, IsNoneLent, IsUnanswered},
   zoned_ffi.specs.Resolved.{AreReached, AreResolved, IsChoice, IsChoiceOf, IsReachedAt, IsResolvedAt},
 };
 
-use crate::choice::{Choice, choice_of};
+use crate::choice::{Choice, Missing, choice_of, column_choice_of};
 use crate::column::{Way, answer_times};
 use crate::lent::Lent;
 use crate::refusal::{NOT_OPEN, OTHER_SIZE, UNKNOWN_CHOICE, UNKNOWN_UNIT};
@@ -117,7 +118,8 @@ pub extern "C" fn zoned_zone_firsts_at_or_after(
 }
 
 /// Writes the instant of each local time under the choice, both counted in the unit of which `count`
-/// make a second. The least number of 64 bits is no time, and stays.
+/// make a second. The least number of 64 bits is no time, and stays. 4 for gaps and 3 for folds give what is
+/// rejected no time.
 #[unsafe(no_mangle)]
 pub extern "C" fn zoned_column_instants(
     zone: &Lent,
@@ -129,25 +131,25 @@ pub extern "C" fn zoned_column_instants(
     row: &mut usize,
 ) -> u32
     // 0: each answer is that of the zone.
-    ensures answered { result ≡ 0 → (choice : Choice) × IsChoiceOf gap fold choice
+    ensures answered { result ≡ 0 → (choice : Choice) × IsChoiceOf (gap_asked gap) (fold_asked fold) choice
         × ((unit : Unit) × (count ≡ pos (per_second unit))
         × ((z : Zone) × IsLent zone.now z
-        × AreAnswered z unit (Way.ToInstants choice) locals.now instants.new)
+        × AreAnswered z unit (Way.ToInstants choice (missing_of gap fold)) locals.now instants.new)
         × (row.new ≡ row.old)) }
     // 21 to 23: the local time in the row that is written has none. Those before it are answered.
-    ensures without { IsRowNumber result → (choice : Choice) × IsChoiceOf gap fold choice
+    ensures without { IsRowNumber result → (choice : Choice) × IsChoiceOf (gap_asked gap) (fold_asked fold) choice
         × ((unit : Unit) × (count ≡ pos (per_second unit))
-        × ((z : Zone) × IsLent zone.now z
-        × IsFirstWithout z unit (Way.ToInstants choice) locals.now instants.old instants.new row.new result)) }
+        × ((z : Zone) × IsLent zone.now z × IsFirstWithout z unit (Way.ToInstants choice (missing_of gap fold))
+        locals.now instants.old instants.new row.new result)) }
     // 34: no choice has these numbers. 36: no unit has that count in a second. Others as in the calls
     // above. Nothing is written.
     ensures refused { result ≢ 0 → ¬ (IsRowNumber result)
-        → (((result ≡ 34) × ¬ (IsChoice gap fold))
-        ⊎ (IsChoice gap fold × (((result ≡ 36) × ¬ (IsUnit count))
+        → (((result ≡ 34) × ¬ (IsChoice (gap_asked gap) (fold_asked fold)))
+        ⊎ (IsChoice (gap_asked gap) (fold_asked fold) × (((result ≡ 36) × ¬ (IsUnit count))
         ⊎ (IsUnit count × IsUnanswered zone.now (length locals.now) (length instants.old) result))))
         × (instants.new ≡ instants.old) × (row.new ≡ row.old) }
 {
-    let Some(choice) = choice_of(gap, fold) else {
+    let Some(choice) = column_choice_of(gap, fold) else {
         return UNKNOWN_CHOICE;
     };
     let Some(unit) = Unit::of_count(count) else {
@@ -156,5 +158,13 @@ pub extern "C" fn zoned_column_instants(
     let Some(share) = zone.share() else {
         return NOT_OPEN;
     };
-    answer_times(share, unit, choice, locals, instants, row)
+    answer_times(
+        share,
+        unit,
+        choice,
+        Missing::of(gap, fold),
+        locals,
+        instants,
+        row,
+    )
 }

@@ -3,7 +3,7 @@
 ghost use Rattle.std.specs.Prelude.{◌≡◌, ◌↔◌, ◌-ℤ◌, ◌<ℤ◌, ◌≤ℤ◌, neg_ℤ, pos, ⊤, IfSome, IsTrue, MatchOption};
 ghost use Rattle.zoned_ffi.specs.{Steps.KeptTimes.{IsKept, IsKeptOf, IsWritten, LieWithin}, Units.{IsOffsetStretch}};
 
-use crate::choice::Choice;
+use crate::choice::{Choice, Missing};
 use crate::column::{Question, Way};
 use crate::fields::{END, FIRST};
 use crate::unit::{GREATEST, LEAST, Unit};
@@ -130,7 +130,7 @@ pub fn found_around(question: Question, time: i64) -> Option<Found>
 {
     let offset = match question.way {
         Way::ToLocal | Way::ToWholeSeconds(_) => 0,
-        Way::ToInstants(_) => question.zone.greatest_offset(),
+        Way::ToInstants(_, _) => question.zone.greatest_offset(),
     };
     found_at(
         question,
@@ -151,7 +151,7 @@ pub fn found_at(question: Question, second: i64) -> Option<Found>
     let until = stretch.until;
     let kept = match way {
         Way::ToLocal => instants_in(zone, unit, stretch),
-        Way::ToInstants(choice) => local_times_in(zone, unit, choice, stretch),
+        Way::ToInstants(choice, missing) => { local_times_in(zone, unit, choice, missing, stretch) }
         Way::ToWholeSeconds(_) => none_in(question, stretch),
     };
     Some(Found { from, until, kept })
@@ -189,11 +189,17 @@ fn instants_in(zone: &TimeZone, unit: Unit, stretch: OffsetStretch) -> Kept
 
 // The local times that are so far inside the stretch that, whatever the offset, no second outside it
 // shows them.
-fn local_times_in(zone: &TimeZone, unit: Unit, choice: Choice, stretch: OffsetStretch) -> Kept
+fn local_times_in(
+    zone: &TimeZone,
+    unit: Unit,
+    choice: Choice,
+    missing: Missing,
+    stretch: OffsetStretch,
+) -> Kept
     requires { IsOffsetStretch zone.now stretch }
-    ensures { IsKeptOf zone.now unit (Way.ToInstants choice) result }
+    ensures { IsKeptOf zone.now unit (Way.ToInstants choice missing) result }
 {
-    let _ = choice;
+    let _ = (choice, missing);
     let OffsetStretch {
         from,
         until,

@@ -4,14 +4,14 @@ ghost use Rattle.std.specs.Prelude.{◌≡◌, ◌<◌, ◌+ℤ◌, ◌-ℤ◌, 
 ghost use Rattle.{
   gregorian.specs.Year.{floor_div},
   naive_base.specs.Stamp.{of_secs},
-  zoned_ffi.specs.Columns.{IsInstantOf, IsNoInstant, IsNoWholeSecondOf, IsWholeSecondOf},
+  zoned_ffi.specs.Columns.{IsAnswered, IsInstantOf, IsNoInstant, IsNoWholeSecondOf, IsNotAnswered, IsWholeSecondOf},
   zoned_ffi.specs.Steps.KeptTimes.{IsAnsweredBy, IsKept, IsNotAnsweredBy, IsNotWritten, IsWritten},
   zoned_ffi.specs.Steps.ResolvedInstants.{taken_instant},
   zoned_ffi.specs.Units.{IsCounted, IsLocal, IsWithout, per_second},
   zoned_time.specs.Fires.{second_before},
 };
 
-use crate::choice::Choice;
+use crate::choice::{Choice, Missing};
 use crate::column::kept::{Kept, less};
 use crate::column::{NO_TIME, Question, Way};
 use crate::refusal::{INSTANT_OUT_OF_RANGE, NO_LOCAL_TIME};
@@ -59,7 +59,7 @@ fn looked_up(question: &Question, time: i64) -> Result<i64, u32>
             Some(local) => Ok(local),
             None => Err(NO_LOCAL_TIME),
         },
-        Way::ToInstants(choice) => instant_of(zone, unit, choice, time),
+        Way::ToInstants(choice, missing) => instant_or_none(zone, unit, choice, missing, time),
         Way::ToWholeSeconds(sought) => whole_second_of(zone, unit, sought, time),
     }
 }
@@ -87,6 +87,30 @@ fn added(instant: i64, counts: i64) -> Option<i64>
         return None;
     }
     Some(sum)
+}
+
+// The instant of the local time, or no time if it is missing; else the number that says why it has no instant.
+#[inline(always)]
+fn instant_or_none(
+    zone: &TimeZone,
+    unit: Unit,
+    choice: Choice,
+    missing: Missing,
+    local: i64,
+) -> Result<i64, u32>
+    ensures { MatchResult result (IsAnswered zone.now unit (Way.ToInstants choice missing) local)
+        (IsNotAnswered zone.now unit (Way.ToInstants choice missing) local) }
+{
+    match instant_of(zone, unit, choice, local) {
+        Ok(instant) => Ok(instant),
+        Err(number) => {
+            if missing.has(number) {
+                Ok(NO_TIME)
+            } else {
+                Err(number)
+            }
+        }
+    }
 }
 
 // The instant of the local time, or the number that says why it has no instant.

@@ -31,7 +31,7 @@ returns c =
     let t_wide : FitsSigned w128 c.counts_of-least.result = omega (arith, ints) in
     let first : FitsSigned w128 (c.counts_at.result +ℤ c.counts_of-greatest.result) = omega (arith, ints) in
     let end : FitsSigned w128 (c.counts_at-2.result +ℤ c.counts_of-least.result) = omega (arith, ints) in
-    local_times_kept _ _ c.args.choice s _ _ _ _ _ _ _ _ _ _ _ _ c.requires fits_from fits_until c.least_offset.ensures c.greatest_offset.ensures
+    local_times_kept _ _ c.args.choice c.args.missing s _ _ _ _ _ _ _ _ _ _ _ _ c.requires fits_from fits_until c.least_offset.ensures c.greatest_offset.ensures
     (simp to_z-of_z at c.counts_at.ensures.value) (simp to_z-of_z at c.counts_of-greatest.ensures.value)
     (simp to_z-of_z at c.counts_at-2.ensures.value) (simp to_z-of_z at c.counts_of-least.ensures.value)
     c.counts_at-3.ensures.value c.counts_at-4.ensures.value
