@@ -1,4 +1,4 @@
-use Rattle.zoneq_lib.proofs.{CitedWords.{append_assoc, arith}, Joining.{answered_join}, Stopping.{block_stopped, reader_ended}}
+use Rattle.zoneq_lib.proofs.{CitedWords.{append_assoc, arith}, Joining.{answered_join, from_start}, Stopping.{block_stopped, reader_ended}}
 use Rattle.zoneq_lib.proofs.runs.answer_all.Goals as goal
 
 pub loop-preserved : goal.loop-preserved
@@ -18,9 +18,12 @@ returns-in-Ok-eq0-clause-answers g c =
     reader_ended _ _ _ _ _ _ _ _ _ _ _ _ _ (grind arith) f.2 f.3 f.4 _ _ (grind arith) (grind arith) (rw read.field-0-test at read.ensures.bytes.0)
     c.finish.ensures.ok c.finish.ensures.err
 
--- the count of reads was used up
+-- the reader failed, or the count of reads was used up
+pub returns-in-Err-clause-answers : goal.returns-in-Err-clause-answers
+returns-in-Err-clause-answers g c = let s = from_start c.loop.invariant.answered.4 in grind arith
+
 pub returns-clause-answers : goal.returns-clause-answers
-returns-clause-answers g c = grind arith
+returns-clause-answers g c = let s = from_start c.loop.invariant.answered.4 in grind arith
 
 pub returns-clause-sent : goal.returns-clause-sent
 returns-clause-sent g c = tt
