@@ -362,13 +362,9 @@ writable bytes z are (p, after, pieces, (types, c, each, (_, e, _, (rule, f, say
     })
 
 -- that text is the footer of that rule
-module _ (rule : Option TransitionRule) (text : List ℕ) (extended : Bool) (footer : IsFooterText rule text extended) where
-  pub footer_spelled : IsSpellableOrNone rule
-  footer_spelled = grind (arith, rule_named)
-
-  -- ---- versions
-  pub needs_extensions : IsRuleOrNone rule → (extended ≡ true) ↔ NeedsExtensions rule
-  needs_extensions fits = grind (arith, extensions, both_ways)
+pub needs_extensions : (rule : Option TransitionRule) (text : List ℕ) (extended : Bool) → IsFooterText rule text extended → IsRuleOrNone rule
+    → (extended ≡ true) ↔ NeedsExtensions rule
+needs_extensions rule text extended footer fits = grind (arith, extensions, both_ways)
 
 -- ---- a zone that can be written
 module _ (z : Zone) (some : 0 < length z.types) (fits : IsRuleOrNone z.rule) (sound : IsSound z) where

@@ -1,5 +1,5 @@
 -- The text of a rule, and of a zone: it spells the rule, or gives the zone, and each other one is longer.
-use Rattle.std.proofs.{Common.{Decides, OnErr, Result, decimal, int_eq}, lemmas.Bool.{Decides.Decides-int_eq, le-ltb}}
+use Rattle.std.proofs.{Common.{Decides, decimal, int_eq}, lemmas.Bool.{Decides.Decides-int_eq, le-ltb}}
 use Rattle.tz_base.{proofs.RunLaws.all_of, specs.{Grammar.{Grammar, Number, Run, Then}, Names.IsName}}
 use Rattle.tz_info.{
   proofs.Words.{Alternate, IsAlternateRule, IsRuleDay, IsTzText, IsWithinDay, ints, is_letter, is_not_greater, neg_ℤ},
@@ -352,7 +352,3 @@ zone_text_some z fits h = let text = written_zone z.types z.rule fits h.rule in 
 
 pub zone_text_once : (z : Zone) (s t : List ℕ) → IsWrittenZone z s → IsWrittenZone z t → s ≡ t
 zone_text_once z s t p q = grind arith
-
--- ---- running out of memory
-pub on_err : {A E : Type 0} (r : Result A E) (P : Type 0) → P → OnErr r P
-on_err r P h = grind arith
