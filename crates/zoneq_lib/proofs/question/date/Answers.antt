@@ -1,4 +1,4 @@
-use Rattle.zoneq_lib.proofs.CitedWords.{FitsSigned, arith, calendar_day, integer, ints, next, to_z-of_z, w32, w64}
+use Rattle.zoneq_lib.proofs.CitedWords.{FitsSigned, arith, calendar_day, integer, ints, to_z-of_z, w32, w64}
 use Rattle.zoneq_lib.proofs.{Covering.{dated, undated}, ScanLaws.{read_of}}
 use Rattle.zoneq_lib.proofs.question.date.Goals as goal
 
@@ -7,9 +7,8 @@ unfolding calendar_day
 returns-in-Some c =
     let y = c.in_ok-year in let fits : FitsSigned w32 y.year = omega (arith, ints, y.ensures.least, y.ensures.most) in
     let wide : FitsSigned w64 y.year = omega (arith, ints) in let is = simp to_z-of_z at c.in-Some.ensures.value in
-    let m = c.in_ok-month in let year = read_of (integer 262_143 262_142) c.args.text.now _ y.ensures.value in
-    let month = read_of (next 12) y.rest.now _ m.ensures.value in let day = read_of (next 31) m.rest.now _ c.in_ok-day.ensures.value in
-    grind (arith, dated y.year m.month c.in_ok-day.day c.in-Some.date is)
+    let year = read_of (integer 262_143 262_142) c.args.text.now _ y.ensures.value in
+    grind (arith, dated y.year c.in_ok-month.month c.in_ok-day.day c.in-Some.date is)
 
 pub returns-in-None : goal.returns-in-None
 unfolding calendar_day

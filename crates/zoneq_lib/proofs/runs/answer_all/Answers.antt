@@ -18,10 +18,7 @@ returns-in-Ok-eq0-clause-answers g c =
     reader_ended _ _ _ _ _ _ _ _ _ _ _ _ _ (grind arith) f.2 f.3 f.4 _ _ (grind arith) (grind arith) (rw read.field-0-test at read.ensures.bytes.0)
     c.finish.ensures.ok c.finish.ensures.err
 
--- the reader failed, or the count of reads was used up
-pub returns-in-Err-clause-answers : goal.returns-in-Err-clause-answers
-returns-in-Err-clause-answers g c = let s = from_start c.loop.invariant.answered.4 in grind arith
-
+-- the count of reads was used up
 pub returns-clause-answers : goal.returns-clause-answers
 returns-clause-answers g c = let s = from_start c.loop.invariant.answered.4 in grind arith
 
