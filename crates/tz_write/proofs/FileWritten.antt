@@ -6,10 +6,10 @@ use Rattle.std.proofs.{
   lemmas.Str.{Ascii.{IsAscii-cons, IsAscii-nil}, IsUtf8-from_ascii},
 }
 use Rattle.std.specs.Str.{IsAscii}
-use Rattle.tz_base.specs.Grammar.{At, Byte, Check, Each, Ended, Exact, Grammar, Here, Inside, IsRun, Marked, Nothing, Number, Refused, Rest, Run, Then}
+use Rattle.tz_base.specs.Grammar.{At, Byte, Check, Each, Ended, Exact, Grammar, Here, IsRun, Marked, Nothing, Number, Rest, Run, Then}
 use Rattle.tz_info.{
   proofs.{FilePieceLaws.file_ends, PosixZoneLaws.in_footer, TrimLaws.trim_whole, TzFileLaws.one_pieces},
-  proofs.Words.{All-push, FilePieces, FitsSigned, IsTzFile, cases_lt, designation_of, drop-drop, drop_front, exact_cut, is_not_zero, leap_at, leap_second_of},
+  proofs.Words.{All-push, FilePieces, FitsSigned, IsTzFile, cases_lt, designation_of, drop-drop, drop_front, exact_cut, is_not_zero, leap_at},
   proofs.Words.{length-drop, length-take, nil_from_length, record_at, take-append-drop, take-suc, take_all, take_more, transition_at, values_below, w32, w64},
   proofs.Words.◌-◌,
   specs.declared.file.header.{Counts.Counts, Header.Header, Place.{TheVariants.{First, Second}, Place}, Version.{TheVariants.{One, Three, Two}, Version}},
@@ -27,7 +27,7 @@ use Rattle.tz_write.{
   proofs.LaidNames.{AreLaid, has_text, laid_of, laid_size, no_zero},
   proofs.RuleTexts.{extensions, rule_named, rule_text, text_are, text_begins, text_is},
   proofs.TextBytes.{AreTextBytes, limits, no_space, no_zeros},
-  specs.WrittenFiles.{AreBytes, HasCounts, IsFooterText, IsInNoFile, IsSound, IsSpellableOrNone, IsWritable, IsWrittenFile, NeedsExtensions},
+  specs.WrittenFiles.{AreBytes, HasCounts, IsFooterText, IsSound, IsSpellableOrNone, IsWritable, IsWrittenFile, NeedsExtensions},
   specs.FileBytes.{footer_bytes, least_counts},
   specs.Steps.{FileParts.IsRoomOf, LaidFiles.{block_bytes, footer_text as text_of_rule, is_extended, least_block, unused, zone_counts, zone_parts}},
 }
@@ -70,14 +70,9 @@ module _ {X : Type 0} where
 
   each_are : (g : ℕ → Grammar X) (bytes : List ℕ) (xs : List X) → ((k : ℕ) (d : X) → k < length xs → Spells (g k) bytes (get_or xs k d) bytes)
       → (n : ℕ) → n ≤ length xs → Spells (Each n g) bytes (take n xs) bytes
-  each_are g bytes xs each zero l = (refl, refl)
-  each_are g bytes [] each (suc n) l = absurd (omega arith)
   each_are g bytes (x ∷ xs) each (suc n) l =
       (_, bytes, each_are g bytes (x ∷ xs) each n (omega arith), (_, bytes, each n x (omega arith), (take-suc (x ∷ xs) n x (omega arith), refl)))
-
-  each_whole : (g : ℕ → Grammar X) (bytes : List ℕ) (xs : List X) → ((k : ℕ) (d : X) → k < length xs → Spells (g k) bytes (get_or xs k d) bytes)
-      → Spells (Each (length xs) g) bytes xs bytes
-  each_whole g bytes xs each = rw (take_all (length xs) xs (omega arith)) at (each_are g bytes xs each (length xs) (omega arith))
+  each_are g bytes xs each n l = grind arith
 
   each_all : (P : X → Type 0) (g : ℕ → Grammar X) (bytes : List ℕ) (n : ℕ) (xs : List X) (rest : List ℕ)
       → ((k : ℕ) (bytes : List ℕ) (x : X) (rest : List ℕ) → Spells (g k) bytes x rest → P x) → Spells (Each n g) bytes xs rest
@@ -93,14 +88,12 @@ unfolding signed_bytes
 transition_is p ts h size times indexes k d l =
     grind (arith, record_is 8 time_bytes (λ _. refl) ts k d l, h k d l, get_or-map, flat_map_single {X = Transition} (λ t. t.type_index) ts, signed_64)
 
-leap_read : (leap : LeapSecond) → IsEntry leap → leap_second_of 8 (leap_bytes leap) ≡ leap
-unfolding leap_bytes signed_bytes
-leap_read leap h = grind (arith, signed_64 leap.unix_leap_time h.time, signed_32 leap.correction h.correction)
-
 leap_is : (p : FilePieces) (leaps : List LeapSecond) → All IsEntry leaps → p.time_size ≡ 8 → p.parts.leap_seconds ≡ flat_map leap_bytes leaps
     → (k : ℕ) (d : LeapSecond) → k < length leaps → leap_at p k ≡ get_or leaps k d
 unfolding leap_bytes signed_bytes
-leap_is p leaps h size part k d l = rw (size, part, record_is 12 leap_bytes (λ _. refl) leaps k d l) (leap_read (get_or leaps k d) (h k d l))
+leap_is p leaps h size part k d l =
+    let time = signed_64 _ (h k d l).time in let correction = signed_32 _ (h k d l).correction in
+    rw (size, part, record_is 12 leap_bytes (λ _. refl) leaps k d l) (grind arith)
 
 -- ---- types
 no_zero_is : (text : List ℕ) → HasNoZero text ↔ AllOf is_not_zero text
@@ -203,22 +196,15 @@ abbrev SaysRule : Bool → List ℕ → Option TransitionRule → Type 0
 SaysRule extended text None = text ≡ []
 SaysRule extended text (Some rule) = (text ≢ []) × IsTzText extended text rule
 
-without_zero : (text : List ℕ) → IsPlain text → IsRun is_not_zero text text []
-without_zero text p = record { whole = sym (append-nil text); each = (no_zero_is text).0 (no_zeros text p.bytes); longest = tt }
-
-text_says : (extended : Bool) (text : List ℕ) (rule : Option TransitionRule) → IsPlain text → SaysRule extended text rule
-    → Spells (footer_text extended) text rule []
-unfolding footer_text
-text_says extended text rule p says =
-    (tt, text, inr (grind arith, ([], (text, [], without_zero text p, inl (refl, (refl, refl))), refl)), grind arith)
-
 footer_is : (extended : Bool) (text : List ℕ) (rule : Option TransitionRule) → IsPlain text → SaysRule extended text rule
     → Spells (footer extended) (footer_bytes text) rule (footer_bytes text)
-unfolding footer utf8 newline
+unfolding footer utf8 newline footer_text
 footer_is extended text rule p says =
     let utf8 = IsUtf8-from_ascii (footer_bytes text) (IsAscii-cons 10 (text ++ 10 ∷ []) (omega arith) (ascii text p.bytes)) in
     let trims = trim_whole (10 ∷ []) text (10 ∷ []) (refl, tt) (no_space text p.bytes) (refl, tt) in
-    let says = text_says extended text rule p says in
+    let run : IsRun is_not_zero text text [] =
+    record { whole = sym (append-nil text); each = (no_zero_is text).0 (no_zeros text p.bytes); longest = tt } in
+    let says : Spells (footer_text extended) text rule [] = (tt, text, inr (grind arith, ([], (text, [], run, inl (refl, (refl, refl))), refl)), grind arith) in
     let last : get_or (footer_bytes text) (length (footer_bytes text) - 1) 0 ≡ 10 =
     grind (arith, length-append, get_or-append_seam (10 ∷ text) 10 [] 0) in
     (tt, _, (utf8, refl, refl), (tt, _, (refl, refl, refl), (tt, _, (last, refl, refl), ([], rw trims says, refl))))
@@ -227,10 +213,6 @@ footer_is extended text rule p says =
 least_parts : Parts
 least_parts =
     record { times = []; type_indexes = []; types = 0 ∷ 0 ∷ 0 ∷ 0 ∷ 0 ∷ 0 ∷ []; designations = 0 ∷ []; leap_seconds = []; standard_wall = []; ut_local = [] }
-
-first_block : (rest : List ℕ) → Spells (block 4 least_counts) (least_block ++ rest) least_parts rest
-unfolding least_parts block
-first_block rest = grind arith
 
 first_header : (extended : Bool) (text d : List ℕ) (z : Zone) → Spells (header First) (file_bytes extended text d z)
     (record { version = version_of extended; counts = least_counts }) (least_block ++ second_half extended text d z)
@@ -251,13 +233,7 @@ module _ (extended : Bool) (text d : List ℕ) (z : Zone) (size : length d ≤ 2
   second_block : (rest : List ℕ) → Spells (block 8 (zone_counts d z)) (block_bytes (zone_parts d z) rest) (zone_parts d z) rest
   unfolding block type_bytes leap_bytes signed_bytes
   second_block rest =
-      grind (
-        arith,
-        records_length 8 time_bytes (λ _. refl),
-        records_length 1 index_bytes (λ _. refl),
-        records_length 6 (type_bytes d) (λ _. refl),
-        records_length 12 leap_bytes (λ _. refl),
-      )
+      grind (arith, records_length 8 time_bytes, records_length 1 index_bytes, records_length 6 (type_bytes d), records_length 12 leap_bytes)
 
   second_is : Spells later_version (second_half extended text d z) (pieces_of extended text d z) []
   unfolding second_half later_version
@@ -270,15 +246,16 @@ module _ (extended : Bool) (text d : List ℕ) (z : Zone) (size : length d ≤ 2
 
   -- ---- the whole
   file_pieces : HasPieces (file_bytes extended text d z) (pieces_of extended text d z)
-  unfolding file after_first_block
-  file_pieces = (_, _, first_header extended text d z, (_, _, first_block (second_half extended text d z), grind (arith, second_is)))
+  unfolding file after_first_block least_parts block
+  file_pieces = (_, _, first_header extended text d z, (least_parts, second_half extended text d z, grind arith, grind (arith, second_is)))
 
   file_says : IsPlain text → SaysRule extended text z.rule → IsTzFile (file_bytes extended text d z) z
   unfolding tz_file contents indicators optional_footer
   file_says plain says =
       let p = pieces_of extended text d z in
       let same : p.extended ≡ extended = grind arith in
-      let types = each_whole (type_at p) [] z.types (types_are p z.types [] places sound.types refl) in
+      let every = each_are (type_at p) [] z.types (types_are p z.types [] places sound.types refl) (length z.types) (omega arith) in
+      let types = rw (take_all (length z.types) z.types (omega arith)) at every in
       let transitions = values_are (transition_at p) z.transitions (transition_is p z.transitions sound.times refl refl refl) in
       let leaps = values_are (leap_at p) z.leaps (leap_is p z.leaps sound.leaps refl refl) in
       let footer = footer_is extended text z.rule plain says in (
@@ -312,21 +289,17 @@ Values (At place g) x = Values g x
 Values g x = Unit {0}
 
 values : {X : Type 0} (g : Grammar X) (bytes : List ℕ) (x : X) (rest : List ℕ) → Spells g bytes x rest → Bytes bytes → Values g x × Bytes rest
-values (Nothing v) bytes x rest h b = (h.0, rw h.1 at b)
 values (Then g f) bytes y rest (x, after, p, q) b = let v = values g bytes x after p b in let w = values (f x) after y rest q v.1 in ((x, v.0, w.0), w.1)
 values (Marked tag g h) bytes x rest (inl (after, is, p)) b = grind (arith, values g after x rest p (back (tag ∷ []) _ _ is b))
 values (Marked tag g h) bytes x rest (inr (_, p)) b = grind (arith, values h bytes x rest p b)
 values (Ended g h) bytes x rest p b = grind (arith, values g bytes x rest, values h bytes x rest)
+values (Exact n) bytes x rest h b = ((front x _ _ h.0 b, h.1), back x _ _ h.0 b)
+values (Here f) bytes x rest h b = let v = values (f bytes) bytes x rest h b in ((bytes, v.0), v.1)
+values (At place g) bytes x rest h b = values g bytes x rest h b
 values (Byte tag) bytes x rest h b = (tt, back (tag ∷ []) _ _ h b)
 values (Run p) bytes x rest h b = (tt, back x _ _ h.whole b)
 values (Number max) bytes x rest h b = (tt, back h.digits _ _ h.whole b)
-values (Exact n) bytes x rest h b = ((front x _ _ h.0 b, h.1), back x _ _ h.0 b)
-values Rest bytes x rest h b = (rw h.0 b, rw h.1 (λ i. omega arith))
-values (Refused refusal) bytes x rest h b = absurd h
-values (Check P test refusal v) bytes x rest h b = ((h.0, h.1), rw h.2 at b)
-values (Here f) bytes x rest h b = let v = values (f bytes) bytes x rest h b in ((bytes, v.0), v.1)
-values (At place g) bytes x rest h b = values g bytes x rest h b
-values (Inside part from g) bytes x rest h b = (tt, rw h.2 at b)
+values g bytes x rest h b = grind (arith, back)
 
 -- ---- counts
 header_fits : (place : Place) (h : Header) → Values (header place) h → CountsFit h.counts
@@ -351,10 +324,7 @@ text_stands d place text rest (_, bytes, inr (some, (_, same)), (run, after, is,
   before = take place d;
   after = others;
   whole = sym (take-append-drop place d) ∙ ap (λ s. take place d ++ s) (same ∙ is.whole ∙ rw (zero_first, value) refl);
-  at = elim (cases_lt place (length d)) [
-    | inl l ↦ omega (arith, length-take place d)
-    | inr le ↦ absurd (some (nil_from_length (drop place d) (omega (arith, length-drop place d))))
-  ];
+  at = let none = nil_from_length (drop place d) in grind (arith, length-take, length-drop);
   ends = rw value ((no_zero_is run).1 is.each);
 }
 
@@ -383,11 +353,7 @@ writable bytes z are (p, after, pieces, (types, c, each, (_, e, _, (rule, f, say
     let leaps = values_is (leap_at p) p.counts.leap_seconds in
     rw value (record {
       room = record {
-        counts = record {
-          transitions = rw times.0 counts.3;
-          types = rw named.1 counts.4;
-          leaps = rw leaps.0 counts.2;
-        };
+        counts = grind arith;
         indexes = λ k d l. rw (times.1 k d (omega (arith, times.0))) (indexes k);
         designations = p.parts.designations;
         names = named.0;
@@ -396,13 +362,9 @@ writable bytes z are (p, after, pieces, (types, c, each, (_, e, _, (rule, f, say
     })
 
 -- that text is the footer of that rule
-module _ (rule : Option TransitionRule) (text : List ℕ) (extended : Bool) (footer : IsFooterText rule text extended) where
-  pub footer_spelled : IsSpellableOrNone rule
-  footer_spelled = grind (arith, rule_named)
-
-  -- ---- versions
-  pub needs_extensions : IsRuleOrNone rule → (extended ≡ true) ↔ NeedsExtensions rule
-  needs_extensions fits = grind (arith, extensions, both_ways)
+pub needs_extensions : (rule : Option TransitionRule) (text : List ℕ) (extended : Bool) → IsFooterText rule text extended → IsRuleOrNone rule
+    → (extended ≡ true) ↔ NeedsExtensions rule
+needs_extensions rule text extended footer fits = grind (arith, extensions, both_ways)
 
 -- ---- a zone that can be written
 module _ (z : Zone) (some : 0 < length z.types) (fits : IsRuleOrNone z.rule) (sound : IsSound z) where
@@ -430,10 +392,6 @@ module _ (z : Zone) (some : 0 < length z.types) (fits : IsRuleOrNone z.rule) (so
 
 pub one_file : (z : Zone) (a b : List ℕ) → IsWrittenFile z a → IsWrittenFile z b → a ≡ b
 one_file z a b h k = grind arith
-
--- a zone without a file
-pub no_file : (z : Zone) → ¬ (IsWritable z) → IsInNoFile z
-no_file z none = λ bytes b h. none (writable bytes z b h)
 
 pub can_be_written : (z : Zone) (room : Room) → IsRoomOf z room → IsSpellableOrNone z.rule → IsWritable z
 can_be_written z room h text =

@@ -107,10 +107,7 @@ abbrev added : List ℕ → List ℕ → List ℕ
 added bytes text = bytes ++ (text ++ 0 ∷ [])
 
 -- a text comes no later than there
-place_of_stands : (bytes text : List ℕ) (s : Stands bytes text) → place_of text bytes ≤ length s.before
-place_of_stands bytes text s = grind (arith, place_after)
-
-stands_in : (bytes text : List ℕ) → Stands bytes text → In bytes text
+stands_in : (bytes text : List ℕ) (s : Stands bytes text) → (place_of text bytes ≤ length s.before) × In bytes text
 stands_in bytes text s = grind (arith, place_after, length-append)
 
 -- the end of a text that is there
@@ -126,28 +123,18 @@ module _ (bytes text : List ℕ) where
   put_stands = record { before = bytes; after = []; whole = refl }
 
   put_in : (other : List ℕ) → Ends text other → In (added bytes text) other
-  put_in other h = grind (arith, stands_in, end_stands, put_stands)
+  put_in other h = (stands_in _ other (end_stands put_stands h)).1
 
   -- what a text that is there ends with is there too
   end_in : (other : List ℕ) → Ends text other → In bytes text → In bytes other
-  end_in other h l = grind (arith, stands_in, end_stands, in_stands)
+  end_in other h l = (stands_in bytes other (end_stands (in_stands bytes text l) h)).1
 
-  -- a text that isn't there is put in if there is room for it; else all stays as it is
-  by_text : (P : List ℕ → Type 0) → P bytes → (Out bytes text → length bytes + length text < 263 → P (added bytes text))
-      → P (with_text bytes text)
-  unfolding with_text
-  by_text P same put = grind arith
-
-  kept : (other : List ℕ) → In bytes other → In (with_text bytes text) other
+  kept : (other : List ℕ) → In bytes other → In (with_text bytes text) other × (place_of other (with_text bytes text) ≤ place_of other bytes)
   unfolding with_text
   kept other h = grind (arith, place_kept, length-append)
 
-  kept_low : (other : List ℕ) → In bytes other → place_of other (with_text bytes text) ≤ place_of other bytes
-  unfolding with_text
-  kept_low other h = grind (arith, place_kept)
-
   -- a text for which there is room is put in
-  pub put : (Out bytes text → length bytes + length text < 263) → In (with_text bytes text) text
+  put : (Out bytes text → length bytes + length text < 263) → In (with_text bytes text) text
   unfolding with_text
   put room = grind (arith, nat_tests, put_in)
 
@@ -158,10 +145,6 @@ Turn last size t = (length (name_of t) ≡ size) × (Ends last (name_of t) → �
 
 -- what holds of designations, whatever types are put in
 module _ (P : List ℕ → Type 0) (last : List ℕ) (size : ℕ) where
-  by_turn : (bytes : List ℕ) (t : LocalType) → P bytes → (Turn last size t → P (with_text bytes (name_of t)))
-      → P (with_text_of last size bytes t)
-  by_turn bytes t same put = grind (arith, ends_decided)
-
   by_types : (types : List LocalType) (bytes : List ℕ) → All (λ t. (d : List ℕ) → P d → P (with_text_of last size d t)) types → P bytes
       → P (with_texts last size bytes types)
   unfolding with_texts
@@ -171,7 +154,7 @@ module _ (P : List ℕ → Type 0) (last : List ℕ) (size : ℕ) where
 
   keeps_all : ((d text : List ℕ) → P d → P (with_text d text)) → (types : List LocalType) (bytes : List ℕ) → P bytes
       → P (with_texts last size bytes types)
-  keeps_all step types bytes h = by_types types bytes (λ i e l d k. by_turn d (get_or types i e) k (λ _. step d _ k)) h
+  keeps_all step types bytes h = by_types types bytes (λ i e l d k. let put = step d (name_of (get_or types i e)) k in grind arith) h
 
 before_keeps : (P : List ℕ → Type 0) → ((d text : List ℕ) → P d → P (with_text d text)) → (last : List ℕ) (types : List LocalType)
     → P [] → P (before_last last types)
@@ -225,7 +208,8 @@ module _ (last others : List ℕ) where
       }
 
   type_room : (bytes : List ℕ) (size : ℕ) (t : LocalType) → Given t → Room bytes size → Room (with_text_of last size bytes t) size
-  type_room bytes size t g r = by_turn (λ d. Room d size) _ _ _ t r (λ turn. by_text _ _ (λ d. Room d size) r (λ out _. put_room _ _ t g r turn out))
+  unfolding with_text
+  type_room bytes size t g r = let put = put_room bytes size t g r in grind (arith, nat_tests, ends_decided)
 
   put_all : (size : ℕ) (types : List LocalType) (bytes : List ℕ) → length others ≤ 263 → All Given types → Room bytes size
       → All (λ t. Turn last size t → In (with_texts last size bytes types) (name_of t)) types
@@ -235,7 +219,7 @@ module _ (last others : List ℕ) where
       put_all size ts _ short (λ k e m. g (suc k) e (omega arith)) (type_room _ _ t (g 0 t (omega arith)) r) i d (omega arith) turn
   put_all size (t ∷ ts) bytes short g r zero d l turn =
       let given = g 0 t (omega arith) in let out = room_of bytes (name_of t) size r given.none (inl (omega arith)) (given.stands turn.1) in
-      keeps_all (λ d. In d (name_of t)) _ _ (λ d other. kept d other _) ts (with_text_of last size bytes t) (grind (arith, put, ends_decided, eq-eqb))
+      keeps_all (λ d. In d (name_of t)) _ _ (λ d other h. (kept d other _ h).0) ts (with_text_of last size bytes t) (grind (arith, put, ends_decided, eq-eqb))
 
   -- ---- in front of the last
   -- the others have room for the texts of that size, and the longer ones have been put in
@@ -251,7 +235,7 @@ module _ (last others : List ℕ) where
       room = by_types (λ d. Room d size) _ _ types bytes (λ i e l d. type_room d size _ (g i e l)) r;
       inside = λ short i e l low high free.
           let all = put_all size types bytes short g r i e l in
-          let keep = keeps_all (λ d. In d (name_of (get_or types i e))) last size (λ d other. kept d other _) types bytes in grind (arith, cases_lt);
+          let keep = keeps_all (λ d. In d (name_of (get_or types i e))) last size (λ d other h. (kept d other _ h).0) types bytes in grind (arith, cases_lt);
     }
 
     before_passed : Passed types 3 (before_last last types)
@@ -328,7 +312,7 @@ module _ (others : List ℕ) (m : LocalType) (sm : Served others m) where
     at_the_end : Out bytes (name_of m) → Out bytes (name_of t) → Ends (name_of m) (name_of t) → HasPlace (with_text bytes (name_of m)) t
     unfolding with_text
     at_the_end out away e =
-        let size = st.size.1 in let there = place_of_stands _ _ (end_stands (put_stands bytes (name_of m)) e) in
+        let size = st.size.1 in let there = stands_in _ _ (end_stands (put_stands bytes (name_of m)) e) in
         let put = put_in bytes (name_of m) (name_of t) e in
         let room = λ (s : Stands sm.stands.before (name_of t)). room_of _ _ _ _ _ r st.stands.ends (inr e) s away in
         grind (arith, nat_tests, nil_from_length, length-append)
@@ -336,8 +320,8 @@ module _ (others : List ℕ) (m : LocalType) (sm : Served others m) where
     laid_place : (3 ≤ length (name_of t) → length (name_of t) ≤ 7 → (Ends (name_of m) (name_of t) → ⊥) → In bytes (name_of t))
         → HasPlace (with_text bytes (name_of m)) t
     laid_place inside =
-        let in_front = kept bytes (name_of m) (name_of t) in let low = kept_low bytes (name_of m) (name_of t) in
-        let e = ends_or_not (name_of m) (name_of t) in let end = end_in bytes (name_of m) (name_of t) in
+        let in_front = kept bytes (name_of m) (name_of t) in let e = ends_or_not (name_of m) (name_of t) in
+        let end = end_in bytes (name_of m) (name_of t) in
         let out = at_the_end in grind (arith, cases_lt, nil_from_length, ends_nothing)
 
   -- ---- all types, of which m has the greatest key
@@ -392,14 +376,11 @@ record ArePlaced (types : List LocalType) (d : List ℕ) : Type 0 where
   places : HavePlaces d types
   short : length d ≤ length (laid [] types)
 
-with_placed : (types : List LocalType) (last d : List ℕ) → placed_with types last ≡ Some d → ArePlaced types d
-unfolding placed_with are_placed
-with_placed types last d e = grind (arith, nat_tests, have_places_decided)
-
 otherwise_placed : (types : List LocalType) (texts d : List ℕ) → placed_otherwise types texts ≡ Some d → ArePlaced types d
+unfolding placed_with are_placed
 otherwise_placed types [] d e = grind arith
 otherwise_placed types (b ∷ bs) d e =
-    let here = with_placed types (before_zero (b ∷ bs)) d in let later = otherwise_placed types bs d in grind arith
+    let every = have_places_decided d types in let later = otherwise_placed types bs d in grind (arith, nat_tests)
 
 laid_placed : (types : List LocalType) (d : List ℕ) → laid_names types ≡ Some d → ArePlaced types d
 unfolding laid_names
@@ -436,7 +417,7 @@ none_laid [] others some named names none = grind arith
 none_laid (t ∷ ts) others some named names none =
     let types = t ∷ ts in
     let s : All (Served others) types = λ i d l.
-    let h = names i d l in let name = named i d l in let at = place_of_stands _ _ (stands_of h.stands) in let size = at_size h.stands in
+    let h = names i d l in let name = named i d l in let at = stands_in _ _ (stands_of h.stands) in let size = at_size h.stands in
     grind (arith, nat_tests, has_text) in
     let (place, inside, above) = greatest others t t ts in
     let m = get_or types place t in let sm = s place t inside in

@@ -1,26 +1,26 @@
 -- The text of a rule, and of a zone: it spells the rule, or gives the zone, and each other one is longer.
-use Rattle.std.proofs.{Common.{Decides, OnErr, Result, int_eq}, lemmas.Bool.{Decides.Decides-int_eq, le-ltb}}
+use Rattle.std.proofs.{Common.{Decides, decimal, int_eq}, lemmas.Bool.{Decides.Decides-int_eq, le-ltb}}
 use Rattle.tz_base.{proofs.RunLaws.all_of, specs.{Grammar.{Grammar, Number, Run, Then}, Names.IsName}}
 use Rattle.tz_info.{
-  proofs.Words.{Alternate, IsAlternateRule, IsRuleDay, IsTzText, IsWithinDay, ints, is_letter, is_not_greater, named_type, neg_ℤ},
+  proofs.Words.{Alternate, IsAlternateRule, IsRuleDay, IsTzText, IsWithinDay, ints, is_letter, is_not_greater, neg_ℤ},
   proofs.Words.{nil_from_length, pos, trimmed, unsigned_abs, zone_of_rule, ◌+ℤ◌, ◌<ℤ◌},
-  proofs.TrimLaws.{IsSpace, trim_is},
+  proofs.TrimLaws.{IsSpace, trim_is, trim_whole},
   proofs.ForCallers.offset_fits,
   specs.{TzGrammar.{clock_max, minus, time_limit}, declared.rule.day.{DayForm.{TheVariants.{Julian0, Julian1, MonthWeekday}, DayForm}, DayTime.DayTime}},
 }
 use Rattle.tz_write.{
-  proofs.TextBytes.{AreTextBytes, Begins, Best, Front, Writes, all_others, first_optional, front_cons, front_longer, front_nothing, front_optional},
-  proofs.TextBytes.{front_then, front_unless, front_whole, names_are, number_begins, number_front, number_writes, pair_front, pair_writes},
-  proofs.TextBytes.{pairs_over, pairs_rest, trimmed_text, two_digits, writes_byte, writes_check, writes_colon, writes_first, writes_here},
-  proofs.TextBytes.{writes_last, writes_mark, writes_more, writes_nothing, writes_optional, writes_other, writes_then},
-  proofs.Words.{[], AllOf, AreInPairs, Bool, IsRule, IsRuleOrNone, List, LocalType, None, NoneFirst, Option, Some, Spells, TransitionRule, Without},
-  proofs.Words.{Zone, ap, append-nil, append_assoc, arith, both_ways, colon, comma, cond, false, greater, inl, inr, is_digit, is_name_byte, length},
-  proofs.Words.{length-append, less, list_all, name_of, name_or_none, nat_tests, not, refl, slash, spelled_rule, true, ℕ, ℤ, ◌%◌, ◌&&◌, ◌*◌, ◌++◌, ◌+◌, ◌/◌},
-  proofs.Words.{◌<◌, ◌==◌, ◌↔◌, ◌∙◌, ◌∷◌, ◌≡◌, ◌≤◌, ◌⊎◌},
-  specs.Steps.TextPieces.{has_plain_times, is_negative, is_positive, spelled_clock, spelled_date, spelled_day, spelled_days, spelled_dst_offset, spelled_hands},
-  specs.Steps.TextPieces.{spelled_minutes, spelled_name, spelled_offset, spelled_seconds, spelled_signed, spelled_time, time_after},
+  proofs.TextBytes.{AreTextBytes, Begins, Best, Front, Writes, all_others, first_optional, front_cons, front_longer, front_optional, front_then},
+  proofs.TextBytes.{front_unless, front_whole, names_are, number_begins, number_front, number_writes, pair_front, pair_writes, pairs_over, no_space},
+  proofs.TextBytes.{pairs_rest, two_digits, writes_byte, writes_check, writes_colon, writes_first, writes_here, writes_last, writes_mark, writes_more},
+  proofs.TextBytes.{writes_nothing, writes_optional, writes_other, writes_then},
+  proofs.Words.{[], AllOf, AreInPairs, Bool, IsRule, IsRuleOrNone, List, LocalType, None, NoneFirst, Option, Some, Spells, TransitionRule, Without, Zone, ap},
+  proofs.Words.{append-nil, append_assoc, arith, both_ways, colon, comma, cond, false, greater, inl, inr, is_digit, is_name_byte, length, length-append},
+  proofs.Words.{less, list_all, name_of, name_or_none, nat_tests, not, refl, slash, spelled_rule, true, ℕ, ℤ, ◌%◌, ◌&&◌, ◌*◌, ◌++◌, ◌/◌, ◌<◌, ◌==◌, ◌↔◌, ◌∙◌},
+  proofs.Words.{◌∷◌, ◌≡◌, ◌≤◌, ◌⊎◌},
+  specs.Steps.TextPieces.{has_plain_times, spelled_clock, spelled_date, spelled_day, spelled_days, spelled_dst_offset, spelled_minutes, spelled_name},
+  specs.Steps.TextPieces.{spelled_offset, spelled_signed, spelled_time},
   specs.Steps.LaidFiles.footer_text,
-  specs.WrittenTexts.{AreTimesOf, CanBeSpelled, HasZoneText, IsNamed, IsNoPosixZone, IsOfText, IsPlainTime, IsTextTime, IsWrittenText, IsWrittenZone},
+  specs.WrittenTexts.{AreTimesOf, CanBeSpelled, HasZoneText, IsNoPosixZone, IsOfText, IsPlainTime, IsTextTime, IsWrittenText, IsWrittenZone},
 }
 use Rattle.tz_info.specs.TzGrammar as tz
 use Rattle.tz_info.specs.declared.rule.transition_rule.TransitionRule.TheVariants as rules
@@ -29,13 +29,6 @@ use Rattle.tz_info.specs.declared.rule.transition_rule.TransitionRule.TheVariant
 -- nothing that goes on with an offset, a day or a time
 abbrev Stops : List ℕ → Type 0
 Stops rest = NoneFirst is_digit rest × Without colon rest × Without slash rest
-
-comma_stops : (rest : List ℕ) → Stops (comma ∷ rest)
-comma_stops rest = grind (arith, nat_tests)
-
--- ---- numbers with a sign
-abbrev signed : Bool → ℕ → ℤ
-signed negative n = cond negative (neg_ℤ (pos n)) (pos n)
 
 -- seconds below n hours, before or after midnight
 hours_within : (hours : ℕ) (z : ℤ) → (neg_ℤ (pos (3600 * hours)) <ℤ z) × (z <ℤ pos (3600 * hours)) → unsigned_abs z / 3600 < hours
@@ -59,21 +52,16 @@ module _ (rest : List ℕ) (stops : Stops rest) where
       (writes_then (pair_writes (omega arith) stop (omega arith))
       (writes_last (grind (arith, writes_optional, writes_colon, two_digits, pair_writes)) (refl, refl))))
 
-  hours_writes : (h m s : ℕ) → h ≤ clock_max → m ≤ 59 → s ≤ 59 → Writes tz.hours_minutes_seconds (spelled_hands h m s) (h, m, s) rest
-  unfolding tz.hours_minutes_seconds
-  hours_writes h m s l a b =
-      writes_then (number_writes (omega arith) (grind (arith, nat_tests)))
-      (writes_last (minutes_writes m s a b) (refl, refl))
-
   -- n seconds are z, but for the sign
   module _ (limit n : ℕ) (z : ℤ) (l : n / 3600 ≤ limit) (k : limit < 1000) where
-    duration_writes : (negative : Bool) → z ≡ signed negative n → Writes (tz.duration limit negative) (spelled_clock n) z rest
-    unfolding spelled_clock tz.duration
-    duration_writes negative v =
-        writes_here (writes_last (hours_writes (n / 3600) (n / 60 % 60) (n % 60) (omega arith) (omega arith) (omega arith)) (grind arith))
+    duration_writes : (negative : Bool) → z ≡ cond negative (neg_ℤ (pos n)) (pos n) → Writes (tz.duration limit negative) (spelled_clock n) z rest
+    unfolding spelled_clock tz.duration tz.hours_minutes_seconds
+    duration_writes negative v = writes_here (writes_last (writes_then (number_writes (omega arith) (grind (arith, nat_tests)))
+        (writes_last (minutes_writes (n / 60 % 60) (n % 60) (omega arith) (omega arith)) (refl, refl))) (grind arith))
 
     -- a minus, if there is to be one, and a duration, whose sign follows from the minus
-    signed_writes : (signs : Bool) (f : Bool → Bool) (negative : Bool) → (signs ≡ false → negative ≡ false) → z ≡ signed (f negative) n
+    signed_writes : (signs : Bool) (f : Bool → Bool) (negative : Bool) → (signs ≡ false → negative ≡ false)
+        → z ≡ cond (f negative) (neg_ℤ (pos n)) (pos n)
         → Writes (Then (tz.time_sign signs) (λ m. tz.duration limit (f m))) (spelled_signed negative n) z rest
     unfolding tz.time_sign tz.sign
     signed_writes true f true may v = writes_then (writes_other (grind arith) (writes_mark refl (writes_nothing refl))) (duration_writes _ v)
@@ -84,29 +72,26 @@ module _ (rest : List ℕ) (stops : Stops rest) where
   offset_writes : (east : ℤ) → IsWithinDay east → Writes tz.offset (spelled_offset east) east rest
   unfolding spelled_offset tz.offset tz.time_sign
   offset_writes east h =
-      signed_writes 23 _ east (grind (arith, hours_within)) (omega arith) true not (is_positive east) (grind arith) (grind (arith, ints))
+      signed_writes 23 _ east (grind (arith, hours_within)) (omega arith) true not _ (grind arith) (grind (arith, ints))
 
   time_writes : (extended : Bool) (time : ℤ) → IsTextTime extended time → Writes (tz.time extended) (spelled_time time) time rest
   unfolding spelled_time tz.time
   time_writes extended time h =
-      signed_writes (time_limit extended) _ time (grind (arith, hours_within)) (grind (arith, nat_tests)) extended (λ m. m) (is_negative time)
+      signed_writes (time_limit extended) _ time (grind (arith, hours_within)) (grind (arith, nat_tests)) extended (λ m. m) _
       (grind (arith, le-ltb)) (grind (arith, ints))
 
 -- ---- the front of bytes that spell the same
 abbrev Fronts : {X : Type 0} → Grammar X → X → List ℕ → Type 0
 Fronts g x text = (bytes rest : List ℕ) → Spells g bytes x rest → Front text bytes rest
 
-seconds_front : (s : ℕ) → Fronts tz.seconds s (spelled_seconds s)
-unfolding tz.seconds
-seconds_front s _ _ h = front_optional colon 0 (Number clock_max) (s == 0) (λ _. pair_front) (λ z. rw z refl) h
-
 minutes_front : (m s : ℕ) → Fronts tz.optional_minutes (m, s) (spelled_minutes m s)
-unfolding tz.optional_minutes tz.minutes_seconds
+unfolding tz.optional_minutes tz.minutes_seconds tz.seconds
 minutes_front m s _ _ h =
     front_optional colon _ tz.minutes_seconds ((m == 0) && (s == 0)) (λ _ is p. let (x, _, minutes, (y, _, seconds, ends)) = p in
-    grind (arith, front_then (pair_front is minutes) (seconds_front y _ _ seconds))) (grind (arith, nat_tests)) h
+    let after = front_optional colon 0 (Number clock_max) (y == 0) (λ _. pair_front) (λ z. rw z refl) seconds in
+    grind (arith, front_then (pair_front is minutes) after)) (grind (arith, nat_tests)) h
 
-hours_front : (h m s : ℕ) → Fronts tz.hours_minutes_seconds (h, m, s) (spelled_hands h m s)
+hours_front : (h m s : ℕ) → Fronts tz.hours_minutes_seconds (h, m, s) (decimal h ++ spelled_minutes m s)
 unfolding tz.hours_minutes_seconds
 hours_front h m s _ _ (x, _, hours, ((y, z), _, others, ends)) =
     grind (arith, front_then (number_front {max = clock_max} (omega arith) hours) (minutes_front y z _ _ others))
@@ -124,17 +109,12 @@ sign_front signs needed negative h need f = grind (arith, both_ways, front_cons,
 offset_front : (east : ℤ) → Fronts tz.offset east (spelled_offset east)
 unfolding spelled_offset tz.offset tz.time_sign tz.duration
 offset_front east _ _ (negative, unsigned, sign, d) =
-    sign_front true (is_positive east) negative sign (let v = d.3.1 in grind (arith, ints)) (duration_front _ _ east _ _ d)
+    sign_front true _ negative sign (let v = d.3.1 in grind (arith, ints)) (duration_front _ _ east _ _ d)
 
 time_front : (extended : Bool) (time : ℤ) → Fronts (tz.time extended) time (spelled_time time)
 unfolding spelled_time tz.time tz.duration
 time_front extended time _ _ (negative, unsigned, sign, d) =
-    sign_front extended (is_negative time) negative sign (let v = d.3.1 in grind (arith, ints)) (duration_front _ _ time _ _ d)
-
--- a text without extensions has no other times
-time_plain : (bytes : List ℕ) (time : ℤ) (rest : List ℕ) → Spells (tz.time false) bytes time rest → IsPlainTime time
-unfolding tz.time tz.time_sign tz.duration
-time_plain bytes time rest h = grind (arith, ints, nat_tests)
+    sign_front extended _ negative sign (let v = d.3.1 in grind (arith, ints)) (duration_front _ _ time _ _ d)
 
 -- ---- names
 letters_decided : (bs : List ℕ) → Decides (list_all is_letter bs) (AllOf is_letter bs)
@@ -195,29 +175,24 @@ date_front form _ _ (inr (_, inr (_, (_, _, number, (_, value, same))))) = rw (v
 
 -- ---- times after dates, and days
 -- what is written before a rest that ends it
-module _ (rest : List ℕ) (stops : Stops rest) (extended : Bool) where
-  after_writes : (time : ℤ) → IsTextTime extended time → Writes (tz.optional_time extended) (time_after time) time rest
-  unfolding tz.optional_time
-  after_writes time h = writes_optional _ ((Decides-int_eq time (pos 7_200)).0) stops.2
-      (λ _. writes_mark refl (time_writes rest stops extended time h))
-
-  day_writes : (d : DayTime) → IsRuleDay d.day → IsTextTime extended d.time → Writes (tz.day extended) (spelled_day d) d rest
-  unfolding tz.day
-  day_writes d h t = writes_then (date_writes d.day _ h (grind (arith, nat_tests)))
-      (writes_last (after_writes d.time t) (refl, refl))
-
-after_front : (extended : Bool) (time : ℤ) → Fronts (tz.optional_time extended) time (time_after time)
-unfolding tz.optional_time
-after_front extended time _ _ h =
-    front_optional slash _ (tz.time extended) _ (λ after is p. front_cons is (time_front extended time _ _ p)) ((Decides-int_eq time (pos 7_200)).1) h
+day_writes : (rest : List ℕ) → Stops rest → (extended : Bool) (d : DayTime) → IsRuleDay d.day → IsTextTime extended d.time
+    → Writes (tz.day extended) (spelled_day d) d rest
+unfolding tz.day tz.optional_time
+day_writes rest stops extended d h t = writes_then (date_writes d.day _ h (grind (arith, nat_tests)))
+    (writes_last (writes_optional _ ((Decides-int_eq d.time (pos 7_200)).0) stops.2 (λ _. writes_mark refl (time_writes rest stops extended d.time t)))
+    (refl, refl))
 
 day_front : (extended : Bool) (d : DayTime) → Fronts (tz.day extended) d (spelled_day d)
-unfolding tz.day
-day_front extended d _ _ h = grind (arith, front_then, date_front, after_front)
-
-day_plain : (bytes : List ℕ) (d : DayTime) (rest : List ℕ) → Spells (tz.day false) bytes d rest → IsPlainTime d.time
 unfolding tz.day tz.optional_time
-day_plain bytes d rest h = grind (arith, time_plain)
+day_front extended d _ _ (form, _, date, (time, _, clock, ends)) =
+    let after = front_optional slash _ (tz.time extended) _ (λ _ is p. front_cons is (time_front extended time _ _ p))
+    ((Decides-int_eq time (pos 7_200)).1) clock in
+    grind (arith, front_then (date_front form _ _ date) after)
+
+-- a text without extensions has no other times
+day_plain : (bytes : List ℕ) (d : DayTime) (rest : List ℕ) → Spells (tz.day false) bytes d rest → IsPlainTime d.time
+unfolding tz.day tz.optional_time tz.time tz.time_sign tz.duration
+day_plain bytes d rest h = grind (arith, ints, nat_tests)
 
 -- ---- the offset of daylight saving time
 -- it is left out if it is an hour more
@@ -232,11 +207,11 @@ dst_offset_writes std dst rest h =
     by_hour (λ s. Writes (tz.dst_offset std) (s ++ (comma ∷ [])) dst rest) std dst
     (λ v. writes_here (writes_mark refl (rw v (writes_check (let l = h.1 in omega (arith, ints))))))
     (writes_here (writes_other (grind arith) (writes_first tt (grind arith)
-    (writes_then (offset_writes _ (comma_stops rest) dst h) (writes_first tt (grind arith) (writes_byte refl (writes_nothing refl)))))))
+    (writes_then (offset_writes _ (grind (arith, nat_tests)) dst h) (writes_first tt (grind arith) (writes_byte refl (writes_nothing refl)))))))
 
 dst_offset_front : {bytes rest : List ℕ} (std dst : ℤ) → Spells (tz.dst_offset std) bytes dst rest → Front (spelled_dst_offset std dst) bytes (comma ∷ rest)
 unfolding tz.dst_offset tz.next_hour tz.given_offset tz.more
-dst_offset_front std dst h = grind (arith, front_nothing, front_unless, int_eq, offset_front)
+dst_offset_front std dst h = grind (arith, front_unless, int_eq, offset_front)
 
 -- ---- what a text that spells a rule shows
 -- the rule can be spelled, has times that need no extensions if the text has none, and its own text is the shortest
@@ -268,22 +243,14 @@ pub rule_named : (extended : Bool) (bytes : List ℕ) (rule : TransitionRule) �
 rule_named extended bytes rule h = (rule_read extended bytes rule h).named
 
 -- ---- its own text
--- the days, each with what comes after it
-abbrev days_of : Alternate → List ℕ
-days_of a = spelled_day a.start ++ (comma ∷ spelled_day a.end)
-
--- the type that the parts say
-type_is : (name : List ℕ) (dst : Bool) (t : LocalType) → IsNamed name dst t → t ≡ named_type name dst t.offset
-type_is name dst t h = grind arith
-
 dst_ends_name : (std dst : ℤ) (rest : List ℕ) → IsWithinDay dst → NoneFirst is_letter (spelled_dst_offset std dst ++ (comma ∷ rest))
 dst_ends_name std dst rest h = grind (arith, nat_tests, offset_begins, by_hour (λ s. NoneFirst is_letter (s ++ (comma ∷ rest))))
 
 days_write : (extended : Bool) (a : Alternate) → IsAlternateRule a → IsTextTime extended a.start.time → IsTextTime extended a.end.time
-    → Writes (tz.days extended) (days_of a) (a.start, a.end) []
+    → Writes (tz.days extended) (spelled_day a.start ++ (comma ∷ spelled_day a.end)) (a.start, a.end) []
 unfolding tz.days
 days_write extended a h start end =
-    writes_then (day_writes _ (comma_stops (spelled_day a.end ++ [])) extended a.start h.start_day start)
+    writes_then (day_writes _ (grind (arith, nat_tests)) extended a.start h.start_day start)
     (writes_byte refl (writes_last (day_writes [] (tt, tt, tt) extended a.end h.end_day end) (refl, refl)))
 
 rule_writes : (extended : Bool) (rule : TransitionRule) → IsRule rule → CanBeSpelled rule → AreTimesOf extended rule
@@ -291,7 +258,7 @@ rule_writes : (extended : Bool) (rule : TransitionRule) → IsRule rule → CanB
 unfolding tz.text tz.rule tz.fixed tz.alternate tz.named tz.end
 rule_writes extended (rules.Fixed t) fits ((name, h), w) times =
     rw h.named (writes_here (writes_then (name_writes name (spelled_offset t.offset ++ []) h.allowed (grind (arith, nat_tests, offset_begins)))
-    (writes_last (offset_writes [] (tt, tt, tt) t.offset w) (grind (arith, type_is)))))
+    (writes_last (offset_writes [] (tt, tt, tt) t.offset w) (grind arith))))
 rule_writes extended (rules.Alternate a) fits ((m, s), (n, d)) (start, end) =
     let first : name_of a.std ≡ m = ap name_or_none s.named in let second : name_of a.dst ≡ n = ap name_or_none d.named in
     let std = a.std.offset in let dst = a.dst.offset in let tail = spelled_dst_offset std dst ++ spelled_days a in
@@ -302,8 +269,8 @@ rule_writes extended (rules.Alternate a) fits ((m, s), (n, d)) (start, end) =
     (writes_more (grind arith)
     (writes_here
     (writes_then (name_writes n _ d.allowed (grind (arith, append_assoc, dst_ends_name)))
-    (rw (← append_assoc (spelled_dst_offset std dst) (comma ∷ []) (days_of a)) (writes_then (dst_offset_writes std dst _ fits.within.dst_offset)
-    (writes_last (days_write _ a fits start end) (tt, [], inl (refl, (refl, refl)), grind (arith, type_is)))))))))))
+    (rw (← append_assoc (spelled_dst_offset std dst) (comma ∷ []) _) (writes_then (dst_offset_writes std dst _ fits.within.dst_offset)
+    (writes_last (days_write _ a fits start end) (tt, [], inl (refl, (refl, refl)), grind arith))))))))))
 
 -- ---- rules
 -- it begins with a letter or `<`
@@ -323,15 +290,12 @@ module _ (rule : TransitionRule) (fits : IsRule rule) where
     pub rule_spelled : (extended : Bool) → AreTimesOf extended rule → IsTzText extended (spelled_rule rule) rule
     rule_spelled extended times = grind (arith, append-nil, rule_writes)
 
-    rule_pairs : AreInPairs (spelled_rule rule)
-    rule_pairs = grind (arith, append-nil, rule_writes true rule fits named times_extended)
-
-    pub text_are : AreTextBytes (spelled_rule rule)
-    text_are = grind (arith, rule_writes, times_extended)
+    pub text_are : AreTextBytes (spelled_rule rule) × AreInPairs (spelled_rule rule)
+    text_are = grind (arith, append-nil, rule_writes true rule fits named times_extended)
 
     -- the text has extensions if one without doesn't have room for the times
     pub written : (plain : Bool) → ((plain ≡ true) ↔ AreTimesOf false rule) → IsWrittenText rule (spelled_rule rule) (not plain)
-    written plain is = grind (arith, rule_spelled, rule_pairs, rule_read)
+    written plain is = grind (arith, rule_spelled, text_are, rule_read)
 
     pub text_is : IsWrittenText rule (spelled_rule rule) (not (has_plain_times rule))
     text_is = written _ (grind (arith, ints, nat_tests, both_ways))
@@ -368,10 +332,10 @@ written_zone types None fits h = grind arith
 written_zone types (Some rule) fits h =
     let named = h.1.0 in
     let text = rule_spelled rule fits named false h.1.1 in let first = text_begins rule named in
-    let trims = trimmed_text _ (text_are rule fits named) in
+    let trims = rw append-nil at (trim_whole [] _ [] tt (no_space _ (text_are rule fits named).0) tt) in
     record {
       gives = grind arith;
-      pairs = rule_pairs rule fits named;
+      pairs = (text_are rule fits named).1;
       shortest = λ other gives pairs.
           let s : IsTzText false (trimmed other) rule = grind arith in
           let (before, after, whole, _, space) = trim_is other in
@@ -388,7 +352,3 @@ zone_text_some z fits h = let text = written_zone z.types z.rule fits h.rule in 
 
 pub zone_text_once : (z : Zone) (s t : List ℕ) → IsWrittenZone z s → IsWrittenZone z t → s ≡ t
 zone_text_once z s t p q = grind arith
-
--- ---- running out of memory
-pub on_err : {A E : Type 0} (r : Result A E) (P : Type 0) → P → OnErr r P
-on_err r P h = grind arith

@@ -12,10 +12,10 @@ use Rattle.tz_base.specs.{
   Refusals.Refusal,
   Tests.Test,
 }
-use Rattle.tz_info.{proofs.{TrimLaws.{HasNoSpace, trim_whole}, Words.{nil_from_length, trimmed}}, specs.TzGrammar.dot}
+use Rattle.tz_info.{proofs.{TrimLaws.HasNoSpace, Words.nil_from_length}, specs.TzGrammar.dot}
 use Rattle.tz_write.{
   proofs.Words.{[], AllOf, AreInPairs, Bool, HasNoZero, List, NoneFirst, Spells, Without, append-nil, append_assoc, arith, both_ways, colon, comma},
-  proofs.Words.{cond, false, greater, inl, is_digit, is_name_byte, length, length-append, less, nat_tests, not, refl, rules, slash, spelled_pair},
+  proofs.Words.{cond, false, greater, is_digit, is_name_byte, length, length-append, less, nat_tests, not, refl, rules, slash, spelled_pair},
   proofs.Words.{true, ℕ, ◌%◌, ◌&&◌, ◌++◌, ◌+◌, ◌/◌, ◌<◌, ◌==◌, ◌^◌, ◌∷◌, ◌≡◌, ◌≢◌, ◌≤◌, ◌⊎◌},
   specs.WrittenTexts.TwoDigits,
 }
@@ -37,28 +37,19 @@ pairs_rest (b ∷ bs) rest h = pairs_rest bs rest h.1
 
 -- the bytes, and the rest after their front
 module _ {bytes rest : List ℕ} where
-  pub front_nothing : bytes ≡ rest → Front [] bytes rest
-  front_nothing e = grind arith
-
-  front_any : {a : List ℕ} → Front a bytes rest → Front [] bytes rest
-  front_any p = record { front = p.front; whole = p.whole; best = grind (arith, nil_from_length) }
-
-  front_byte : {t : ℕ} → bytes ≡ t ∷ rest → Front (t ∷ []) bytes rest
-  front_byte {t = t} e = record { front = t ∷ []; whole = e; best = λ _. inl refl }
-
   -- it is the text a, or longer
   module _ {a : List ℕ} where
     pub front_then : {b middle : List ℕ} → Front a bytes middle → Front b middle rest → Front (a ++ b) bytes rest
     front_then p q = record { front = p.front ++ q.front; whole = grind (arith, append_assoc); best = grind (arith, length-append, pairs_rest) }
 
     pub front_unless : (b : Bool) → Front a bytes rest → Front (cond b [] a) bytes rest
-    front_unless b p = grind (arith, front_any)
+    front_unless b p = grind (arith, nil_from_length)
 
     -- a piece that may be left out, and is if the test passes
     pub front_optional : {X : Type 0} (tag : ℕ) (v : X) (g : Grammar X) {x : X} (b : Bool)
         → ((after : List ℕ) → bytes ≡ tag ∷ after → Spells g after x rest → Front a bytes rest)
         → (x ≡ v → b ≡ true) → Spells (Optional tag v g) bytes x rest → Front (cond b [] a) bytes rest
-    front_optional tag v g b given out h = grind (arith, front_unless, front_nothing)
+    front_optional tag v g b given out h = grind (arith, front_unless)
 
 pub front_whole : {text bytes : List ℕ} → Front text bytes [] → AreInPairs bytes → Best text bytes
 front_whole f pairs = grind (arith, append-nil)
@@ -66,10 +57,10 @@ front_whole f pairs = grind (arith, append-nil)
 -- a byte of the text, or one that it lacks
 module _ {t : ℕ} {a bytes after rest : List ℕ} (e : bytes ≡ t ∷ after) (p : Front a after rest) where
   pub front_cons : Front (t ∷ a) bytes rest
-  front_cons = front_then (front_byte e) p
+  front_cons = record { front = t ∷ p.front; whole = grind arith; best = grind arith }
 
   pub front_longer : Front a bytes rest
-  front_longer = front_then (front_any (front_byte e)) p
+  front_longer = record { front = t ∷ p.front; whole = grind arith; best = grind arith }
 
 -- ---- bytes of texts
 -- a letter, a digit or one of the signs
@@ -171,9 +162,6 @@ pub no_space : (text : List ℕ) → AreTextBytes text → HasNoSpace text
 no_space [] h = tt
 no_space (b ∷ bs) h = (grind (arith, nat_tests), no_space bs h.1)
 
-pub trimmed_text : (text : List ℕ) → AreTextBytes text → trimmed text ≡ text
-trimmed_text text h = rw append-nil at (trim_whole [] text [] tt (no_space text h) tt)
-
 own : IsNumeralModel AllDigits (value_from 0)
 own = numerals_by_fold AllDigits (search rules) value_from (search rules)
 
@@ -219,10 +207,8 @@ number_front h p = grind (arith, decimal_best)
 -- two digits and no third are those of the number
 paired : (ds rest : List ℕ) (n : ℕ) → AllDigits ds → 0 < length ds → NoneFirst is_digit rest → value_from 0 ds ≡ n → TwoDigits (ds ++ rest)
     → ds ≡ (48 + n / 10) ∷ (48 + n % 10) ∷ []
-paired [] rest n each some none value pair = grind arith
-paired (d ∷ []) rest n each some none value pair = grind (arith, nat_tests, both_ways)
-paired (d ∷ e ∷ []) rest n each some none value pair = grind arith
 paired (d ∷ e ∷ f ∷ ds) rest n each some none value pair = grind (arith, both_ways)
+paired ds rest n each some none value pair = grind (arith, nat_tests, both_ways)
 
 pub pair_front : {max n : ℕ} {bytes after rest : List ℕ} → bytes ≡ colon ∷ after → IsNumber max after n rest → Front (spelled_pair n) bytes rest
 pair_front {n = n} e p = record { front = colon ∷ p.digits; whole = grind arith; best = grind (arith, paired) }

@@ -62,7 +62,7 @@ impl ToTzData for TimeZone {
     ///     let again = TimeZone::from_tz_data(alloc, &bytes)?; // equal to zone
     /// }
     /// ```
-    #[tactic(auto, using(crate::proofs::FileWritten::can_be_written, crate::proofs::FileWritten::footer_spelled))]
+    #[tactic(auto, using(crate::proofs::FileWritten::can_be_written, crate::proofs::FileWritten::writable, crate::proofs::RuleTexts::rule_named))]
     fn to_tz_data(&self, alloc: Global) -> Result<Option<Vec<u8>>, Error> {
         let Some(room) = room_for(self) else {
             return Ok(None);

@@ -5,7 +5,7 @@ use Rattle.zoneq_lib.proofs.CitedWords.{Ok, Option, Query, Reading, Result, Some
 use Rattle.zoneq_lib.proofs.CitedWords.{data_query, days_in_month, ended_lines, false, file_rule_fits, inl, inr, integer, is_leap, length, length-append}
 use Rattle.zoneq_lib.proofs.CitedWords.{local_time, nat_le, next, posix_zone_valid, query_line, question, refl, resolve_query, show_query, subst, sym}
 use Rattle.zoneq_lib.proofs.CitedWords.{text_fault_or_zone, true, type_decided, wall_decided, wall_query, ℕ, ℤ, [], ◌&&◌, ◌++◌, ◌<◌, ◌∷◌, ◌≡◌, ◌≢◌, ◌≤◌, ◌⊎◌}
-use Rattle.zoneq_lib.proofs.{Joining.{answered_join, answers_all}, ScanLaws.{not_scanned, scanned}, Showing.{resolve_covered, show_covered}}
+use Rattle.zoneq_lib.proofs.{Joining.{answers_all, from_start, join}, ScanLaws.{not_scanned, scanned}, Showing.{resolve_covered, show_covered}}
 use Rattle.zoneq_lib.specs.{Questions.{At, Data, Resolve, Show, Text, Wall, text_query}, Runs.{AnswersBefore, BeginsAnswers}, Steps.LineReading.{scan}}
 use Rattle.std.proofs.lemmas.Bool.{cases_eq}
 use Rattle.tz_base.proofs.Decided.{either}
@@ -14,13 +14,10 @@ use Rattle.naive_base.{proofs.ForCallers.{date_in_years}, specs.declared.date.Na
 use Rattle.tz_base.specs.declared.error.Error.TheVariants as errors
 
 -- ---- each line
-ends : (bytes rest : List ℕ) (query : Query) → Spells query_line bytes query rest → rest ≡ []
-unfolding query_line
-ends bytes rest query h = grind arith
-
 pub asks_or_bad : (bytes : List ℕ) (r : Result (Query × List ℕ) BadLine) → scan query_line bytes ≡ r
     → ((query : Query) × Asks bytes query) ⊎ IsBadLine bytes
-asks_or_bad bytes (Ok (query, rest)) e = let asked = scanned query_line bytes query rest e in grind (arith, ends bytes rest query asked)
+unfolding query_line
+asks_or_bad bytes (Ok (query, rest)) e = let asked = scanned query_line bytes query rest e in grind arith
 asks_or_bad bytes (Err fault) e = inr (λ query. not_scanned query_line bytes fault e query [])
 
 -- ---- dates and times
@@ -28,10 +25,6 @@ date_in_range : (bytes rest : List ℕ) (day : ℤ) → Spells calendar_day byte
 unfolding calendar_day integer next
 date_in_range bytes rest day (y, a, year, (m, b, month, (u, c, (first, one, stays), (d, e, number, (exists, value, same))))) =
     rw value (date_in_years y m d (grind arith) (first, grind arith, exists.0, exists.1))
-
-time_in_range : (bytes rest : List ℕ) (l : Reading) → Spells local_time bytes l rest → IsInRange l.s
-unfolding local_time next
-time_in_range bytes rest l h = grind (arith, date_in_range)
 
 -- what the calendar says of the numbers
 pub dated : (y : ℤ) (m d : ℕ) (found : NaiveDate) → IsDateOf y m d (Some found) → (nat_le 1 d && nat_le d (days_in_month (is_leap y) m)) ≡ true
@@ -42,8 +35,8 @@ undated y m d year first last none = grind arith
 
 -- only `wall` asks for an instant, and of a local time that it read
 pub resolved_in_range : (bytes : List ℕ) (l : Reading) (choice : Choice) → Asks bytes (Resolve l choice) → IsInRange l.s
-unfolding query_line question text_query data_query at_query wall_query resolve_query show_query
-resolved_in_range bytes l choice h = grind (arith, time_in_range)
+unfolding query_line question text_query data_query at_query wall_query resolve_query show_query local_time next
+resolved_in_range bytes l choice h = grind (arith, date_in_range)
 
 -- ---- answers
 -- the zone, if there is one, is valid, and the numbers of its rule are in their limits
@@ -114,14 +107,14 @@ is_cut (c ∷ bytes) =
 pub begins_answers : (done left output more : List ℕ) (z : Option Zone) (rest : List ℕ) → Answered None [] done (output ++ more) z rest
     → BeginsAnswers (done ++ left) output
 begins_answers done left output more z rest s =
-    let given = lines_give _ _ _ z tt s.answered in
-    let cut = is_cut (rest ++ left) in
+    let first = from_start s in
+    let given = lines_give _ _ _ z tt first.answered in
+    let cut = is_cut (first.front ++ left) in
     let next = lines_covered z (ended_lines cut.0) given in
-    let after : Answered z rest left next.0 z cut.1 =
-    record { pieces = cut.0; front = cut.1; cut = cut.2; kept = inl refl; lone = cut.2.last; answered = next.1 } in
-    (more ++ (next.0 ++ _), simp append_assoc at (answers_all _ (answered_join s after) (last_covered z cut.1 given).1))
+    let all = join first (record { pieces = cut.0; front = cut.1; cut = cut.2; kept = inl refl; answered = next.1 }) in
+    (more ++ (next.0 ++ _), simp append_assoc at (answers_all _ all (last_covered z cut.1 given).1))
 
 -- answers to the lines before one that could not be answered
 pub answers_before : {done output : List ℕ} {z : Option Zone} {rest : List ℕ} (left : List ℕ) → 0 < length left → Answered None [] done output z rest
     → AnswersBefore (done ++ left) output
-answers_before left some s = grind (arith, length-append s.front left, append_assoc, append-nil, All-nil)
+answers_before left some s = let first = from_start s in grind (arith, length-append first.front left, append_assoc, append-nil, All-nil)

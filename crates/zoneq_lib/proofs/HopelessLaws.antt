@@ -1,9 +1,9 @@
 -- Which beginnings of a line let no line ask anything.
 use Rattle.tz_base.specs.Grammar.{Grammar}
 use Rattle.zoneq_lib.specs.Questions.{Word, at_query, calendar_day, choice, chosen, data_query, fold, gap, integer, local_time, next, resolve_query, show_query}
-use Rattle.zoneq_lib.proofs.CitedWords.{Begins, Bool, Err, IsBadLine, IsHopeless, List, after_byte, append-nil, append_assoc, arith, codes, drop, false, inl}
-use Rattle.zoneq_lib.proofs.CitedWords.{inr, length, length-append, query_line, question, refl, take, take-append-add, take-append-drop, true, without_return}
-use Rattle.zoneq_lib.proofs.{CitedWords.{ℕ, [], ◌++◌, ◌-◌, ◌<◌, ◌∷◌, ◌≡◌, ◌⊎◌}, ScanLaws.{IsPlain, never, stops}}
+use Rattle.zoneq_lib.proofs.CitedWords.{Begins, Bool, Err, IsBadLine, IsHopeless, List, append-nil, append_assoc, arith, codes, drop, false, inl}
+use Rattle.zoneq_lib.proofs.CitedWords.{inr, length, length-append, optional_tag_at, query_line, question, refl, take, take-append-add, take-append-drop}
+use Rattle.zoneq_lib.proofs.{CitedWords.{true, without_return, ℕ, [], ◌++◌, ◌-◌, ◌<◌, ◌∷◌, ◌≡◌, ◌⊎◌}, ScanLaws.{IsPlain, never, stops}}
 use Rattle.zoneq_lib.specs.{Questions.{text_query, unix_seconds, wall_query}, Steps.LineReading.{scan}, declared.bad_line.BadLine.TheVariants.{Hopeless}}
 
 -- ---- no part of the grammar of lines sees the bytes that follow it
@@ -52,7 +52,7 @@ from_front_ended front (c ∷ more) = elim (cut_or_whole (front ++ (c ∷ more))
 ]
 
 some_bytes : (front : List ℕ) → scan query_line (without_return front) ≡ Err Hopeless → 0 < length front
-some_bytes [] h = absurd (rw h at (stops query_line))
+some_bytes [] h = let end = stops query_line plain_line in grind arith
 some_bytes (c ∷ front) h = omega arith
 
 still_bad : (front bytes : List ℕ) → scan query_line front ≡ Err Hopeless → GoesOn front bytes → IsBadLine bytes
@@ -63,7 +63,7 @@ hopeless front h = grind (arith, some_bytes, still_bad, from_front, from_front_e
 
 -- what is kept in place of a hopeless line
 pub mark_hopeless : IsHopeless (codes "?")
-unfolding query_line question Begins after_byte
+unfolding query_line question Begins optional_tag_at
 mark_hopeless = hopeless (codes "?") refl
 
 -- more of a hopeless line is as hopeless

@@ -15,13 +15,7 @@ all_or_not : (types : List LocalType) → All (λ t. IsWithinDay t.offset) types
 all_or_not [] = grind arith
 all_or_not (t ∷ types) =
     let within = λ (s : LocalType). IsWithinDay s.offset in
-    elim (within_or_not t.offset) [
-      | inl one ↦ elim (all_or_not types) [
-        | inl all ↦ inl (All-cons within t types one all)
-        | inr not ↦ inr (λ h. not (All-tail within t types h))
-      ]
-      | inr not ↦ inr (λ h. not (All-head within t types h))
-    ]
+    let one = within_or_not t.offset in let all = all_or_not types in grind (arith, All-cons within t types, All-head within t types, All-tail within t types)
 
 narrow_or_not : (z : Zone) → IsNarrow z ⊎ (IsNarrow z → ⊥)
 narrow_or_not z = grind (arith, all_or_not z.types, all_or_not (rule_types z.rule))

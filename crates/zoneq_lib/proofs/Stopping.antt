@@ -3,8 +3,8 @@ use Rattle.zoneq_lib.proofs.CitedWords.{Answered, Answers, AnswersAtEnd, Answers
 use Rattle.zoneq_lib.proofs.CitedWords.{IsKeptFor, Keeps, List, MatchResult, None, Ok, OnOk, Option, Result, StopsAtEnd, StopsIn, StopsWith, Zone, append-nil}
 use Rattle.zoneq_lib.proofs.CitedWords.{append_assoc, arith, codes, drop, false, inl, inr, length, length-append, refl, sym, take, take-add, take-append-drop}
 use Rattle.zoneq_lib.proofs.{CitedWords.{true, without_return, ℕ, [], ◌++◌, ◌+◌, ◌<◌, ◌∷◌, ◌≡◌}, Covering.{answers_before, begins_answers}}
-use Rattle.zoneq_lib.{proofs.Joining.{answered_join, answered_line, answered_more, answers_all}, specs.Runs.{WritesUnlessFailed}}
-use Rattle.zoneq_lib.specs.{Steps.{Replies.{Replies, StopsAt}, Sending.{IsSentOf}}, declared.run_error.RunError.{RunError}}
+use Rattle.zoneq_lib.{proofs.Joining.{answered_join, answered_line, answered_more, answers_all, from_start}, specs.Runs.{WritesUnlessFailed}}
+use Rattle.zoneq_lib.specs.{Steps.Outcomes.{IsSentOf, Replies, StopsAt}, declared.run_error.RunError.{RunError}}
 use Rattle.std.proofs.KnownBytes.{Appends-kept, Appends-trans, Consumes-trans}
 use Rattle.zoneq_lib.specs.declared.run_error.RunError.TheVariants as errors
 
@@ -33,7 +33,8 @@ module _ {z : Option Zone} {b block done output : List ℕ} {m : Option Zone} {k
   pub line_taken : (piece more answer : List ℕ) (next : Option Zone) (r : List ℕ) → HasNoNewline piece → rest ≡ piece ++ 10 ∷ more
       → AnswersLine m (without_return (k ++ piece)) answer next → r ≡ []
       → (block ≡ (done ++ (piece ++ codes "\n")) ++ more) × Answered z b (done ++ (piece ++ codes "\n")) (output ++ (answer ++ codes "\n")) next r
-  line_taken piece more answer next r h cut line none = grind (arith, append_assoc, answered_join, answered_line)
+  line_taken piece more answer next r h cut line none =
+      (grind (arith, append_assoc), rw none (answered_join s (answered_line m k piece h answer next line)))
 
   -- it stopped the run
   pub line_stops : (f : Bool) (a b' c : Option (List ℕ)) (piece more : List ℕ) (fault : RunError) → HasNoNewline piece → rest ≡ piece ++ 10 ∷ more
@@ -47,7 +48,7 @@ module _ {z : Option Zone} {b block done output : List ℕ} {m : Option Zone} {k
   -- what is after the last newline is kept, or counted
   pub rest_kept : (m' : Option Zone) (k' : List ℕ) → HasNoNewline rest → m' ≡ m → IsKeptFor k' (k ++ rest) → HasNoNewline k' → Answered z b block output m' k'
   rest_kept m' k' h same kept lone =
-      rw (e, same) (rw append-nil at (answered_join s (answered_more m k rest s.lone h k' kept lone)))
+      rw (e, same) (rw append-nil at (answered_join s (answered_more m k rest h k' kept lone)))
 
 -- ---- what became of the sending
 module _ (f f' : Bool) (a b c : Option (List ℕ)) (z : Option Zone) where
@@ -98,14 +99,14 @@ module _ (rf wf : Bool) (n : ℕ) (ra rb rc wa wb wc : Option (List ℕ)) (input
 
   -- the last line stopped the run
   last_stopped : (e : RunError) → StopsAtEnd wf wb wc z rest e → (y : List ℕ) × Appends wa wc y × StopsWith rf wf n e input y
-  last_stopped errors.Write (failed, inl part) = grind (arith, append_assoc, answers_all (part.0 ++ part.1) s part.2)
+  last_stopped errors.Write (failed, inl part) = grind (arith, append_assoc, answers_all (part.0 ++ part.1) (from_start s) part.2)
   last_stopped errors.Write (failed, inr none) = grind (arith, append-nil, begins_answers input [] output [] z rest)
-  last_stopped e stop = grind (arith, append-nil)
+  last_stopped e stop = let first = from_start s in grind (arith, append-nil)
 
   -- the reader ended
   pub reader_ended : (re : Bool) (r : Result (Unit {0}) RunError) → re ≡ true → IsAtEnd rc → Consumes rb rc [] → OnOk r (AnswersAtEnd wf wb wc z rest)
       → IfErr r (StopsAtEnd wf wb wc z rest)
       → (x : List ℕ) × (y : List ℕ) × Consumes ra rc x × Appends wa wc y
       × MatchResult r (λ _. (re ≡ true) × IsAtEnd rc × (rf ≡ false) × (wf ≡ false) × Answers x y) (λ e. StopsWith rf wf n e x y)
-  reader_ended re (Ok u) ended at_end took' ok err = grind (arith, append_assoc, answers_all ok.1.0 s ok.1.1)
+  reader_ended re (Ok u) ended at_end took' ok err = grind (arith, append_assoc, answers_all ok.1.0 (from_start s) ok.1.1)
   reader_ended re (Err e) ended at_end took' ok err = grind (arith, last_stopped e err)

@@ -3,8 +3,7 @@
 ghost use Rattle.std.specs.Prelude.{◌≡◌, ◌<◌, ◌++◌, [], false, length, IfErr, OnErr, OnOk};
 ghost use Rattle.{
   zoneq_lib.specs.Runs.{without_return, HasNoNewline},
-  zoneq_lib.specs.Steps.{LastLine.{AnswersAtEnd, StopsAtEnd}, Blocks.{AnswersIn, StopsIn}, Hopeless.{IsKeptFor}},
-  zoneq_lib.specs.Steps.Replies.{Replies, StopsAt},
+  zoneq_lib.specs.Steps.{Hopeless.{IsKeptFor}, Outcomes.{AnswersAtEnd, AnswersIn, Replies, StopsAt, StopsAtEnd, StopsIn}},
 };
 
 use crate::answer::answer;
@@ -65,7 +64,6 @@ impl Dialogue {
     }
 
     // Answers the lines that end in a block, and keeps what is after them.
-    #[tactic(auto, using(crate::proofs::Stopping::rest_kept))]
     fn answer_lines<W: Write>(
         &mut self,
         writer: &mut Watched<W>,

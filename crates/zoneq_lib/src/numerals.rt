@@ -22,7 +22,7 @@ pub fn seconds(text: &[u8]) -> Result<(i64, &[u8]), BadLine>
 
 /// Returns a number, which may have a minus sign, and the bytes after it. It is at least `-least`
 /// and at most `most`.
-#[tactic(auto, unfolding(crate::specs::Questions::integer))]
+#[tactic(auto, unfolding(crate::specs::Questions::integer, tz_base::specs::Fronts::optional_tag_at))]
 pub fn integer(text: &[u8], least: u64, most: u64) -> Result<(i64, &[u8]), BadLine>
     requires least { least ≤ 2 ^ 63 }
     requires most { most < 2 ^ 63 }

@@ -1,7 +1,7 @@
 //! Bytes written to a writer, and flushed.
 
 ghost use Rattle.std.specs.{Io.KnownBytes.{Appends, Keeps}, Prelude.{◌≡◌, false, take, true, IfErr, OnOk, ℕ}};
-ghost use Rattle.zoneq_lib.specs.Steps.Sending.{IsSentOf};
+ghost use Rattle.zoneq_lib.specs.Steps.Outcomes.{IsSentOf};
 
 use crate::run_error::RunError;
 use crate::watched::Watched;

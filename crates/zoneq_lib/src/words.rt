@@ -1,12 +1,13 @@
 //! Words of a line.
 
-ghost use Rattle.tz_base.specs.Grammar.{Byte};
-ghost use Rattle.zoneq_lib.specs.{Questions.{Begins, Word}, Steps.LineReading.{after_byte, scan, GivesSome, ReadsAs}};
+ghost use Rattle.std.specs.Prelude.{◌≡◌, ◌∷◌, MatchOption};
+ghost use Rattle.tz_base.specs.Grammar.{Byte, Without};
+ghost use Rattle.zoneq_lib.specs.{Questions.{Begins, Word}, Steps.LineReading.{scan, ReadsAs}};
 
 use crate::bad_line::{BadLine, stop};
 
 /// Returns whether a text begins with a word, as its first byte says, and the bytes after the word.
-#[tactic(auto, unfolding(crate::specs::Questions::Begins))]
+#[tactic(auto, unfolding(crate::specs::Questions::Begins, tz_base::specs::Fronts::optional_tag_at))]
 pub fn strip_word<'a>(text: &'a [u8], word: &[u8]) -> Result<(bool, &'a [u8]), BadLine>
     ensures { ReadsAs (λ p. (p.0, p.1.now)) result (scan (Begins word.now) text.now) }
 {
@@ -23,7 +24,7 @@ pub fn strip_word<'a>(text: &'a [u8], word: &[u8]) -> Result<(bool, &'a [u8]), B
 }
 
 // The bytes after these ones.
-#[tactic(auto, unfolding(crate::specs::Questions::Word))]
+#[tactic(auto, unfolding(crate::specs::Questions::Word, tz_base::specs::Fronts::tag_at))]
 fn strip_bytes<'a>(text: &'a [u8], word: &[u8]) -> Result<&'a [u8], BadLine>
     ensures { ReadsAs (λ rest. (tt, rest.now)) result (scan (Word word.now) text.now) }
 {
@@ -38,9 +39,8 @@ fn strip_bytes<'a>(text: &'a [u8], word: &[u8]) -> Result<&'a [u8], BadLine>
 }
 
 /// Returns the bytes after that one, if a text begins with it.
-#[tactic(auto, unfolding(crate::specs::Steps::LineReading::after_byte))]
 pub fn strip_byte(text: &[u8], byte: u8) -> Option<&[u8]>
-    ensures { GivesSome (λ rest. rest.now) result (after_byte byte text.now) }
+    ensures { MatchOption result (Without byte text.now) (λ rest. text.now ≡ byte ∷ rest.now) }
 {
     match text.split_first() {
         Some((first, rest)) => if byte == *first { Some(rest) } else { None },
@@ -49,6 +49,7 @@ pub fn strip_byte(text: &[u8], byte: u8) -> Option<&[u8]>
 }
 
 /// Returns the bytes after that one, which must come.
+#[tactic(auto, unfolding(tz_base::specs::Fronts::tag_at))]
 pub fn expect_byte(text: &[u8], byte: u8) -> Result<&[u8], BadLine>
     ensures { ReadsAs (λ rest. (tt, rest.now)) result (scan (Byte byte) text.now) }
 {

@@ -82,12 +82,8 @@ zone_parts designations z = record {
 }
 
 -- parts laid end to end, and the rest
-abbrev pub in_order : List (List ℕ) → List ℕ → List ℕ
-in_order [] rest = rest
-in_order (part ∷ parts) rest = part ++ in_order parts rest
-
 abbrev pub block_bytes : Parts → List ℕ → List ℕ
-block_bytes p rest = in_order (p.times ∷ p.type_indexes ∷ p.types ∷ p.designations ∷ p.leap_seconds ∷ p.standard_wall ∷ p.ut_local ∷ []) rest
+block_bytes p rest = p.times ++ (p.type_indexes ++ (p.types ++ (p.designations ++ (p.leap_seconds ++ (p.standard_wall ++ (p.ut_local ++ rest))))))
 
 -- ---- the whole
 unfoldable pub first_half : Bool → List ℕ

@@ -31,15 +31,12 @@ has_place designations t =
 abbrev pub have_places : List ℕ → List LocalType → Bool
 have_places designations types = list_all (has_place designations) types
 
--- a text of seven bytes at place 255, and its 0 byte
-abbrev pub room : ℕ
-room = 263
-
--- the text and a 0 byte are put at the end, unless the text is there already, or there is no room for it
+-- the text and a 0 byte are put at the end, unless the text is there already, or there is no room for it: a text of seven bytes at
+-- place 255 and its 0 byte end at 263
 unfoldable pub with_text : List ℕ → List ℕ → List ℕ
 with_text designations text =
     if nat_lt (place_of text designations) (length designations) then designations
-    else (if nat_lt (length designations + length text) room then designations ++ (text ++ 0 ∷ []) else designations)
+    else (if nat_lt (length designations + length text) 263 then designations ++ (text ++ 0 ∷ []) else designations)
 
 -- the text is the end of the last one
 abbrev pub ends : List ℕ → List ℕ → Bool

@@ -21,30 +21,21 @@ spelled_seconds s = if s == 0 then [] else spelled_pair s
 abbrev pub spelled_minutes : ℕ → ℕ → List ℕ
 spelled_minutes m s = if (m == 0) && (s == 0) then [] else spelled_pair m ++ spelled_seconds s
 
-abbrev pub spelled_hands : ℕ → ℕ → ℕ → List ℕ
-spelled_hands h m s = decimal h ++ spelled_minutes m s
-
 -- that many seconds, as hours, minutes and seconds
 unfoldable pub spelled_clock : ℕ → List ℕ
-spelled_clock n = spelled_hands (n / 3600) (n / 60 % 60) (n % 60)
+spelled_clock n = decimal (n / 3600) ++ spelled_minutes (n / 60 % 60) (n % 60)
 
 -- with a minus in front, or with nothing
 abbrev pub spelled_signed : Bool → ℕ → List ℕ
 spelled_signed negative n = if negative then minus ∷ spelled_clock n else spelled_clock n
 
-abbrev pub is_positive : ℤ → Bool
-is_positive z = int_lt (pos 0) z
-
-abbrev pub is_negative : ℤ → Bool
-is_negative z = int_lt z (pos 0)
-
 -- an offset east of UTC has a minus
 unfoldable pub spelled_offset : ℤ → List ℕ
-spelled_offset east = spelled_signed (is_positive east) (unsigned_abs east)
+spelled_offset east = spelled_signed (int_lt (pos 0) east) (unsigned_abs east)
 
 -- a time before midnight has one
 unfoldable pub spelled_time : ℤ → List ℕ
-spelled_time time = spelled_signed (is_negative time) (unsigned_abs time)
+spelled_time time = spelled_signed (int_lt time (pos 0)) (unsigned_abs time)
 
 -- the time after a date, left out at 2 o'clock
 abbrev pub time_after : ℤ → List ℕ

@@ -79,6 +79,7 @@ pub fn written_file_read()
 }
 
 /// A zone that some file spells, of whatever version, can be written.
+#[tactic(auto, using(crate::proofs::FileWritten::writable))]
 pub fn every_file()
     ensures { (bytes : List ℕ) (z : Zone) → AreBytes bytes → IsTzFile bytes z → IsWritable z }
 {}

@@ -1,4 +1,4 @@
-use Rattle.zoneq_lib.proofs.{CitedWords.{append_assoc, arith}, Joining.{answered_join}, Stopping.{block_stopped, reader_ended}}
+use Rattle.zoneq_lib.proofs.{CitedWords.{append_assoc, arith}, Joining.{answered_join, from_start}, Stopping.{block_stopped, reader_ended}}
 use Rattle.zoneq_lib.proofs.runs.answer_all.Goals as goal
 
 pub loop-preserved : goal.loop-preserved
@@ -20,7 +20,7 @@ returns-in-Ok-eq0-clause-answers g c =
 
 -- the count of reads was used up
 pub returns-clause-answers : goal.returns-clause-answers
-returns-clause-answers g c = grind arith
+returns-clause-answers g c = let s = from_start c.loop.invariant.answered.4 in grind arith
 
 pub returns-clause-sent : goal.returns-clause-sent
 returns-clause-sent g c = tt
