@@ -57,17 +57,11 @@ nearest_ahead w f begin s _ _ _ e = nearest_moved w f f _ (λ u. (begin <ℤ u) 
     (λ d is k. (is, (in_ahead w _ s _ _ _ is.fits e).1 k))
     (λ d is k. (is, (in_ahead w _ s _ _ _ is.fits e).0 k))
 
--- the seconds of a stretch are ahead of its near end, and so are those before a second of it
-ahead_within : (w : Bool) (after last u : ℤ) → IsInStretch after last u → IsAhead w (near_end w after last) u
-ahead_within w after last u k = grind linear
-
 -- the nearest change ahead of a stretch's near end is its nearest one, if it lies in it
 pub nearest_within : (w : Bool) (f : InForce) (after last : ℤ) (found r : Option Change) → IsNearest w f (IsAhead w (near_end w after last)) found
     → MatchOption r (IfSome found (λ c. IsInStretch after last c.at → ⊥)) (λ c. IsInStretch after last c.at × (found ≡ Some c))
     → IsNearest w f (IsInStretch after last) r
-nearest_within w f after _ None None h out = grind (linear, ahead_within)
-nearest_within w f after last (Some c) None h out = λ d is k. grind arith
-nearest_within w f after last found (Some c) h within = grind arith
+nearest_within p0 p1 p2 p3 p4 p5 p6 p7 = grind linear
 
 -- an empty stretch has none
 pub none_in_empty : (f : InForce) (after last : ℤ) → last ≤ℤ after → HasNoChange f (IsInStretch after last)
@@ -81,12 +75,9 @@ IsOnce f = (u : ℤ) (s t : LocalType) → f u s → f u t → s ≡ t
 abbrev one_change : ℤ → LocalType → LocalType → Change
 one_change at before after = record { at = at; before = before; after = after }
 
-the_same : (u v : ℤ) (a b s t : LocalType) → u ≡ v → a ≡ b → s ≡ t → one_change u a s ≡ one_change v b t
-the_same u v a b s t e g h = cc
-
 -- changes at one second are one
 pub apart : (f : InForce) → IsOnce f → (c d : Change) → IsChange f c → IsChange f d → c.at ≡ d.at → c ≡ d
-apart f once c d h k at = grind (linear, the_same, at)
+apart f once c d h k at = grind (linear, at)
 
 pub change_made : (f : InForce) (second : ℤ) (s t : LocalType) (r : Option Change) → IsOnce f → SFits w64 second → SFits w64 (second -ℤ pos 1)
     → f (second -ℤ pos 1) s → f second t

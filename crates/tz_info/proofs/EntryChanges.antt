@@ -37,9 +37,7 @@ index_there e u rising =
 -- n entries have come if the last of them has and the next one hasn't
 pub count_here : (ts : List Transition) (u : ℤ) (n : ℕ) → AreRising ts → n ≤ length ts → (0 < n → entry_time ts (n - 1) ≤ℤ u)
     → (n < length ts → u <ℤ entry_time ts n) → n ≡ length (passed ts u)
-count_here ts u n rising within since until =
-    let b = come_by_time ts u (n - 1) any rising in
-    let a = come_by_time ts u n any rising in grind (linear, place_most)
+count_here ts u n rising within since until = let a = come_by_time ts u n any rising in grind (linear, place_most, come_by_time, any)
 
 pub begin_at : (ts : List Transition) (k : ℕ) (d : Transition) → 0 < k → k ≤ length ts → (get_or ts (k - 1) d).unix_leap_time ≡ begin_of ts k
 begin_at ts k d some within = grind (linear, begin_next)
@@ -270,10 +268,9 @@ pub stretch_between : (z : Zone) (e : Entries) (u v : ℤ) (b : Between) (t : Lo
     → HasType z b.index t → b.from ≤ℤ v → v <ℤ b.until → TypeAt z v t
 stretch_between z e u v b t valid made h low high has from until =
     let c = come_by_time e.items v h.place any made.rising h.some in
-    let f = come_from e.items h.place v made.rising in
     let (x, l) = made.leap_time h.place h.some in
     let (y, m) = earlier_time z e valid made v _ x (omega linear) l in
-    type_amid z e valid made v y h.place t (omega linear) m (grind linear) (omega arith) (grind linear)
+    type_amid z e valid made v y h.place t (omega linear) m (grind (linear, come_from)) (omega arith) (grind (linear, come_from))
 
 pub span_between : (z : Zone) (e : Entries) (u : ℤ) (b : Between) (t : LocalType) → IsValid z → AreEntries z e → IsBetween e u b → IsTrue b.is_span
     → SFits w64 u → SFits w64 b.from → SFits w64 b.until

@@ -105,17 +105,16 @@ hints_made times hints first span most marked ordered many shift from is long m 
       rising = grind (linear, raised_rising);
       places = λ b h.
           let (j, j_le, same) = r.some b (omega arith) in
-          let at = in_stretch first (item_time times (slice_index marked j)) hints.shift b in
           rw (← from, same) (record {
-            within = grind linear;
-            before = λ l. grind (arith, first_least times first ordered from);
+            within = grind (linear, in_stretch);
+            before = λ l. grind (arith, first_least times first ordered from, in_stretch);
             after = λ k l n.
                 let in_k = in_stretch first (item_time times k) hints.shift b (first_least times first ordered from k n) in
                 elim (cases_lt (stretch_of first (item_time times k) hints.shift) b) [
                   | inl lt ↦ grind (arith, m.latest k n, r.above b (suc (stretch_of first (item_time times k) hints.shift)))
-                  | inr ge ↦ grind linear
+                  | inr ge ↦ grind (linear, in_stretch)
                 ];
           });
       some = λ h. many;
-      narrow = grind (linear, m.of_item);
+      narrow = grind (linear, m.of_item, in_stretch);
     }

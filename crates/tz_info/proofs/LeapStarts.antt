@@ -37,9 +37,7 @@ module _ (es : List LeapSecond) (d : LeapSecond) (valid : AreLeapSeconds es) whe
 
   -- an entry is passed if and only if its time has come with the correction before it
   pub passed_when : (u : ℤ) (k : ℕ) → k < length es → (k < passed_count es u) ↔ (((get_or es k d).unix_leap_time -ℤ correction_after es k) ≤ℤ u)
-  passed_when u k h =
-      let s = split (pos 0) u es k (follow es valid) h in
-      let t = threshold_at (pos 0) es k d (pos 0) h in grind linear
+  passed_when u k h = let t = threshold_at (pos 0) es k d (pos 0) h in grind (linear, split, follow)
 
   -- fewer entries are passed at u than come by x
   below_law : (x u y : ℤ) (n : ℕ) → HaveCome es x n → IsLeapTime es u y → passed_count es u < n → y <ℤ x
@@ -63,11 +61,10 @@ module _ (es : List LeapSecond) (d : LeapSecond) (valid : AreLeapSeconds es) whe
       → (x ≤ℤ y) ↔ ((((get_or es (n - 1) d).unix_leap_time -ℤ correction_after es (n - 1)) ≤ℤ u) × ((x -ℤ correction_after es n) ≤ℤ u))
   reached_later x u y n h some l =
       let w = h.within in
-      let p = passed_when u (n - 1) (omega arith) in
       let b = below_law x u y n h l in
       let a = above_law x u y n (passed_count es u - 1) h l in
       let c = above_start x u n h in
-      elim (cases_lt n (passed_count es u)) [ inl more ↦ grind linear | inr most ↦ grind linear ]
+      elim (cases_lt n (passed_count es u)) [ inl more ↦ grind (linear, passed_when) | inr most ↦ grind (linear, passed_when) ]
 
 -- if none has come, the leap time is reached at the same number
 pub reached_first : (es : List LeapSecond) (x u y : ℤ) → AreLeapSeconds es → HaveCome es x 0 → IsLeapTime es u y → (x ≤ℤ y) ↔ (x ≤ℤ u)

@@ -1,9 +1,9 @@
 -- The numbers of a text's or a file's rule are in their limits, and a text's zone is valid.
 use Rattle.tz_info.proofs.{
-  TextFits.{text_rule_fits},
-  TextLaws.{text_ends},
-  Words.{Bool, IsPosixZone, IsRuleOrNone, IsTzFile, IsTzText, IsValid, List, None, Option, Some, Spells, TransitionRule, Zone, arith, inl, inr, trimmed, ℕ},
-  ZoneLaws.{zone_of_rule_valid},
+  TextFits.text_rule_fits,
+  TextLaws.text_ends,
+  Words.{Bool, IsPosixZone, IsRuleOrNone, IsTzFile, IsTzText, IsValid, List, None, Option, Some, Spells, TransitionRule, Zone, arith, trimmed, ℕ},
+  ZoneLaws.zone_of_rule_valid,
 }
 use Rattle.tz_info.specs.{Footers.{footer, footer_text, optional_footer}, TzFiles.{contents, tz_file}}
 
@@ -18,9 +18,7 @@ IsOfText extended None = Unit {0}
 
 in_text : (extended : Bool) (bytes : List ℕ) (r : Option TransitionRule) (rest : List ℕ) → Spells (footer_text extended) bytes r rest → IsOfText extended r
 unfolding footer_text
-in_text extended bytes r rest (_, text, _, inl none) = rw none.1.0 tt
-in_text extended bytes r rest (_, text, _, inr (_, (rule, after, spelled, (is, _)))) =
-    rw is (text, rw (text_ends extended text rule after spelled) at spelled)
+in_text p0 p1 p2 p3 p4 = grind (arith, text_ends)
 
 pub in_footer : (extended : Bool) (footer : Option (List ℕ)) (bytes : List ℕ) (r : Option TransitionRule) (rest : List ℕ)
     → Spells (optional_footer extended footer) bytes r rest → IsOfText extended r

@@ -15,9 +15,8 @@ module _ (z : Zone) (e : Entries) (rule : TransitionRule) (k : ℕ) (valid : IsV
   all_come : (u : ℤ) → begin_of e.items k ≤ℤ u → SFits w64 u → (0 < length z.transitions → (x : ℤ) × IsLeapTime z.leaps u x)
       → segment_of z u ≡ length z.transitions
   all_come u from fits time =
-      let most = segment_most z u valid.transitions.rising in
       let same = same_table z e valid made u fits time in
-      grind (arith, come_by)
+      grind (arith, come_by, segment_most)
 
   to_rule : (u : ℤ) (t : LocalType) → begin_of e.items k ≤ℤ u → SFits w64 u → TypeAt z u t → RuleAt rule u t
   to_rule u t from fits here =

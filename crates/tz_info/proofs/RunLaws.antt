@@ -2,10 +2,9 @@
 use Rattle.std.specs.Prelude.{IfSome, if◌then◌else◌}
 use Rattle.tz_base.specs.declared.span.Span.{Span}
 use Rattle.tz_info.proofs.{
-  SpanLaws.{since_more},
   Words.{Bool, HaveOneTypeFrom, IsNear, IsNextRun, IsOutOfForce, IsRunUntil, LocalType, None, Option, Some, TypeAt, Zone, false, linear, pos, true, ℤ, ◌-ℤ◌},
   Words.{◌<ℤ◌, ◌↔◌, ◌≡◌, ◌≤ℤ◌},
-  ZoneLaws.{type_once},
+  ZoneLaws.type_once,
 }
 use Rattle.tz_info.specs.Spans.{IsInSpan, IsSince, IsSpan, IsSpanAt, IsUntil}
 
@@ -46,7 +45,7 @@ run_until z s at limit end near near_limit ahead here ends =
       most = grind linear;
       same = λ u from until t k.
           let (before, within) = (ends u).0 until in
-          rw (← its t k) (here.span.each u (record { fits = omega linear; since = grind (linear, since_more); until = within }));
+          rw (← its t k) (here.span.each u (record { fits = omega linear; since = grind linear; until = within }));
       turns = λ less t k l. turned z _ limit end _ here.span.ends ends less (rw (← its t k) at l);
     }
 

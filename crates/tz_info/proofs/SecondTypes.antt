@@ -83,9 +83,7 @@ IsListed f u listed = ((listed ≡ []) × HasNoChange f (λ v. v ≡ u)) ⊎ ((c
 between_types : (f : InForce) (u : ℤ) (s t : Option LocalType) → IsOnce f → SFits w64 u → SFits w64 (u -ℤ pos 1)
     → MatchOption s ((x : LocalType) → f (u -ℤ pos 1) x → ⊥) (f (u -ℤ pos 1)) → MatchOption t ((x : LocalType) → f u x → ⊥) (f u)
     → IsListed f u (change_between u s t)
-between_types f u None t once fits fits_before h k = inl (refl, none_before f u h)
-between_types f u (Some s) None once fits fits_before h k = inl (refl, none_here f u k)
-between_types f u (Some s) (Some t) once fits fits_before h k = grind (arith, type_exact)
+between_types p0 p1 p2 p3 p4 p5 p6 p7 p8 = grind (linear, none_before, none_here, type_exact)
 
 pub here_listed : (f : InForce) (types : ℤ → Option LocalType) (u : ℤ) → IsOnce f → AreTypes f types → IsListed f u (change_here types u)
 here_listed f _ u once told = grind (linear, between_types, second_true)

@@ -100,8 +100,7 @@ module _ (bytes : List ℕ) (p : FilePieces) (after : List ℕ) (is : read file 
   -- whether the lists make a valid zone
   module _ (lists : Zone) (rest : List ℕ) (says : read (contents p) after ≡ Ok (lists, rest)) where
     pub lists_fault : (e : Error) (left : List ℕ) → ListFault lists e × ¬ (IsValid lists) → IsListPlace p left → IsFaultAt bytes e left
-    lists_fault e left fault place =
-        let file = contents_file lists rest says in let has = has_pieces bytes p after is in grind (linear, Not_valid, In_lists)
+    lists_fault e left fault place = let file = contents_file lists rest says in grind (linear, Not_valid, In_lists, has_pieces)
 
     module _ (valid : IsValid lists) (r : Result TimeZone Error) (made : MatchResult r (λ z. z ≡ lists) (λ e. e ≡ OutOfMemory)) where
       pub made_found : IfOk r (λ z. IsTzFile bytes z × IsValid z)

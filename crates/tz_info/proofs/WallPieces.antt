@@ -109,9 +109,8 @@ module _ (b : Shown) (ps : List Piece) (l : ℤ) (n : ℕ) (passed : ArePassed (
     | inl h ↦
         let (x, is, at) = latest.some h in
         let e : n ≡ suc (n - 1) = omega arith in
-        let taken = last_taken (λ (q : Piece). q.answer) b ps (n - 1) x in
-        let begun = rw e at started in grind (arith, length-map, passed.within)
-    | inr g ↦ grind (arith, latest.none)
+        let begun = rw e at started in grind (arith, length-map, passed.within, last_taken)
+    | inr g ↦ grind (arith, latest.none, last_taken)
   ]
 
 -- ---- in one pass

@@ -182,14 +182,13 @@ module _ {z : Zone} {ts : List Transition} {top k : ℕ} {s : Segment} (table : 
       → ArePieces z ts k (suc k) (Skipped k) (piece (cut_of ts k s.offset) (Once s.index) ∷ piece (cut_of ts (suc k) s.offset) Less ∷ [])
   inner_pieces later n =
       let rise = begins_rise ts _ table.rising later n in
-      let order : cut_of ts k s.offset ≤ℤ cut_of ts (suc k) s.offset = saturated_rise _ _ (omega linear) in
       record {
-        ordered = grind linear;
-        most = grind (arith, opening_none);
-        some = grind arith;
+        ordered = grind (linear, saturated_rise);
+        most = grind (arith, opening_none, saturated_rise);
+        some = grind (arith, saturated_rise);
         answers = λ l wide. by_lt_z l (cut_of ts k s.offset)
-            (λ before. grind (linear, le_false, shown_before l wide))
-            (λ from. grind (linear, le_false, le_true, shown_inside l wide, shown_after l wide));
+            (λ before. grind (linear, le_false, shown_before l wide, saturated_rise))
+            (λ from. grind (linear, le_false, le_true, shown_inside l wide, shown_after l wide, saturated_rise));
       }
 
 -- ---- the types of indexes

@@ -11,9 +11,6 @@ use Rattle.tz_info.proofs.{
 use Rattle.tz_info.specs.{Steps.SegmentEnds.IsLatestEnd, Steps.Since.IsReachedSince}
 use Rattle.tz_info.proofs.zone.time_zone.TimeZone.reached_at.Goals as goal
 
-pub reached_since-reached-requires-clause-order : goal.reached_since-reached-requires-clause-order
-reached_since-reached-requires-clause-order c = grind (linear, fits, begun_by)
-
 -- from the begin of the segment on
 since : (c : After-latest_end-end)
     → IsReachedSince (TypeAt c.args.self.now) (begin_of c.self.inside.changes.items c.count-place.result) c.args.second (to_z w64 c.match-rule_at.reached-bits)
