@@ -1,9 +1,9 @@
 -- The first and the last change among seconds, and in a stretch.
 use Rattle.std.specs.Bool.{Decides}
 use Rattle.tz_info.proofs.{
-  Words.{Bool, Change, HasNoChange, IfSome, IsAhead, IsChange, IsIdle, IsInStretch, IsNearest, IsOneOf, IsStretchAhead, List, LocalType, MatchOption, None},
-  Words.{Option, SFits, Some, arith, false, get_or, inl, inr, linear, near_end, nearer_one, pos, refl, suc, true, type_exact, unsigned_abs, w64, zero, ℕ, ℤ},
-  Words.{◌+ℤ◌, ◌+◌, ◌-ℤ◌, ◌<ℤ◌, ◌↔◌, ◌≡◌, ◌≢◌, ◌≤ℤ◌, ◌⊎◌},
+  Words.{Bool, Change, HasNoChange, IfSome, IsAhead, IsChange, IsIdle, IsInStretch, IsNearest, IsOneOf, IsStretchAhead, List, LocalType, MatchOption, Option},
+  Words.{SFits, Some, arith, false, get_or, inl, inr, linear, near_end, nearer_one, pos, suc, true, type_exact, unsigned_abs, w64, zero, ℕ, ℤ, ◌+ℤ◌, ◌+◌, ◌-ℤ◌},
+  Words.{◌<ℤ◌, ◌↔◌, ◌≡◌, ◌≢◌, ◌≤ℤ◌, ◌⊎◌},
 }
 
 abbrev pub InForce : Type 1
@@ -83,8 +83,7 @@ pub change_made : (f : InForce) (second : ℤ) (s t : LocalType) (r : Option Cha
     → f (second -ℤ pos 1) s → f second t
     → MatchOption r (s ≡ t) (λ c. (s ≢ t) × (c ≡ record { at = second; before = s; after = t }))
     → MatchOption r (HasNoChange f (λ u. u ≡ second)) (λ c. IsChange f c × (c.at ≡ second))
-change_made f _ s t None once fits fits_before h k e = grind arith
-change_made f second s t (Some c) once fits fits_before h k e = grind linear
+change_made p0 p1 p2 p3 p4 p5 p6 p7 p8 p9 p10 = grind linear
 
 -- no type is in force a second before, or at the second
 pub none_before : (f : InForce) (second : ℤ) → ((t : LocalType) → f (second -ℤ pos 1) t → ⊥) → HasNoChange f (λ u. u ≡ second)
@@ -99,8 +98,7 @@ abbrev pub Typed : InForce → ℤ → Type 0
 Typed f u = (t : LocalType) × f u t
 
 pub decided : (P : Type 0) (b : Bool) → Decides b P → P ⊎ (P → ⊥)
-decided P true d = inl (d.0 refl)
-decided P false d = grind linear
+decided p0 p1 p2 = grind linear
 
 -- from one second to the next
 pub stays : (f : InForce) (u v : ℤ) (t : LocalType) → SFits w64 u → SFits w64 v → u ≤ℤ v → HasNoChange f (λ w. (u <ℤ w) × (w ≤ℤ v))

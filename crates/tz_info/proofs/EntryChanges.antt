@@ -186,17 +186,13 @@ module _ (z : Zone) (e : Entries) (valid : IsValid z) (made : AreEntries z e) wh
   found w s k c h is at ahead near = grind (linear, in_table, table_change)
 
   pub with_entry : (k : ℕ) (r : Option Change) → k < length e.items → k + 1 < e.all → IsEntryChange z.types e.items k r → IsChangeWith z e k r
-  with_entry k None h more least = grind linear
-  with_entry k (Some c) h more is = record { change = grind (linear, entry_change); none = grind linear }
+  with_entry p0 p1 p2 p3 p4 = grind (linear, entry_change)
 
   -- the entries ahead of the second
   ahead_by : (w : Bool) (s : ℤ) (j : ℕ) → j < length e.items
       → IsAhead w s (time_at e j) ↔ IsLeftAt w (length e.items) (count_ahead w (length e.items) (count_at e s)) j
   ahead_by true s j h = let r = come_by j s h in grind linear
   ahead_by false s j h = grind (linear, come_by)
-
-  left_first : (w : Bool) (s : ℤ) (left : ℕ) → left ≡ count_ahead w (length e.items) (count_at e s) → AreLeft z e w s left
-  left_first w s left is = grind (linear, ahead_by)
 
   left_none : (w : Bool) (s : ℤ) → AreLeft z e w s 0 → HasNoChange (TypeAt z) (IsInTable z (IsAhead w s))
   left_none true s left = grind (linear, table_change)
@@ -245,13 +241,13 @@ module _ (z : Zone) (e : Entries) (valid : IsValid z) (made : AreEntries z e) wh
 
   pub first_found : (w : Bool) (s : ℤ) (left : ℕ) (c : Change) → left ≡ count_ahead w (length e.items) (count_at e s)
       → IsAheadChange z e w left (Some c) → IsNearestChange w (TypeAt z) (IsInTable z (IsAhead w s)) c
-  first_found w s left c is one = found_with w s left c (left_first w s left is) one
+  first_found w s left c is one = found_with w s left c (grind (linear, ahead_by)) one
 
   pub second_found : (w : Bool) (s : ℤ) (left : ℕ) (r : Option Change) → SFits w64 s → left ≡ count_ahead w (length e.items) (count_at e s)
       → IsAheadChange z e w left None → IsAheadChange z e w (left - 1) r → IsNearest w (TypeAt z) (IsInTable z (IsAhead w s)) r
-  second_found w s left (Some c) fits is none two = found_with w s (left - 1) c (grind (linear, left_less, left_first)) two
+  second_found w s left (Some c) fits is none two = found_with w s (left - 1) c (grind (linear, left_less, ahead_by)) two
   second_found w s left None fits is none two =
-      few_left w s left fits is none two (left_less w s (left - 1) (grind (linear, left_less, left_first)) two)
+      few_left w s left fits is none two (left_less w s (left - 1) (grind (linear, left_less, ahead_by)) two)
 
 -- ---- between two entries
 pub index_below : (z : Zone) (e : Entries) (k : ℕ) → IsValid z → AreEntries z e → k ≤ length e.items → index_of e.items k < length z.types

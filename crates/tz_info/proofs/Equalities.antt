@@ -58,6 +58,5 @@ shown_seconds_exact a b =
 
 pub difference_exact : IsExact difference_eq.it
 difference_exact a b =
-    let until = second_exact a.until b.until in
     let old = type_exact a.old b.old in
     let new = type_exact a.new b.new in grind (arith, second_exact)

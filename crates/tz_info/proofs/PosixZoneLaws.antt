@@ -2,7 +2,7 @@
 use Rattle.tz_info.proofs.{
   TextFits.text_rule_fits,
   TextLaws.text_ends,
-  Words.{Bool, IsPosixZone, IsRuleOrNone, IsTzFile, IsTzText, IsValid, List, None, Option, Some, Spells, TransitionRule, Zone, arith, trimmed, ℕ},
+  Words.{Bool, IsPosixZone, IsRuleOrNone, IsTzFile, IsTzText, IsValid, List, None, Option, Some, Spells, TransitionRule, Zone, arith, ℕ},
   ZoneLaws.zone_of_rule_valid,
 }
 use Rattle.tz_info.specs.{Footers.{footer, footer_text, optional_footer}, TzFiles.{contents, tz_file}}
@@ -23,12 +23,10 @@ in_text p0 p1 p2 p3 p4 = grind (arith, text_ends)
 pub in_footer : (extended : Bool) (footer : Option (List ℕ)) (bytes : List ℕ) (r : Option TransitionRule) (rest : List ℕ)
     → Spells (optional_footer extended footer) bytes r rest → IsOfText extended r
 unfolding optional_footer footer
-in_footer extended None bytes r rest h = rw h.0 tt
-in_footer extended (Some bytes) _ r rest (_, (_, _, _, (_, _, _, (_, _, _, (_, text, _)))), _) = in_text extended (trimmed bytes) r _ text
+in_footer p0 p1 p2 p3 p4 p5 = grind (arith, in_text)
 
 rule_fits : (extended : Bool) (r : Option TransitionRule) → IsOfText extended r → IsRuleOrNone r
-rule_fits extended None h = tt
-rule_fits extended (Some rule) h = text_rule_fits extended h.0 rule h.1
+rule_fits p0 p1 p2 = grind (arith, text_rule_fits)
 
 pub file_rule_fits : (bytes : List ℕ) (zone : Zone) → IsTzFile bytes zone → IsRuleOrNone zone.rule
 unfolding tz_file contents

@@ -9,7 +9,7 @@ use Rattle.tz_info.proofs.{
   Words.{All-contains, AllPairs-cons, Alternate as AlternateRule, AreUtOffsets, Bool, Contains, Contains-append_right, IsAskedAt, IsAskedAtEach},
   Words.{IsAskedAtLeapTime, IsAskedFor, IsAskedFrom, IsAskedSince, IsByRuleFor, IsLeapTime, IsNear, IsSecondFrom, IsStart, IsValid, IsWide, IsWindow},
   Words.{LocalType, None, Option, Some, Transition, TransitionRule, Zone, [], arith, false, get_or, inl, inr, length, linear, not, offsets, offsets_of, refl},
-  Words.{rule_offsets, suc, sym, true, type_when, zero, ℕ, ℤ, ⊎_elim, ◌+◌, ◌-ℤ◌, ◌<ℤ◌, ◌<◌, ◌↔◌, ◌∙◌, ◌∷◌, ◌≡◌, ◌≢◌, ◌≤ℤ◌, ◌⊎◌},
+  Words.{rule_offsets, sym, true, type_when, ℕ, ℤ, ⊎_elim, ◌+◌, ◌-ℤ◌, ◌<ℤ◌, ◌<◌, ◌↔◌, ◌∙◌, ◌∷◌, ◌≡◌, ◌≢◌, ◌≤ℤ◌, ◌⊎◌},
   ZoneLaws.same_passed,
 }
 use Rattle.tz_info.specs.{Questions.{IsByRule}, declared.rule.transition_rule.TransitionRule.TheVariants.{Alternate, Fixed}}
@@ -57,8 +57,7 @@ module _ (z : Zone) (rule : TransitionRule) (start l : ℤ) (valid : IsValid z) 
   }
 
 in_one : (a u : ℤ) → Contains (a ∷ []) u → u ≡ a
-in_one a u (zero, h, e) = sym e
-in_one a u (suc k, h, e) = absurd (omega arith)
+in_one p0 p1 p2 = grind linear
 
 pub in_two : (a b u : ℤ) → Contains (a ∷ b ∷ []) u → (u ≡ a) ⊎ (u ≡ b)
 in_two p0 p1 p2 p3 = grind linear
@@ -96,8 +95,7 @@ two_seconds asks c d p q r other both j k = asked_more _ c p q r j (one_second (
 -- ---- those of a rule
 asked_since : (rule : TransitionRule) (from l o : ℤ) (p q : ℕ) → Contains (rule_offsets (Some rule)) o → IsAskedSince from (l -ℤ o) p q
     → IsAskedIf (IsSecondFrom rule from l) (l -ℤ o) p q
-asked_since rule from l o p q of_rule (inl (since, e)) = grind linear
-asked_since rule from l o p q of_rule (inr (early, e)) = grind linear
+asked_since p0 p1 p2 p3 p4 p5 p6 p7 = grind linear
 
 pub asked_fixed : (f : LocalType) (from l : ℤ) (p q : ℕ) → IsAskedSince from (l -ℤ f.offset) p q → IsAskedFrom (Fixed f) from l p q
 asked_fixed f _ l p q asked = one_second _ _ p q

@@ -1,8 +1,8 @@
 -- Each year has one day that is the rule's, and the closed form finds it.
 use Rattle.tz_info.proofs.{
-  Words.{DayForm, IsDayOf, IsRuleDay, IsWeekdayInWeek, LiesIn, ap, arith, closed_day, closed_day_is, date_lies, day_number, days_at_least, days_at_most},
-  Words.{days_in_year, floors, is_leap, julian_is, leap_at_most, months_all, months_step, number_after, pos, rule_day, starts_rise, sym, weekday_at},
-  Words.{weekday_below, weekday_is, weekday_place, year_start, year_step, ℕ, ℤ, ◌+ℤ◌, ◌+◌, ◌<ℤ◌, ◌<◌, ◌∙◌, ◌≡◌, ◌≤ℤ◌, ◌≤◌},
+  Words.{DayForm, IsDayOf, IsRuleDay, LiesIn, ap, arith, closed_day, closed_day_is, date_lies, day_number, days_at_least, days_at_most, days_in_year, floors},
+  Words.{is_leap, julian_is, leap_at_most, months_all, months_step, number_after, pos, rule_day, starts_rise, sym, weekday_at, weekday_below, weekday_is},
+  Words.{weekday_place, year_start, year_step, ℕ, ℤ, ◌+ℤ◌, ◌+◌, ◌<ℤ◌, ◌<◌, ◌∙◌, ◌≡◌, ◌≤ℤ◌, ◌≤◌},
 }
 use Rattle.tz_info.specs.declared.rule.day.DayForm.TheVariants.{Julian0, Julian1, MonthWeekday}
 
@@ -11,14 +11,11 @@ pub after_december : (year : ℤ) → day_number year 12 32 ≡ year_start year 
 unfolding day_number
 after_december year = omega (arith, floors, months_step (is_leap year) 12 (omega arith), months_all year)
 
-one_weekday : (year : ℤ) (month week weekday a b : ℕ) → week ≤ 5 → IsWeekdayInWeek year month week weekday a → IsWeekdayInWeek year month week weekday b → a ≡ b
-one_weekday year month week _ a b most h k = grind (arith, weekday_at, weekday_below)
-
 pub one_rule_day : (form : DayForm) (year a b : ℤ) → IsRuleDay form → IsDayOf form year a → IsDayOf form year b → a ≡ b
 one_rule_day (Julian1 n) year a b fits h k = h.3 ∙ sym (julian_is year n h.0 h.1 h.2) ∙ julian_is _ n k.0 k.1 k.2 ∙ sym k.3
 one_rule_day (Julian0 n) year a b fits h k = h ∙ sym k
 one_rule_day (MonthWeekday month week weekday) year a b fits h k =
-    h.2 ∙ ap (day_number year _) (one_weekday _ _ _ _ h.0 k.0 fits.3 h.1 k.1) ∙ sym k.2
+    h.2 ∙ ap (day_number year _) (grind (arith, weekday_at, weekday_below)) ∙ sym k.2
 
 pub rule_day_is : (form : DayForm) (year : ℤ) → IsRuleDay form → IsDayOf form year (rule_day form year)
 unfolding rule_day

@@ -51,5 +51,4 @@ run_until z s at limit end near near_limit ahead here ends =
 
 -- the first second of a near interval, or its last one, is near
 pub near_end : (forward : Bool) (low high : ℤ) → IsNear low → IsNear high → low <ℤ high → IsNear (if forward then low else high -ℤ pos 1)
-near_end true low _ near_low near_high some = near_low
-near_end false low high near_low near_high some = grind linear
+near_end p0 p1 p2 p3 p4 p5 = grind linear

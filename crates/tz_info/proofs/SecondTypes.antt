@@ -32,12 +32,10 @@ all_false cs u (suc n) k l out = elim (fits_or_not (u +ℤ get_or cs n (pos 0)))
 
 -- ---- a zone's type, or why it has none
 itself : (P : Type 0) (o : Option LocalType) (t : LocalType) → o ≡ Some t → MatchOption o P (λ s. o ≡ Some s)
-itself P None t h = absurd cc
-itself P (Some s) t h = refl
+itself p0 p1 p2 p3 = grind linear
 
 moved : (P R : Type 0) (Q S : LocalType → Type 0) (o : Option LocalType) → (P → R) → ((t : LocalType) → Q t → S t) → MatchOption o P Q → MatchOption o R S
-moved P R Q S None f g h = f h
-moved P R Q S (Some t) f g h = g t h
+moved p0 p1 p2 p3 p4 p5 p6 p7 = grind linear
 
 or_told : (rule : Option TransitionRule) (z : Zone) (u : ℤ) (i : ℕ) → i < length z.types → IsRuleOrNone rule
     → MatchOption (rule_type_or rule u (slice_get z.types i)) (IsRefusedBy rule u) (λ t. RuleOrElse rule u (HasType z i t) t)

@@ -1,6 +1,6 @@
 -- Spans: at each second between two that have a type there is one, and from the last change to the next one it is the same.
 use Rattle.tz_info.proofs.{
-  ChangeSearch.{InForce, Typed, stays},
+  ChangeSearch.{Typed, stays},
   LastType.last_is,
   LeapEntries.{before_found, follow},
   LeapOrder.none_counted,
@@ -106,10 +106,6 @@ no_change z u v s t valid limits fits fits_end h none k l =
 abbrev pub seconds_of : Option Change → Option ℤ
 seconds_of found = option_map (λ c. c.at) found
 
-idle_until : (f : InForce) (u v : ℤ) (next : Option Change) → IsFirst f (λ w. u <ℤ w) next → IsUntil (seconds_of next) v
-    → HasNoChange f (λ w. (u <ℤ w) × (w ≤ℤ v))
-idle_until f u v next h until d is i = grind linear
-
 -- ---- a span goes from the last change or the first second with a type to the next change or the last second with a type
 -- a second with a type, from which on the span's seconds come, and up to which they come
 record IsLow (z : Zone) (u : ℤ) (t : LocalType) (last : Option Change) (from : Option ℤ) : Type 0 where
@@ -174,7 +170,7 @@ span_between z u t _ _ from until valid limits fits h before after begin end =
             let (s, k) = typed_between z _ _ v _ _ valid from up_to low.typed.1 high.typed.1 limits in
             let same = by_lt_z v u
             (λ l. no_change z v u s t valid limits i.fits fits (omega linear) (grind linear) k h)
-            (λ m. sym (no_change z u v t s valid limits fits i.fits m (idle_until _ u v _ after until) h k)) in
+            (λ m. sym (no_change z u v t s valid limits fits i.fits m (grind linear) h k)) in
             grind linear;
         begins = low.begins;
         ends = high.ends;

@@ -8,11 +8,10 @@ use Rattle.tz_info.proofs.timeline.Timeline.passed_near.Goals as goal
 pub loop-left-init : goal.loop-left-init
 loop-left-init g c =
     let most = two_steps _ c.narrowed-left.result.count _ c.requires.near.some c.requires.narrow c.requires.many (omega arith) in
-    let up = g.met.T.Timed.counts_up in
     elim c.if-left-gt1.branch [
-      | then-left-gt1+then-left-gt1-2 w ↦ record { near = grind arith; looks = 4; most = grind (arith, digits-halved); counts = grind (arith, up) }
-      | then-left-gt1+else-left-gt1-2 w ↦ record { near = grind arith; looks = 3; most = grind (arith, digits-halved); counts = grind (arith, up) }
-      | else-left-gt1 w ↦ record { near = grind arith; looks = 2; most = grind arith; counts = grind (arith, up) }
+      | then-left-gt1+then-left-gt1-2 w ↦ record { near = grind arith; looks = 4; most = grind (arith, digits-halved); counts = grind arith }
+      | then-left-gt1+else-left-gt1-2 w ↦ record { near = grind arith; looks = 3; most = grind (arith, digits-halved); counts = grind arith }
+      | else-left-gt1 w ↦ record { near = grind arith; looks = 2; most = grind arith; counts = grind arith }
     ]
 
 pub loop-left-preserved : goal.loop-left-preserved

@@ -40,8 +40,7 @@ ended c =
     let more = digits-more _ _ (rw c.self.view_is at c.self.invariant.list).few in
     let first = rose_then _ _ _ _ _ _ _ c.count-place.ensures.cost c.begin_of-index.ensures.cost in
     elim c.match-rule_at.branch [
-      | goal.in-Some w ↦ rose_less _ _ _ _ _ _ (rose_then _ _ _ _ _ _ _ (rose_then _ _ _ _ _ _ _ first w.reached_since-reached.ensures.cost)
-          (rw w.probes-is at c.latest_end-end.ensures.cost)) (omega arith) (omega arith)
+      | goal.in-Some w ↦ grind (linear, rose_less, rose_then)
       | goal.in-None w ↦ grind linear
     ]
 
