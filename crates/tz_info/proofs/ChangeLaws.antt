@@ -12,7 +12,7 @@ one_change z = apart (TypeAt z) (type_once z)
 
 -- ---- the nearest one
 each_way : (w : Bool) (x y : ℤ) → Precedes w x y → Precedes w y x → x ≡ y
-each_way p0 p1 p2 p3 p4 = grind linear
+each_way w x y h k = grind linear
 
 pub one_nearest : (w : Bool) (z : Zone) (within : ℤ → Type 0) (a b : Option Change) → IsNearest w (TypeAt z) within a → IsNearest w (TypeAt z) within b → a ≡ b
 one_nearest w z _ None None h k = refl

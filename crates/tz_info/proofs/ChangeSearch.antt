@@ -61,7 +61,7 @@ nearest_ahead w f begin s _ _ _ e = nearest_moved w f f _ (λ u. (begin <ℤ u) 
 pub nearest_within : (w : Bool) (f : InForce) (after last : ℤ) (found r : Option Change) → IsNearest w f (IsAhead w (near_end w after last)) found
     → MatchOption r (IfSome found (λ c. IsInStretch after last c.at → ⊥)) (λ c. IsInStretch after last c.at × (found ≡ Some c))
     → IsNearest w f (IsInStretch after last) r
-nearest_within p0 p1 p2 p3 p4 p5 p6 p7 = grind linear
+nearest_within w f after last found r h k = grind linear
 
 -- an empty stretch has none
 pub none_in_empty : (f : InForce) (after last : ℤ) → last ≤ℤ after → HasNoChange f (IsInStretch after last)
@@ -83,7 +83,7 @@ pub change_made : (f : InForce) (second : ℤ) (s t : LocalType) (r : Option Cha
     → f (second -ℤ pos 1) s → f second t
     → MatchOption r (s ≡ t) (λ c. (s ≢ t) × (c ≡ record { at = second; before = s; after = t }))
     → MatchOption r (HasNoChange f (λ u. u ≡ second)) (λ c. IsChange f c × (c.at ≡ second))
-change_made p0 p1 p2 p3 p4 p5 p6 p7 p8 p9 p10 = grind linear
+change_made f second s t r h k l m n o = grind linear
 
 -- no type is in force a second before, or at the second
 pub none_before : (f : InForce) (second : ℤ) → ((t : LocalType) → f (second -ℤ pos 1) t → ⊥) → HasNoChange f (λ u. u ≡ second)
@@ -98,7 +98,7 @@ abbrev pub Typed : InForce → ℤ → Type 0
 Typed f u = (t : LocalType) × f u t
 
 pub decided : (P : Type 0) (b : Bool) → Decides b P → P ⊎ (P → ⊥)
-decided p0 p1 p2 = grind linear
+decided P b h = grind linear
 
 -- from one second to the next
 pub stays : (f : InForce) (u v : ℤ) (t : LocalType) → SFits w64 u → SFits w64 v → u ≤ℤ v → HasNoChange f (λ w. (u <ℤ w) × (w ≤ℤ v))

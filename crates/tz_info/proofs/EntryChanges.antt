@@ -186,7 +186,7 @@ module _ (z : Zone) (e : Entries) (valid : IsValid z) (made : AreEntries z e) wh
   found w s k c h is at ahead near = grind (linear, in_table, table_change)
 
   pub with_entry : (k : ℕ) (r : Option Change) → k < length e.items → k + 1 < e.all → IsEntryChange z.types e.items k r → IsChangeWith z e k r
-  with_entry p0 p1 p2 p3 p4 = grind (linear, entry_change)
+  with_entry k r h l m = grind (linear, entry_change)
 
   -- the entries ahead of the second
   ahead_by : (w : Bool) (s : ℤ) (j : ℕ) → j < length e.items

@@ -42,7 +42,7 @@ rule_joined types _ (Alternate a) e r is h (one, f, g) =
 
 -- ---- the offset of a type in force is one of them
 pub rule_among : (rule : Option TransitionRule) (u : ℤ) (t : LocalType) → IsTypeOf rule u t → Contains (rule_offsets rule) t.offset
-rule_among p0 p1 p2 p3 = grind (linear, one_of_two)
+rule_among rule u t h = grind (linear, one_of_two)
 
 listed_among : (types : List LocalType) (k : ℕ) (t : LocalType) → k < length types → slice_get types k ≡ Some t → Contains (offsets_of types) t.offset
 listed_among types k t h e =

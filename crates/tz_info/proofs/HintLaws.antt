@@ -17,7 +17,7 @@ near_hinted times v hints ends seconds near ordered fits some are h from is posi
 
 -- how many seconds one time comes after another
 size_of : (z : ℤ) → pos 0 ≤ℤ z → pos (nat_abs z) ≡ z
-size_of p0 p1 = grind linear
+size_of z h = grind linear
 
 size_of_rise : (first time : ℤ) → first ≤ℤ time → pos (nat_abs (time -ℤ first)) ≡ time -ℤ first
 size_of_rise first time h = grind (linear, size_of)

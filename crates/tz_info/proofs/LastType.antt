@@ -17,7 +17,7 @@ last_is ts last is = grind (arith, slice_get-get_or, some_last)
 said : (rule : Option TransitionRule) (types : List LocalType) (leaps : List LeapSecond) (ts : List Transition) (last : Transition) (u : ℤ) (t : LocalType)
     → IfSome rule (λ r. IfSome (last_transition ts) (Agrees types leaps r)) → last_transition ts ≡ Some last → IsUnixTime leaps last.unix_leap_time u
     → slice_get types last.type_index ≡ Some t → RuleOrElse rule u (slice_get types last.type_index ≡ Some t) t
-said p0 p1 p2 p3 p4 p5 p6 p7 p8 p9 p10 = grind (arith, some_once)
+said rule types leaps ts last u t h k l m = grind (arith, some_once)
 
 -- if the last transition has come by its second, its type is in force there
 pub last_type : (z : Zone) (last : Transition) (u x : ℤ) (t : LocalType) → IsValid z → last_transition z.transitions ≡ Some last

@@ -18,15 +18,15 @@ IsOfText extended None = Unit {0}
 
 in_text : (extended : Bool) (bytes : List ℕ) (r : Option TransitionRule) (rest : List ℕ) → Spells (footer_text extended) bytes r rest → IsOfText extended r
 unfolding footer_text
-in_text p0 p1 p2 p3 p4 = grind (arith, text_ends)
+in_text extended bytes r rest h = grind (arith, text_ends)
 
 pub in_footer : (extended : Bool) (footer : Option (List ℕ)) (bytes : List ℕ) (r : Option TransitionRule) (rest : List ℕ)
     → Spells (optional_footer extended footer) bytes r rest → IsOfText extended r
 unfolding optional_footer footer
-in_footer p0 p1 p2 p3 p4 p5 = grind (arith, in_text)
+in_footer extended footer bytes r rest h = grind (arith, in_text)
 
 rule_fits : (extended : Bool) (r : Option TransitionRule) → IsOfText extended r → IsRuleOrNone r
-rule_fits p0 p1 p2 = grind (arith, text_rule_fits)
+rule_fits extended r h = grind (arith, text_rule_fits)
 
 pub file_rule_fits : (bytes : List ℕ) (zone : Zone) → IsTzFile bytes zone → IsRuleOrNone zone.rule
 unfolding tz_file contents

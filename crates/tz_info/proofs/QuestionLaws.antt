@@ -57,10 +57,10 @@ module _ (z : Zone) (rule : TransitionRule) (start l : ℤ) (valid : IsValid z) 
   }
 
 in_one : (a u : ℤ) → Contains (a ∷ []) u → u ≡ a
-in_one p0 p1 p2 = grind linear
+in_one a u h = grind linear
 
 pub in_two : (a b u : ℤ) → Contains (a ∷ b ∷ []) u → (u ≡ a) ⊎ (u ≡ b)
-in_two p0 p1 p2 p3 = grind linear
+in_two a b u h = grind linear
 
 nowhere : (asks : ℤ → Type 0) (p q : ℕ) → ((u : ℤ) → asks u → ⊥) → q ≡ p → IsAskedAtEach asks p q
 nowhere _ p q none e = grind arith
@@ -95,7 +95,7 @@ two_seconds asks c d p q r other both j k = asked_more _ c p q r j (one_second (
 -- ---- those of a rule
 asked_since : (rule : TransitionRule) (from l o : ℤ) (p q : ℕ) → Contains (rule_offsets (Some rule)) o → IsAskedSince from (l -ℤ o) p q
     → IsAskedIf (IsSecondFrom rule from l) (l -ℤ o) p q
-asked_since p0 p1 p2 p3 p4 p5 p6 p7 = grind linear
+asked_since rule from l o p q h k = grind linear
 
 pub asked_fixed : (f : LocalType) (from l : ℤ) (p q : ℕ) → IsAskedSince from (l -ℤ f.offset) p q → IsAskedFrom (Fixed f) from l p q
 asked_fixed f _ l p q asked = one_second _ _ p q
@@ -137,7 +137,7 @@ asked_for_window z l low _ n d p q valid w h later e = nowhere _ p q (λ u k.
 
 -- ---- by instant
 pub asked_at_time : (z : Zone) (u x : ℤ) (p q : ℕ) → (0 < length z.transitions → IsLeapTime z.leaps u x) → IsAskedAtLeapTime z x p q → IsAskedAt z u p q
-asked_at_time p0 p1 p2 p3 p4 p5 p6 = grind (linear, same_passed)
+asked_at_time z u x p q h k = grind (linear, same_passed)
 
 some_or_none : (o : Option TransitionRule) → ((rule : TransitionRule) × (o ≡ Some rule)) ⊎ (o ≡ None)
 some_or_none (Some rule) = inl (rule, refl)

@@ -51,4 +51,4 @@ run_until z s at limit end near near_limit ahead here ends =
 
 -- the first second of a near interval, or its last one, is near
 pub near_end : (forward : Bool) (low high : ℤ) → IsNear low → IsNear high → low <ℤ high → IsNear (if forward then low else high -ℤ pos 1)
-near_end p0 p1 p2 p3 p4 p5 = grind linear
+near_end forward low high h k l = grind linear

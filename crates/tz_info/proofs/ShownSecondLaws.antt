@@ -36,7 +36,7 @@ module _ {z : Zone} {from until low high : ℤ} (start end : ℤ) (t : LocalType
   -- the first such second of the next run is the first of all, or the last one the last of all
   pub found_in_run : (w : Bool) (u : ℤ) → SFits w64 u → IsNextRun w low high start end → IsWithinRun start end (from -ℤ t.offset) (until -ℤ t.offset) u
       → ((v : ℤ) → IsWithinRun start end (from -ℤ t.offset) (until -ℤ t.offset) v → Precedes w u v) → IsEndWithin w (TypeAt z) from until u t
-  found_in_run p0 p1 p2 p3 p4 p5 = grind (linear, in_run)
+  found_in_run w u h k l m = grind (linear, in_run)
 
 -- it leaves less
 pub leaves_less : (w : Bool) (low high start end : ℤ) → low <ℤ high → IsNextRun w low high start end

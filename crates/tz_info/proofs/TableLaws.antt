@@ -24,7 +24,7 @@ use Rattle.tz_info.specs.{
 
 -- ---- the table's seconds
 index_of_none : (k : ℕ) → index_of [] k ≡ 0
-index_of_none p0 = grind linear
+index_of_none k = grind linear
 
 pub top_least : (rule : Option TransitionRule) (e : Entries) → length e.items ≤ e.all → length e.items ≤ top_of rule e
 top_least rule e h = grind arith

@@ -22,7 +22,7 @@ use Rattle.tz_info.specs.{
 footer_keeps : (extended : Bool) (footer : Option (List ℕ)) (bytes : List ℕ) (r : Option TransitionRule) (rest : List ℕ)
     → Spells (optional_footer extended footer) bytes r rest → bytes ≡ rest
 unfolding optional_footer
-footer_keeps p0 p1 p2 p3 p4 p5 = grind linear
+footer_keeps extended footer bytes r rest h = grind linear
 
 contents_keep : (p : FilePieces) (bytes : List ℕ) (z : Zone) (rest : List ℕ) → Spells (contents p) bytes z rest → bytes ≡ rest
 unfolding contents indicators type_at pair_at
@@ -87,7 +87,7 @@ module _ (bytes : List ℕ) (p : FilePieces) (after : List ℕ) (is : read file 
   pub contents_fault : (e : Error) (left : List ℕ) → (e ≡ OutOfMemory) ⊎ ((read (contents p) after ≡ Err e) × (left ≡ from_fault (contents p) after))
       → IsFaultAt bytes e left
   unfolding tz_file
-  contents_fault p0 p1 p2 = grind (linear, has_pieces, fault_at)
+  contents_fault e left h = grind (linear, has_pieces, fault_at)
 
   contents_file : (z : Zone) (rest : List ℕ) → read (contents p) after ≡ Ok (z, rest) → IsTzFile bytes z
   unfolding tz_file

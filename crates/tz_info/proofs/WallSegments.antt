@@ -98,7 +98,7 @@ abbrev pub piece : ℤ → Shown → Piece
 piece start answer = record { start = start; answer = answer }
 
 opening_none : (k : ℕ) → 0 < k → opening k ≡ 0
-opening_none p0 p1 = grind linear
+opening_none k h = grind linear
 
 -- a segment of a table
 module _ {z : Zone} {ts : List Transition} {top k : ℕ} {s : Segment} (table : IsTable z ts top) (own : k < top) (is : IsSegment z.types ts k s) where
