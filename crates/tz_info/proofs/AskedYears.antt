@@ -17,8 +17,7 @@ IsAheadIn w s year u = IsAhead w s u × IsYearOf (u -ℤ pos 1) year
 -- the year after it is one of the rule's, or no other year lies beyond
 one_or_last : (w : Bool) (first year y : ℤ) → IsRuleYear first → IsRuleYear year → IsRuleYear y → Precedes w (year_at w first 1) year → Precedes w year y
     → IsRuleYear (year +ℤ pos 1) ⊎ (y ≡ year)
-one_or_last true first year y a b c beyond on = grind linear
-one_or_last false first year y a b c beyond on = grind linear
+one_or_last w first year y h k l m n = grind linear
 
 -- a second, and a rule's change in a year
 module _ (a : Alternate) (s : ℤ) (d : Change) (y : ℤ) (is : IsChange (AlternateAt a) d) (of_year : IsYearOf (d.at -ℤ pos 1) y) where

@@ -1,10 +1,10 @@
 -- At a second there is one change, and so one next change, one previous change and one list of them.
 use Rattle.std.proofs.lemmas.Map.Made.{Contains-tail}
 use Rattle.tz_info.proofs.{
-  ChangeSearch.{apart},
+  ChangeSearch.apart,
   Words.{AllPairs, AreChanges, Bool, Change, Contains, Contains-append_right, IsChange, IsFirst, IsNearest, IsTypeBeforeGap, List, LocalType, None, Option},
-  Words.{Precedes, Some, TypeAt, Zone, [], ap, arith, false, linear, pos, refl, suc, true, zero, ℤ, ◌+ℤ◌, ◌-ℤ◌, ◌<ℤ◌, ◌∷◌, ◌≡◌, ◌≤ℤ◌},
-  ZoneLaws.{type_once},
+  Words.{Precedes, Some, TypeAt, Zone, [], ap, arith, linear, pos, refl, suc, zero, ℤ, ◌+ℤ◌, ◌-ℤ◌, ◌<ℤ◌, ◌∷◌, ◌≡◌, ◌≤ℤ◌},
+  ZoneLaws.type_once,
 }
 
 pub one_change : (z : Zone) (c d : Change) → IsChange (TypeAt z) c → IsChange (TypeAt z) d → c.at ≡ d.at → c ≡ d
@@ -12,8 +12,7 @@ one_change z = apart (TypeAt z) (type_once z)
 
 -- ---- the nearest one
 each_way : (w : Bool) (x y : ℤ) → Precedes w x y → Precedes w y x → x ≡ y
-each_way true x y h k = omega linear
-each_way false x y h k = omega linear
+each_way w x y h k = grind linear
 
 pub one_nearest : (w : Bool) (z : Zone) (within : ℤ → Type 0) (a b : Option Change) → IsNearest w (TypeAt z) within a → IsNearest w (TypeAt z) within b → a ≡ b
 one_nearest w z _ None None h k = refl

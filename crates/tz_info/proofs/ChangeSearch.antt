@@ -1,9 +1,9 @@
 -- The first and the last change among seconds, and in a stretch.
 use Rattle.std.specs.Bool.{Decides}
 use Rattle.tz_info.proofs.{
-  Words.{Bool, Change, HasNoChange, IfSome, IsAhead, IsChange, IsIdle, IsInStretch, IsNearest, IsOneOf, IsStretchAhead, List, LocalType, MatchOption, None},
-  Words.{Option, SFits, Some, arith, false, get_or, inl, inr, linear, near_end, nearer_one, pos, refl, suc, true, type_exact, unsigned_abs, w64, zero, ℕ, ℤ},
-  Words.{◌+ℤ◌, ◌+◌, ◌-ℤ◌, ◌<ℤ◌, ◌↔◌, ◌≡◌, ◌≢◌, ◌≤ℤ◌, ◌⊎◌},
+  Words.{Bool, Change, HasNoChange, IfSome, IsAhead, IsChange, IsIdle, IsInStretch, IsNearest, IsOneOf, IsStretchAhead, List, LocalType, MatchOption, Option},
+  Words.{SFits, Some, arith, false, get_or, inl, inr, linear, near_end, nearer_one, pos, suc, true, type_exact, unsigned_abs, w64, zero, ℕ, ℤ, ◌+ℤ◌, ◌+◌, ◌-ℤ◌},
+  Words.{◌<ℤ◌, ◌↔◌, ◌≡◌, ◌≢◌, ◌≤ℤ◌, ◌⊎◌},
 }
 
 abbrev pub InForce : Type 1
@@ -57,17 +57,11 @@ nearest_ahead w f begin s _ _ _ e = nearest_moved w f f _ (λ u. (begin <ℤ u) 
     (λ d is k. (is, (in_ahead w _ s _ _ _ is.fits e).1 k))
     (λ d is k. (is, (in_ahead w _ s _ _ _ is.fits e).0 k))
 
--- the seconds of a stretch are ahead of its near end, and so are those before a second of it
-ahead_within : (w : Bool) (after last u : ℤ) → IsInStretch after last u → IsAhead w (near_end w after last) u
-ahead_within w after last u k = grind linear
-
 -- the nearest change ahead of a stretch's near end is its nearest one, if it lies in it
 pub nearest_within : (w : Bool) (f : InForce) (after last : ℤ) (found r : Option Change) → IsNearest w f (IsAhead w (near_end w after last)) found
     → MatchOption r (IfSome found (λ c. IsInStretch after last c.at → ⊥)) (λ c. IsInStretch after last c.at × (found ≡ Some c))
     → IsNearest w f (IsInStretch after last) r
-nearest_within w f after _ None None h out = grind (linear, ahead_within)
-nearest_within w f after last (Some c) None h out = λ d is k. grind arith
-nearest_within w f after last found (Some c) h within = grind arith
+nearest_within w f after last found r h k = grind linear
 
 -- an empty stretch has none
 pub none_in_empty : (f : InForce) (after last : ℤ) → last ≤ℤ after → HasNoChange f (IsInStretch after last)
@@ -81,19 +75,15 @@ IsOnce f = (u : ℤ) (s t : LocalType) → f u s → f u t → s ≡ t
 abbrev one_change : ℤ → LocalType → LocalType → Change
 one_change at before after = record { at = at; before = before; after = after }
 
-the_same : (u v : ℤ) (a b s t : LocalType) → u ≡ v → a ≡ b → s ≡ t → one_change u a s ≡ one_change v b t
-the_same u v a b s t e g h = cc
-
 -- changes at one second are one
 pub apart : (f : InForce) → IsOnce f → (c d : Change) → IsChange f c → IsChange f d → c.at ≡ d.at → c ≡ d
-apart f once c d h k at = grind (linear, the_same, at)
+apart f once c d h k at = grind (linear, at)
 
 pub change_made : (f : InForce) (second : ℤ) (s t : LocalType) (r : Option Change) → IsOnce f → SFits w64 second → SFits w64 (second -ℤ pos 1)
     → f (second -ℤ pos 1) s → f second t
     → MatchOption r (s ≡ t) (λ c. (s ≢ t) × (c ≡ record { at = second; before = s; after = t }))
     → MatchOption r (HasNoChange f (λ u. u ≡ second)) (λ c. IsChange f c × (c.at ≡ second))
-change_made f _ s t None once fits fits_before h k e = grind arith
-change_made f second s t (Some c) once fits fits_before h k e = grind linear
+change_made f second s t r h k l m n o = grind linear
 
 -- no type is in force a second before, or at the second
 pub none_before : (f : InForce) (second : ℤ) → ((t : LocalType) → f (second -ℤ pos 1) t → ⊥) → HasNoChange f (λ u. u ≡ second)
@@ -108,8 +98,7 @@ abbrev pub Typed : InForce → ℤ → Type 0
 Typed f u = (t : LocalType) × f u t
 
 pub decided : (P : Type 0) (b : Bool) → Decides b P → P ⊎ (P → ⊥)
-decided P true d = inl (d.0 refl)
-decided P false d = grind linear
+decided P b h = grind linear
 
 -- from one second to the next
 pub stays : (f : InForce) (u v : ℤ) (t : LocalType) → SFits w64 u → SFits w64 v → u ≤ℤ v → HasNoChange f (λ w. (u <ℤ w) × (w ≤ℤ v))

@@ -27,10 +27,6 @@ use Rattle.tz_info.specs.{
 abbrev pub Tells : Alternate → ℤ → (ℤ → Bool) → Type 0
 Tells a year dst = (u : ℤ) → IsRuleTime u → new_year year ≤ℤ u → u ≤ℤ new_year (year +ℤ pos 1) → AlternateAt a u (type_when a (dst u))
 
--- types differ if only one is that of daylight saving time
-type_differs : (a : Alternate) (b c : Bool) → a.std ≢ a.dst → b ≡ not c → type_when a b ≢ type_when a c
-type_differs a b c h e same = grind arith
-
 -- no change comes in the year, or some change does
 abbrev pub HasNoneIn : Alternate → ℤ → Type 0
 HasNoneIn a year = HasNoChange (AlternateAt a) (λ u. IsYearOf (u -ℤ pos 1) year)
@@ -57,7 +53,7 @@ module _ (a : Alternate) (year : ℤ) (dst : ℤ → Bool) (tells : Tells a year
         fits_before = omega linear;
         before = tells _ before low (omega linear);
         after = tells _ time (omega linear) (omega linear);
-        differ = type_differs a _ _ types differ;
+        differ = grind arith;
       }
 
 -- ---- by the moments of years near it

@@ -11,9 +11,6 @@ use Rattle.tz_info.proofs.{
 abbrev made : ℤ → ℤ → LocalType → LocalType → Difference
 made u v s t = record { from = u; until = v; old = s; new = t }
 
-the_same : (u v a b : ℤ) (s t m n : LocalType) → u ≡ a → v ≡ b → s ≡ m → t ≡ n → made u v s t ≡ made a b m n
-the_same u v a b s t m n e g h k = cc
-
 -- of two differences of the same zones that share a second, the first has the second's seconds
 covers : (z w : Zone) (from until u : ℤ) (d e : Difference) → IsDifference (TypeAt z) (TypeAt w) from until d → IsDifference (TypeAt z) (TypeAt w) from until e
     → d.old ≡ e.old → d.new ≡ e.new → IsInDifference u d → IsInDifference u e → (d.from ≤ℤ e.from) × (e.until ≤ℤ d.until)
@@ -35,7 +32,7 @@ one_difference z w _ _ u d e h k i j =
     let old = type_once z u _ _ types.0 others.0 in
     let new = type_once w u _ _ types.1 others.1 in
     let a = covers z w _ _ u d e h k old new i j in
-    let b = covers z w _ _ u e d k h (sym old) (sym new) j i in grind (linear, the_same)
+    let b = covers z w _ _ u e d k h (sym old) (sym new) j i in grind linear
 
 -- ---- both zones keep their types
 pub pair_until : (f g : InForce) (at limit own end : ℤ) → IsRunUntil f at limit own → IsRunUntil g at own end → IsPairUntil f g at limit end
@@ -92,7 +89,7 @@ listed_more z w from until at end s t ds es h pair k l listed = let reached = h.
 
 -- a pair that begins at the second `at`
 pub listed_pair : (ds es : List Difference) (d : Difference) (at : ℤ) → d.from ≡ at → IsListedIf ds d es → IsListedIf ds (made at d.until d.old d.new) es
-listed_pair ds es d at from h = grind (linear, the_same, at)
+listed_pair ds es d at from h = grind (linear, at)
 
 -- at the end of the window all are listed
 pub all_listed : (z w : Zone) (from until at : ℤ) (ds : List Difference) → AreListedTo (TypeAt z) (TypeAt w) from until at ds → until ≤ℤ at

@@ -37,9 +37,7 @@ index_there e u rising =
 -- n entries have come if the last of them has and the next one hasn't
 pub count_here : (ts : List Transition) (u : ℤ) (n : ℕ) → AreRising ts → n ≤ length ts → (0 < n → entry_time ts (n - 1) ≤ℤ u)
     → (n < length ts → u <ℤ entry_time ts n) → n ≡ length (passed ts u)
-count_here ts u n rising within since until =
-    let b = come_by_time ts u (n - 1) any rising in
-    let a = come_by_time ts u n any rising in grind (linear, place_most)
+count_here ts u n rising within since until = let a = come_by_time ts u n any rising in grind (linear, place_most, come_by_time, any)
 
 pub begin_at : (ts : List Transition) (k : ℕ) (d : Transition) → 0 < k → k ≤ length ts → (get_or ts (k - 1) d).unix_leap_time ≡ begin_of ts k
 begin_at ts k d some within = grind (linear, begin_next)
@@ -188,17 +186,13 @@ module _ (z : Zone) (e : Entries) (valid : IsValid z) (made : AreEntries z e) wh
   found w s k c h is at ahead near = grind (linear, in_table, table_change)
 
   pub with_entry : (k : ℕ) (r : Option Change) → k < length e.items → k + 1 < e.all → IsEntryChange z.types e.items k r → IsChangeWith z e k r
-  with_entry k None h more least = grind linear
-  with_entry k (Some c) h more is = record { change = grind (linear, entry_change); none = grind linear }
+  with_entry k r h l m = grind (linear, entry_change)
 
   -- the entries ahead of the second
   ahead_by : (w : Bool) (s : ℤ) (j : ℕ) → j < length e.items
       → IsAhead w s (time_at e j) ↔ IsLeftAt w (length e.items) (count_ahead w (length e.items) (count_at e s)) j
   ahead_by true s j h = let r = come_by j s h in grind linear
   ahead_by false s j h = grind (linear, come_by)
-
-  left_first : (w : Bool) (s : ℤ) (left : ℕ) → left ≡ count_ahead w (length e.items) (count_at e s) → AreLeft z e w s left
-  left_first w s left is = grind (linear, ahead_by)
 
   left_none : (w : Bool) (s : ℤ) → AreLeft z e w s 0 → HasNoChange (TypeAt z) (IsInTable z (IsAhead w s))
   left_none true s left = grind (linear, table_change)
@@ -247,13 +241,13 @@ module _ (z : Zone) (e : Entries) (valid : IsValid z) (made : AreEntries z e) wh
 
   pub first_found : (w : Bool) (s : ℤ) (left : ℕ) (c : Change) → left ≡ count_ahead w (length e.items) (count_at e s)
       → IsAheadChange z e w left (Some c) → IsNearestChange w (TypeAt z) (IsInTable z (IsAhead w s)) c
-  first_found w s left c is one = found_with w s left c (left_first w s left is) one
+  first_found w s left c is one = found_with w s left c (grind (linear, ahead_by)) one
 
   pub second_found : (w : Bool) (s : ℤ) (left : ℕ) (r : Option Change) → SFits w64 s → left ≡ count_ahead w (length e.items) (count_at e s)
       → IsAheadChange z e w left None → IsAheadChange z e w (left - 1) r → IsNearest w (TypeAt z) (IsInTable z (IsAhead w s)) r
-  second_found w s left (Some c) fits is none two = found_with w s (left - 1) c (grind (linear, left_less, left_first)) two
+  second_found w s left (Some c) fits is none two = found_with w s (left - 1) c (grind (linear, left_less, ahead_by)) two
   second_found w s left None fits is none two =
-      few_left w s left fits is none two (left_less w s (left - 1) (grind (linear, left_less, left_first)) two)
+      few_left w s left fits is none two (left_less w s (left - 1) (grind (linear, left_less, ahead_by)) two)
 
 -- ---- between two entries
 pub index_below : (z : Zone) (e : Entries) (k : ℕ) → IsValid z → AreEntries z e → k ≤ length e.items → index_of e.items k < length z.types
@@ -270,10 +264,9 @@ pub stretch_between : (z : Zone) (e : Entries) (u v : ℤ) (b : Between) (t : Lo
     → HasType z b.index t → b.from ≤ℤ v → v <ℤ b.until → TypeAt z v t
 stretch_between z e u v b t valid made h low high has from until =
     let c = come_by_time e.items v h.place any made.rising h.some in
-    let f = come_from e.items h.place v made.rising in
     let (x, l) = made.leap_time h.place h.some in
     let (y, m) = earlier_time z e valid made v _ x (omega linear) l in
-    type_amid z e valid made v y h.place t (omega linear) m (grind linear) (omega arith) (grind linear)
+    type_amid z e valid made v y h.place t (omega linear) m (grind (linear, come_from)) (omega arith) (grind (linear, come_from))
 
 pub span_between : (z : Zone) (e : Entries) (u : ℤ) (b : Between) (t : LocalType) → IsValid z → AreEntries z e → IsBetween e u b → IsTrue b.is_span
     → SFits w64 u → SFits w64 b.from → SFits w64 b.until

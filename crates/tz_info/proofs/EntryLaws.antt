@@ -69,17 +69,9 @@ record AreKept (entries kept : List Transition) (s : ℤ) : Type 0 where
   index : (j : ℕ) → j ≤ length kept → index_of kept j ≡ index_of entries j
   same : (u : ℤ) → u <ℤ s → passed kept u ≡ passed entries u
 
--- the index after the first j of a list is that of a longer one
-index_left : (ts us : List Transition) (j : ℕ) → j ≤ length ts → index_of (ts ++ us) j ≡ index_of ts j
-index_left ts us j h = grind (linear, take-append-le)
-
-kept_of : (entries kept : List Transition) (s : ℤ) → AreBefore entries s kept → AreKept entries kept s
-kept_of entries kept s same = grind (linear, length_push, get_or_append_left, index_left, passed_out)
-
 -- what holds of all holds of those
 pub kept_all : (P : Transition → Type 0) (entries kept : List Transition) (s : ℤ) → AreBefore entries s kept → All P entries → All P kept
-kept_all P entries kept s before all j d l =
-    let keep = kept_of entries kept s before in grind linear
+kept_all P entries kept s before all j d l = grind (linear, length_push, get_or_append_left, take-append-le, passed_out)
 
 -- all of them come before it
 kept_earlier : (entries kept : List Transition) (s : ℤ) → AreRising entries → All (λ t. t.unix_leap_time ≤ℤ s) entries → AreBefore entries s kept
@@ -110,7 +102,7 @@ module _ (z : Zone) (old kept entries : List Transition) (k : ℕ) (s : ℤ) (t 
       let c = h.start.reached s y time in grind (linear, get_or_default)) h.before
 
   keep : AreKept old kept s
-  keep = kept_of old kept s h.before
+  keep = grind (linear, length_push, get_or_append_left, take-append-le, passed_out)
 
   taken : take (k + 1) z.transitions ≡ take k z.transitions ++ t ∷ []
   taken = grind (linear, take_more)
@@ -166,7 +158,7 @@ module _ (z : Zone) (old kept entries : List Transition) (k : ℕ) (s : ℤ) (t 
                   let last = last_come full (length kept) t u longer (omega arith) in
                   grind arith;
               some = grind linear;
-              differ = grind (linear, cases_lt, index_left, take_all, index_next, nat_tests);
+              differ = grind (linear, cases_lt, take-append-le, take_all, index_next, nat_tests);
             })
       ]
 

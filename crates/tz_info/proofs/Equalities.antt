@@ -43,10 +43,9 @@ leap_exact a b = search rules
 pub zone_exact : (a b : Zone) → IsTrue (zone_eq transition_eq.it type_eq.it leap_eq.it rule_eq.it a b) ↔ (a ≡ b)
 zone_exact a b =
     let transitions = list_exact _ transition_exact a.transitions b.transitions in
-    let types = list_exact _ type_exact a.types b.types in
     let leaps = list_exact _ leap_exact a.leaps b.leaps in
     let rules = option_exact _ rule_exact a.rule b.rule in
-    grind arith
+    grind (arith, list_exact, type_exact)
 
 -- ---- seconds with types, and differences
 pub typed_second_exact : IsExact second_eq.it
@@ -59,6 +58,5 @@ shown_seconds_exact a b =
 
 pub difference_exact : IsExact difference_eq.it
 difference_exact a b =
-    let until = second_exact a.until b.until in
     let old = type_exact a.old b.old in
     let new = type_exact a.new b.new in grind (arith, second_exact)

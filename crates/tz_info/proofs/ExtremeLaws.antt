@@ -3,9 +3,9 @@ use Rattle.std.proofs.lemmas.List.{map-append}
 use Rattle.tz_info.proofs.{
   Candidates.one_of_two,
   Words.{All-contains, All-push, AreExtremes, AreJoined, AreJoinedByRule, Contains, Contains-append_left, Contains-append_right, Contains-push, Extremes},
-  Words.{IsEnd, IsGreatest, IsLeast, IsTypeOf, IsWindowOf, List, LocalType, None, Option, SFits, Some, TransitionRule, TypeAt, Zone, [], add-one, ap},
-  Words.{append_assoc, arith, get_or, get_or-map, inl, inr, length, length-map, linear, offsets, offsets_of, refl, rule_offsets, slice_get, slice_get-get_or},
-  Words.{sym, take, take-suc, w32, ℕ, ℤ, ◌++◌, ◌+◌, ◌-ℤ◌, ◌<◌, ◌∙◌, ◌∷◌, ◌≡◌, ◌≤ℤ◌, ◌⊎◌},
+  Words.{IsEnd, IsGreatest, IsLeast, IsTypeOf, IsWindowOf, List, LocalType, Option, SFits, Some, TransitionRule, TypeAt, Zone, [], add-one, ap, append_assoc},
+  Words.{get_or, get_or-map, inl, inr, length, length-map, linear, offsets, offsets_of, rule_offsets, slice_get, slice_get-get_or, sym, take, take-suc, w32, ℕ},
+  Words.{ℤ, ◌++◌, ◌+◌, ◌-ℤ◌, ◌<◌, ◌∙◌, ◌∷◌, ◌≡◌, ◌≤ℤ◌, ◌⊎◌},
   ZoneLaws.type_listed,
 }
 use Rattle.tz_info.specs.declared.rule.transition_rule.TransitionRule.TheVariants.{Alternate, Fixed}
@@ -42,12 +42,7 @@ rule_joined types _ (Alternate a) e r is h (one, f, g) =
 
 -- ---- the offset of a type in force is one of them
 pub rule_among : (rule : Option TransitionRule) (u : ℤ) (t : LocalType) → IsTypeOf rule u t → Contains (rule_offsets rule) t.offset
-rule_among None u t h = absurd h
-rule_among (Some (Fixed f)) u t h = grind linear
-rule_among (Some (Alternate a)) u t h = elim (one_of_two a t u h) [
-  | inl e ↦ grind arith
-  | inr e ↦ rw e (1, omega arith, refl)
-]
+rule_among rule u t h = grind (linear, one_of_two)
 
 listed_among : (types : List LocalType) (k : ℕ) (t : LocalType) → k < length types → slice_get types k ≡ Some t → Contains (offsets_of types) t.offset
 listed_among types k t h e =

@@ -2,10 +2,10 @@
 use Rattle.std.proofs.{Common.◌↔◌, lemmas.Nat.le-div}
 use Rattle.tz_info.proofs.{
   SearchSteps.not_before,
-  SearchWords.{AreEnds, AreHints, AreMarked, AreNonDecreasing, AreOrdered, AreRaised, AreRaisedUntil, AreStepsUntil, Ends, Hints, IsHinted},
-  SearchWords.{IsNarrowedTo, List, Near, RiseFromZero, arith, cases_eq, cases_lt, div-lt_iff_lt-mul, div-mul-le_self, get_or-set_at},
-  SearchWords.{get_or-set_other, inl, inr, item_time, length, length-set, linear, max, nat_abs, nat_cmp, negsuc, ord_max, pos, pow_pos, refl, set},
-  SearchWords.{slice_index, stretch_of, suc, ℕ, ℤ, ◌*◌, ◌+ℤ◌, ◌+◌, ◌-ℤ◌, ◌-◌, ◌/◌, ◌<ℤ◌, ◌<◌, ◌^◌, ◌≡◌, ◌≢◌, ◌≤ℤ◌, ◌≤◌, ◌⊎◌},
+  SearchWords.{AreEnds, AreHints, AreMarked, AreNonDecreasing, AreOrdered, AreRaised, AreRaisedUntil, AreStepsUntil, Ends, Hints, IsHinted, IsNarrowedTo, List},
+  SearchWords.{Near, RiseFromZero, arith, cases_eq, cases_lt, div-lt_iff_lt-mul, div-mul-le_self, get_or-set_at, get_or-set_other, inl, inr, item_time, length},
+  SearchWords.{length-set, linear, nat_abs, nat_cmp, ord_max, pos, pow_pos, set, slice_index, stretch_of, suc, ℕ, ℤ, ◌*◌, ◌+ℤ◌, ◌+◌, ◌-ℤ◌, ◌-◌, ◌/◌, ◌<ℤ◌, ◌<◌},
+  SearchWords.{◌^◌, ◌≡◌, ◌≢◌, ◌≤ℤ◌, ◌≤◌, ◌⊎◌},
 }
 
 -- the latest item is one of those of the hint
@@ -17,8 +17,7 @@ near_hinted times v hints ends seconds near ordered fits some are h from is posi
 
 -- how many seconds one time comes after another
 size_of : (z : ℤ) → pos 0 ≤ℤ z → pos (nat_abs z) ≡ z
-size_of (pos n) h = refl
-size_of (negsuc n) h = grind linear
+size_of z h = grind linear
 
 size_of_rise : (first time : ℤ) → first ≤ℤ time → pos (nat_abs (time -ℤ first)) ≡ time -ℤ first
 size_of_rise first time h = grind (linear, size_of)
@@ -54,7 +53,6 @@ pub raising_more : (before after : List ℕ) (greatest n here : ℕ) → Raising
     → Raising before (set after n here) here (n + 1)
 raising_more before after greatest n here r h rise is_here =
     let last = r.raised.some (n - 1) in
-    let e : here ≡ max greatest (slice_index before n) = grind (linear, cases_eq) in
     let long = length-set after n here in
     let at : (b : ℕ) → b ≡ n → slice_index (set after n here) b ≡ here = grind (linear, get_or-set_at) in
     let other : (b : ℕ) → b ≢ n → slice_index (set after n here) b ≡ slice_index after b = grind (linear, get_or-set_other) in
@@ -105,17 +103,16 @@ hints_made times hints first span most marked ordered many shift from is long m 
       rising = grind (linear, raised_rising);
       places = λ b h.
           let (j, j_le, same) = r.some b (omega arith) in
-          let at = in_stretch first (item_time times (slice_index marked j)) hints.shift b in
           rw (← from, same) (record {
-            within = grind linear;
-            before = λ l. grind (arith, first_least times first ordered from);
+            within = grind (linear, in_stretch);
+            before = λ l. grind (arith, first_least times first ordered from, in_stretch);
             after = λ k l n.
                 let in_k = in_stretch first (item_time times k) hints.shift b (first_least times first ordered from k n) in
                 elim (cases_lt (stretch_of first (item_time times k) hints.shift) b) [
                   | inl lt ↦ grind (arith, m.latest k n, r.above b (suc (stretch_of first (item_time times k) hints.shift)))
-                  | inr ge ↦ grind linear
+                  | inr ge ↦ grind (linear, in_stretch)
                 ];
           });
       some = λ h. many;
-      narrow = grind (linear, m.of_item);
+      narrow = grind (linear, m.of_item, in_stretch);
     }

@@ -2,9 +2,9 @@
 use Rattle.std.proofs.lemmas.Option.{slice_get_within}
 use Rattle.tz_info.proofs.{
   SegmentLaws.{come_by_time, index_next, split_at, split_count, type_in_from},
-  Words.{Agrees, HasType, IfSome, IsLeapTime, IsUnixTime, IsValid, LeapSecond, List, LocalType, None, Option, RuleOrElse, Some, Transition, TransitionRule},
-  Words.{TypeAt, Zone, arith, get_or, last_transition, length, slice_get, slice_get-get_or, ℤ, ◌+◌, ◌-◌, ◌<◌, ◌≡◌, ◌≤ℤ◌},
-  ZoneLaws.{some_once},
+  Words.{Agrees, HasType, IfSome, IsLeapTime, IsUnixTime, IsValid, LeapSecond, List, LocalType, Option, RuleOrElse, Some, Transition, TransitionRule, TypeAt},
+  Words.{Zone, arith, get_or, last_transition, length, slice_get, slice_get-get_or, ℤ, ◌+◌, ◌-◌, ◌<◌, ◌≡◌, ◌≤ℤ◌},
+  ZoneLaws.some_once,
 }
 
 some_last : (ts : List Transition) (last : Transition) → last_transition ts ≡ Some last → 0 < length ts
@@ -17,8 +17,7 @@ last_is ts last is = grind (arith, slice_get-get_or, some_last)
 said : (rule : Option TransitionRule) (types : List LocalType) (leaps : List LeapSecond) (ts : List Transition) (last : Transition) (u : ℤ) (t : LocalType)
     → IfSome rule (λ r. IfSome (last_transition ts) (Agrees types leaps r)) → last_transition ts ≡ Some last → IsUnixTime leaps last.unix_leap_time u
     → slice_get types last.type_index ≡ Some t → RuleOrElse rule u (slice_get types last.type_index ≡ Some t) t
-said None _ _ ts _ u t agrees is unix has = has
-said (Some r) types leaps ts last u t agrees is unix has = grind (arith, some_once)
+said rule types leaps ts last u t h k l m = grind (arith, some_once)
 
 -- if the last transition has come by its second, its type is in force there
 pub last_type : (z : Zone) (last : Transition) (u x : ℤ) (t : LocalType) → IsValid z → last_transition z.transitions ≡ Some last

@@ -72,8 +72,7 @@ pub record Bounded (p a u : ℤ) (es : List LeapSecond) (k : ℕ) : Type 0 where
 bounded : (p a u : ℤ) (es : List LeapSecond) (k : ℕ) → Follow p es → ((d : LeapSecond) → 0 < length es → a ≤ℤ ((get_or es 0 d).unix_leap_time -ℤ p))
     → k < counted_from p es u → Bounded p a u es k
 bounded p a u [] k f h l = absurd (omega arith)
-bounded p a u (e ∷ es) zero f h l =
-    let above = was_counted p u e es _ f l in let t = h e (omega arith) in let d = f.step e (omega arith) in grind linear
+bounded p a u (e ∷ es) zero f h l = let t = h e (omega arith) in let d = f.step e (omega arith) in grind (linear, was_counted)
 bounded p a u (e ∷ es) (suc k) f h l =
     let above = was_counted p u e es _ f l in let t = h e (omega arith) in let d = f.step e (omega arith) in
     let c = counted p e es u above in

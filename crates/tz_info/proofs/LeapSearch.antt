@@ -2,12 +2,12 @@
 use Rattle.std.proofs.lemmas.Int.{clamps}
 use Rattle.std.specs.{Int.{int_min, saturate_signed}, List.Sorted.{IsPartitionedBy}}
 use Rattle.tz_info.proofs.{
-  LeapEntries.{follow, threshold, threshold_at, times_rise},
+  LeapEntries.{follow, threshold, times_rise},
   LeapOrder.{passed_bounded, split},
   LeapStarts.{correction_after, passed_at_most, passed_when},
   Prefixes.{any_leap, last_taken},
-  Words.{AreLeapSeconds, IsLeapTime, LeapSecond, List, SFits, [], arith, by_lt_z, corrections, get_or, int_le, int_lt, le_is, le_true, length},
-  Words.{linear, mapped_at, passed_count, pos, refl, suc, true, w64, zero, ℕ, ℤ, ◌+ℤ◌, ◌+◌, ◌-ℤ◌, ◌<ℤ◌, ◌<◌, ◌↔◌, ◌∷◌, ◌≡◌, ◌≤ℤ◌, ◌≤◌},
+  Words.{AreLeapSeconds, IsLeapTime, LeapSecond, List, SFits, [], arith, by_lt_z, corrections, get_or, int_le, int_lt, le_is, le_true, length, linear},
+  Words.{mapped_at, passed_count, pos, refl, suc, true, w64, zero, ℕ, ℤ, ◌+ℤ◌, ◌+◌, ◌<ℤ◌, ◌<◌, ◌↔◌, ◌∷◌, ◌≡◌, ◌≤ℤ◌, ◌≤◌},
 }
 use Rattle.tz_info.specs.Steps.Starts.{IsLastWithLeapTime}
 
@@ -25,12 +25,8 @@ pub since_epoch : (es : List LeapSecond) (k : ℕ) (d : LeapSecond) → AreLeapS
 since_epoch es k d valid h =
     let f = (valid.first d (omega arith)).since_epoch in let r = times_rise es d valid 0 k (omega arith) h in omega linear
 
--- a sum held within 64 bits is on the same side of a number of 64 bits but the least as the sum itself
-le_saturated : (l s : ℤ) → SFits w64 l → pos 0 ≤ℤ l → (l ≤ℤ saturate_signed w64 s) ↔ (l ≤ℤ s)
-le_saturated l s fits some = grind linear
-
 pub by_saturated : {P : Type 0} (l s r : ℤ) → SFits w64 l → pos 0 ≤ℤ l → r ≡ saturate_signed w64 s → (int_le l s ≡ true) ↔ P → (int_le l r ≡ true) ↔ P
-by_saturated l s r fits some e p = grind (linear, le_saturated, fits, some, le_true, le_is)
+by_saturated l s r fits some e p = grind (linear, fits, some, le_true, le_is)
 
 -- an entry is passed if and only if its time has come with the correction before it
 pub passed_here : (es : List LeapSecond) (u v : ℤ) (k : ℕ) (d : LeapSecond) → AreLeapSeconds es → k < length es → v ≡ correction_after es k
@@ -53,12 +49,6 @@ leap_time_fits es u x f l = by_count (passed_count es u) refl where
 -- the entry at place k is passed at u, and the sum with its correction is beyond 64 bits
 abbrev pub Refuses : List LeapSecond → ℕ → ℤ → Type 0
 Refuses es k u = (threshold es k ≤ℤ u) × (pos 9_223_372_036_854_775_808 ≤ℤ (u +ℤ get_or (corrections es) k (pos 0)))
-
--- that of the entry at place k, whose time and correction are these, after an entry of that correction
-pub refuses_by_entry : (es : List LeapSecond) (k : ℕ) (d : LeapSecond) (last before u : ℤ) → k < length es → before ≡ correction_after es k
-    → (last <ℤ u) ↔ ((((get_or es k d).unix_leap_time -ℤ before) ≤ℤ u) × (pos 9_223_372_036_854_775_808 ≤ℤ (u +ℤ (get_or es k d).correction)))
-    → (last <ℤ u) ↔ Refuses es k u
-refuses_by_entry es k d last _ u h e first = grind (linear, threshold_at, mapped_at)
 
 -- one of the first k entries refuses each second after that one, and none an earlier one, of 64 bits
 pub record AreRefusedAfter (es : List LeapSecond) (k : ℕ) (last : ℤ) : Type 0 where

@@ -2,11 +2,10 @@
 use Rattle.std.specs.List.Sorted.{IsPartitionedBy}
 use Rattle.tz_info.proofs.{
   LeapEntries.{follow, threshold_at, threshold_count, times_rise},
-  LeapOrder.{split},
-  Prefixes.{last_taken},
-  Words.{AreLeapSeconds, HaveCome, IsLeapTime, IsNear, IsOneStep, LeapSecond, List, [], arith, cases_lt, corrections, count_by-le-length, get_or},
-  Words.{inl, inr, int_le, last_else, length, linear, passed_count, pos, saturate_signed, suc, take, w64, zero, ℕ, ℤ, ◌+ℤ◌, ◌-ℤ◌, ◌-◌},
-  Words.{◌<ℤ◌, ◌<◌, ◌↔◌, ◌∷◌, ◌≡◌, ◌≤ℤ◌, ◌≤◌},
+  LeapOrder.split,
+  Prefixes.last_taken,
+  Words.{AreLeapSeconds, HaveCome, IsLeapTime, IsNear, IsOneStep, LeapSecond, List, [], arith, cases_lt, corrections, count_by-le-length, get_or, inl, inr},
+  Words.{int_le, last_else, length, linear, passed_count, pos, saturate_signed, suc, take, w64, zero, ℕ, ℤ, ◌-ℤ◌, ◌-◌, ◌<ℤ◌, ◌<◌, ◌↔◌, ◌∷◌, ◌≡◌, ◌≤ℤ◌, ◌≤◌},
 }
 
 -- the correction in force after the first k entries
@@ -24,9 +23,6 @@ no_first (x ∷ xs) n h = x
 pub saturated : (v u : ℤ) → IsNear u → (saturate_signed w64 v ≤ℤ u) ↔ (v ≤ℤ u)
 saturated v u near = grind linear
 
-pub saturated_rise : (v w : ℤ) → v ≤ℤ w → saturate_signed w64 v ≤ℤ saturate_signed w64 w
-saturated_rise v w h = grind arith
-
 -- leap seconds in order
 module _ (es : List LeapSecond) (d : LeapSecond) (valid : AreLeapSeconds es) where
   one_step : (k : ℕ) → k < length es → IsOneStep (correction_after es k) (correction_after es (suc k))
@@ -37,9 +33,7 @@ module _ (es : List LeapSecond) (d : LeapSecond) (valid : AreLeapSeconds es) whe
 
   -- an entry is passed if and only if its time has come with the correction before it
   pub passed_when : (u : ℤ) (k : ℕ) → k < length es → (k < passed_count es u) ↔ (((get_or es k d).unix_leap_time -ℤ correction_after es k) ≤ℤ u)
-  passed_when u k h =
-      let s = split (pos 0) u es k (follow es valid) h in
-      let t = threshold_at (pos 0) es k d (pos 0) h in grind linear
+  passed_when u k h = let t = threshold_at (pos 0) es k d (pos 0) h in grind (linear, split, follow)
 
   -- fewer entries are passed at u than come by x
   below_law : (x u y : ℤ) (n : ℕ) → HaveCome es x n → IsLeapTime es u y → passed_count es u < n → y <ℤ x
@@ -51,7 +45,6 @@ module _ (es : List LeapSecond) (d : LeapSecond) (valid : AreLeapSeconds es) whe
       let m = passed_at_most es u in
       let s = (passed_when u c (omega arith)).0 (omega arith) in
       let a = h.after c d more (omega arith) in
-      let e : y ≡ u +ℤ correction_after es (suc c) = rw is at l.sum in
       let step = one_step c (omega arith) in grind linear
 
   -- and then x less the correction in force at x comes before u
@@ -62,12 +55,10 @@ module _ (es : List LeapSecond) (d : LeapSecond) (valid : AreLeapSeconds es) whe
   pub reached_later : (x u y : ℤ) (n : ℕ) → HaveCome es x n → 0 < n → IsLeapTime es u y
       → (x ≤ℤ y) ↔ ((((get_or es (n - 1) d).unix_leap_time -ℤ correction_after es (n - 1)) ≤ℤ u) × ((x -ℤ correction_after es n) ≤ℤ u))
   reached_later x u y n h some l =
-      let w = h.within in
-      let p = passed_when u (n - 1) (omega arith) in
       let b = below_law x u y n h l in
       let a = above_law x u y n (passed_count es u - 1) h l in
       let c = above_start x u n h in
-      elim (cases_lt n (passed_count es u)) [ inl more ↦ grind linear | inr most ↦ grind linear ]
+      elim (cases_lt n (passed_count es u)) [ inl more ↦ grind (linear, passed_when) | inr most ↦ grind (linear, passed_when) ]
 
 -- if none has come, the leap time is reached at the same number
 pub reached_first : (es : List LeapSecond) (x u y : ℤ) → AreLeapSeconds es → HaveCome es x 0 → IsLeapTime es u y → (x ≤ℤ y) ↔ (x ≤ℤ u)

@@ -58,16 +58,13 @@ adjacent_known {R = R} each (x ∷ xs) = like_known
 earlier_known : (a b : Transition) → Known (a.unix_leap_time <ℤ b.unix_leap_time)
 earlier_known a b = grind arith
 
-first_leap_known : (e : LeapSecond) → Known (IsFirstLeap e)
-first_leap_known e = grind arith
-
 next_leap_known : (a b : LeapSecond) → Known (IsNextLeap a b)
 next_leap_known a b = grind arith
 
 leaps_known : (leaps : List LeapSecond) → Known (AreLeapSeconds leaps)
 leaps_known [] = inl (grind arith)
 leaps_known (e ∷ es) = like_known (λ h. record { first = λ d l. h.0; next = h.1 }) (λ h. (h.first e (omega arith), h.next))
-    (both_known (first_leap_known e) (adjacent_known next_leap_known (e ∷ es)))
+    (both_known (grind arith) (adjacent_known next_leap_known (e ∷ es)))
 
 -- ---- the first fault
 pub list_fault_or_valid : (z : Zone) (e : Error) → ListFault z e → IsValid z → ⊥

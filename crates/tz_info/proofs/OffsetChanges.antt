@@ -1,9 +1,9 @@
 -- Walks from change to change, on and back, up to one at which the offset changes.
 use Rattle.tz_info.proofs.{
-  ChangeLaws.{one_change},
+  ChangeLaws.one_change,
   SegmentLaws.{come_at_time, segment_most},
-  Words.{Alternate as AlternateRule, AlternateAt, Bool, Change, IsBegin, IsChange, IsFirstChange, IsLastChange, IsNearestOffsetChange, IsOffsetChange},
-  Words.{IsValid, KeepsOffset, LocalType, SFits, Some, TypeAt, Zone, false, length, linear, pos, segment_of, true, type_when, w64, ℤ, ◌-ℤ◌, ◌<ℤ◌, ◌≡◌, ◌≤ℤ◌},
+  Words.{Alternate as AlternateRule, Change, IsBegin, IsChange, IsFirstChange, IsLastChange, IsNearestOffsetChange, IsOffsetChange, IsValid, KeepsOffset},
+  Words.{LocalType, SFits, Some, TypeAt, Zone, false, length, linear, pos, segment_of, true, w64, ℤ, ◌-ℤ◌, ◌<ℤ◌, ◌≡◌, ◌≤ℤ◌},
   ZoneChanges.{last_too, time_of, to_rule},
 }
 use Rattle.tz_info.specs.declared.rule.transition_rule.TransitionRule.TheVariants.{Alternate}
@@ -18,12 +18,6 @@ has_begun : (z : Zone) (begin u : ℤ) (t : LocalType) → IsValid z → IsBegin
     → segment_of z u ≡ length z.transitions
 has_begun z _ u t valid h fits k from = grind (linear, time_of, come_at_time, segment_most)
 
-of_two : (a : AlternateRule) (dst : Bool) → a.std.offset ≡ a.dst.offset → (type_when a dst).offset ≡ a.std.offset
-of_two a dst same = grind linear
-
-offset_by_rule : (a : AlternateRule) (u : ℤ) (t : LocalType) → a.std.offset ≡ a.dst.offset → AlternateAt a u t → t.offset ≡ a.std.offset
-offset_by_rule a u t same k = grind (linear, of_two)
-
 pub rule_keeps : (z : Zone) (a : AlternateRule) (begin : ℤ) → IsValid z → z.rule ≡ Some (Alternate a) → IsBegin z begin → a.std.offset ≡ a.dst.offset
     → KeepsOffset (TypeAt z) (λ u. begin <ℤ u)
 rule_keeps z a _ valid rule h same d is later =
@@ -31,7 +25,7 @@ rule_keeps z a _ valid rule h same d is later =
     let all = has_begun z _ _ _ valid h change.fits_before change.before (omega linear) in
     let before = to_rule z a _ _ rule valid all change.before in
     let after = to_rule z a _ _ rule valid (last_too z _ valid all) change.after in
-    grind (linear, offset_by_rule)
+    grind linear
 
 -- ---- walks
 module _ (z : Zone) (after reached : ℤ) (order : after ≤ℤ reached) (kept : KeepsOffset (TypeAt z) (λ u. (after <ℤ u) × (u ≤ℤ reached))) where

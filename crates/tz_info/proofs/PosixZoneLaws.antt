@@ -1,9 +1,9 @@
 -- The numbers of a text's or a file's rule are in their limits, and a text's zone is valid.
 use Rattle.tz_info.proofs.{
-  TextFits.{text_rule_fits},
-  TextLaws.{text_ends},
-  Words.{Bool, IsPosixZone, IsRuleOrNone, IsTzFile, IsTzText, IsValid, List, None, Option, Some, Spells, TransitionRule, Zone, arith, inl, inr, trimmed, ℕ},
-  ZoneLaws.{zone_of_rule_valid},
+  TextFits.text_rule_fits,
+  TextLaws.text_ends,
+  Words.{Bool, IsPosixZone, IsRuleOrNone, IsTzFile, IsTzText, IsValid, List, None, Option, Some, Spells, TransitionRule, Zone, arith, ℕ},
+  ZoneLaws.zone_of_rule_valid,
 }
 use Rattle.tz_info.specs.{Footers.{footer, footer_text, optional_footer}, TzFiles.{contents, tz_file}}
 
@@ -18,19 +18,15 @@ IsOfText extended None = Unit {0}
 
 in_text : (extended : Bool) (bytes : List ℕ) (r : Option TransitionRule) (rest : List ℕ) → Spells (footer_text extended) bytes r rest → IsOfText extended r
 unfolding footer_text
-in_text extended bytes r rest (_, text, _, inl none) = rw none.1.0 tt
-in_text extended bytes r rest (_, text, _, inr (_, (rule, after, spelled, (is, _)))) =
-    rw is (text, rw (text_ends extended text rule after spelled) at spelled)
+in_text extended bytes r rest h = grind (arith, text_ends)
 
 pub in_footer : (extended : Bool) (footer : Option (List ℕ)) (bytes : List ℕ) (r : Option TransitionRule) (rest : List ℕ)
     → Spells (optional_footer extended footer) bytes r rest → IsOfText extended r
 unfolding optional_footer footer
-in_footer extended None bytes r rest h = rw h.0 tt
-in_footer extended (Some bytes) _ r rest (_, (_, _, _, (_, _, _, (_, _, _, (_, text, _)))), _) = in_text extended (trimmed bytes) r _ text
+in_footer extended footer bytes r rest h = grind (arith, in_text)
 
 rule_fits : (extended : Bool) (r : Option TransitionRule) → IsOfText extended r → IsRuleOrNone r
-rule_fits extended None h = tt
-rule_fits extended (Some rule) h = text_rule_fits extended h.0 rule h.1
+rule_fits extended r h = grind (arith, text_rule_fits)
 
 pub file_rule_fits : (bytes : List ℕ) (zone : Zone) → IsTzFile bytes zone → IsRuleOrNone zone.rule
 unfolding tz_file contents

@@ -1,24 +1,20 @@
 -- Questions to a zone's rule: at which seconds it is asked, and how often for a local time.
 use Rattle.std.proofs.lemmas.List.Elements.{Contains-get_or}
 use Rattle.tz_info.proofs.{
-  ListFaults.{equal_known},
-  PassedTransitions.{no_items},
+  ListFaults.equal_known,
+  PassedTransitions.no_items,
   SegmentLaws.{come_at_time, come_by_then},
-  WalkLaws.{window_most},
+  WalkLaws.window_most,
   WallSegments.{leap_time_of, near_of, rule_begun},
   Words.{All-contains, AllPairs-cons, Alternate as AlternateRule, AreUtOffsets, Bool, Contains, Contains-append_right, IsAskedAt, IsAskedAtEach},
   Words.{IsAskedAtLeapTime, IsAskedFor, IsAskedFrom, IsAskedSince, IsByRuleFor, IsLeapTime, IsNear, IsSecondFrom, IsStart, IsValid, IsWide, IsWindow},
-  Words.{LocalType, None, Option, Some, Transition, TransitionRule, Zone, [], arith, get_or, inl, inr, length, linear, not, offsets, offsets_of},
-  Words.{refl, rule_offsets, segment_of, suc, false, sym, true, type_when, zero, ℕ, ℤ, ⊎_elim, ◌+◌, ◌-ℤ◌, ◌<ℤ◌, ◌<◌, ◌↔◌, ◌∙◌, ◌∷◌, ◌≡◌, ◌≢◌, ◌≤ℤ◌},
-  Words.{◌⊎◌},
-  ZoneLaws.{same_passed},
+  Words.{LocalType, None, Option, Some, Transition, TransitionRule, Zone, [], arith, false, get_or, inl, inr, length, linear, not, offsets, offsets_of, refl},
+  Words.{rule_offsets, sym, true, type_when, ℕ, ℤ, ⊎_elim, ◌+◌, ◌-ℤ◌, ◌<ℤ◌, ◌<◌, ◌↔◌, ◌∙◌, ◌∷◌, ◌≡◌, ◌≢◌, ◌≤ℤ◌, ◌⊎◌},
+  ZoneLaws.same_passed,
 }
 use Rattle.tz_info.specs.{Questions.{IsByRule}, declared.rule.transition_rule.TransitionRule.TheVariants.{Alternate, Fixed}}
 
 -- ---- from which second on the rule is asked
-by_rule_segment : (z : Zone) (u : ℤ) → IsByRule z u → segment_of z u ≡ length z.transitions
-by_rule_segment z u a = grind (linear, come_by_then)
-
 -- a zone asks its rule from `start` on
 module _ (z : Zone) (rule : TransitionRule) (start l : ℤ) (valid : IsValid z) (is : z.rule ≡ Some rule)
     (begun : IsStart z.transitions z.leaps (length z.transitions) start) (wide : IsWide l) (offsets : AreUtOffsets rule) where
@@ -48,7 +44,7 @@ module _ (z : Zone) (rule : TransitionRule) (start l : ℤ) (valid : IsValid z) 
           offset = k.offset;
           of_rule = of_rule;
           of_second = k.of_second;
-          since = (rule_begun z u _ valid (near u _ of_rule k.of_second) begun).0 (by_rule_segment z u k.by_rule);
+          since = (rule_begun z u _ valid (near u _ of_rule k.of_second) begun).0 (grind (linear, come_by_then));
         }),
   )
 
@@ -61,13 +57,10 @@ module _ (z : Zone) (rule : TransitionRule) (start l : ℤ) (valid : IsValid z) 
   }
 
 in_one : (a u : ℤ) → Contains (a ∷ []) u → u ≡ a
-in_one a u (zero, h, e) = sym e
-in_one a u (suc k, h, e) = absurd (omega arith)
+in_one a u h = grind linear
 
 pub in_two : (a b u : ℤ) → Contains (a ∷ b ∷ []) u → (u ≡ a) ⊎ (u ≡ b)
-in_two a b u (zero, h, e) = inl (sym e)
-in_two a b u (suc zero, h, e) = inr (sym e)
-in_two a b u (suc (suc k), h, e) = absurd (omega arith)
+in_two a b u h = grind linear
 
 nowhere : (asks : ℤ → Type 0) (p q : ℕ) → ((u : ℤ) → asks u → ⊥) → q ≡ p → IsAskedAtEach asks p q
 nowhere _ p q none e = grind arith
@@ -102,8 +95,7 @@ two_seconds asks c d p q r other both j k = asked_more _ c p q r j (one_second (
 -- ---- those of a rule
 asked_since : (rule : TransitionRule) (from l o : ℤ) (p q : ℕ) → Contains (rule_offsets (Some rule)) o → IsAskedSince from (l -ℤ o) p q
     → IsAskedIf (IsSecondFrom rule from l) (l -ℤ o) p q
-asked_since rule from l o p q of_rule (inl (since, e)) = grind linear
-asked_since rule from l o p q of_rule (inr (early, e)) = grind linear
+asked_since rule from l o p q h k = grind linear
 
 pub asked_fixed : (f : LocalType) (from l : ℤ) (p q : ℕ) → IsAskedSince from (l -ℤ f.offset) p q → IsAskedFrom (Fixed f) from l p q
 asked_fixed f _ l p q asked = one_second _ _ p q
@@ -141,13 +133,11 @@ pub asked_for_window : (z : Zone) (l low high : ℤ) (n : ℕ) (d : Transition) 
 asked_for_window z l low _ n d p q valid w h later e = nowhere _ p q (λ u k.
     let among = Contains-append_right (offsets_of z.types) (rule_offsets z.rule) _ k.of_rule in
     let least = All-contains (λ x. w.least ≤ℤ x) (offsets _ z.rule) _ w.is_least.fewest among in
-    let most = window_most n valid w d h later u _ least (omega linear) in grind (arith, by_rule_segment)) e
+    let most = window_most n valid w d h later u _ least (omega linear) in grind (linear, come_by_then)) e
 
 -- ---- by instant
 pub asked_at_time : (z : Zone) (u x : ℤ) (p q : ℕ) → (0 < length z.transitions → IsLeapTime z.leaps u x) → IsAskedAtLeapTime z x p q → IsAskedAt z u p q
-asked_at_time z u x p q time (inl (rule, is, from, e)) = inl (grind linear, e)
-asked_at_time z u x p q time (inr (inl (none, e))) = inr ((λ a. cc), e)
-asked_at_time z u x p q time (inr (inr (before, e))) = grind (linear, same_passed)
+asked_at_time z u x p q h k = grind (linear, same_passed)
 
 some_or_none : (o : Option TransitionRule) → ((rule : TransitionRule) × (o ≡ Some rule)) ⊎ (o ≡ None)
 some_or_none (Some rule) = inl (rule, refl)

@@ -1,9 +1,8 @@
 -- Each year has one day that is the rule's, and the closed form finds it.
 use Rattle.tz_info.proofs.{
-  Words.{Bool, DayForm, IsDayOf, IsRuleDay, IsWeekdayInWeek, LiesIn, ap, arith, closed_day, closed_day_is, date_lies, day_number, days_at_least},
-  Words.{days_at_most, days_in_year, floors, is_leap, julian_is, julian_place, leap_at_most, months_all, months_step},
-  Words.{number_after, pos, rule_day, starts_rise, sym, weekday_at, weekday_below, weekday_is, weekday_place, year_start, year_step},
-  Words.{ℕ, ℤ, ◌%◌, ◌*◌, ◌+ℤ◌, ◌+◌, ◌-◌, ◌<ℤ◌, ◌<◌, ◌∙◌, ◌≡◌, ◌≤ℤ◌, ◌≤◌},
+  Words.{DayForm, IsDayOf, IsRuleDay, LiesIn, ap, arith, closed_day, closed_day_is, date_lies, day_number, days_at_least, days_at_most, days_in_year, floors},
+  Words.{is_leap, julian_is, leap_at_most, months_all, months_step, number_after, pos, rule_day, starts_rise, sym, weekday_at, weekday_below, weekday_is},
+  Words.{weekday_place, year_start, year_step, ℕ, ℤ, ◌+ℤ◌, ◌+◌, ◌<ℤ◌, ◌<◌, ◌∙◌, ◌≡◌, ◌≤ℤ◌, ◌≤◌},
 }
 use Rattle.tz_info.specs.declared.rule.day.DayForm.TheVariants.{Julian0, Julian1, MonthWeekday}
 
@@ -12,18 +11,11 @@ pub after_december : (year : ℤ) → day_number year 12 32 ≡ year_start year 
 unfolding day_number
 after_december year = omega (arith, floors, months_step (is_leap year) 12 (omega arith), months_all year)
 
-same_week : (first week a b weekday : ℕ) → (first + (a - 1)) % 7 ≡ weekday → (first + (b - 1)) % 7 ≡ weekday → first < 7 → 7 * (week - 1) + 1 ≤ a → a ≤ 7 * week
-    → 7 * (week - 1) + 1 ≤ b → b ≤ 7 * week → a ≡ b
-same_week _ _ a b _ h k low c d e f = omega arith
-
-one_weekday : (year : ℤ) (month week weekday a b : ℕ) → week ≤ 5 → IsWeekdayInWeek year month week weekday a → IsWeekdayInWeek year month week weekday b → a ≡ b
-one_weekday year month week _ a b most h k = grind (arith, same_week, weekday_at, weekday_below)
-
 pub one_rule_day : (form : DayForm) (year a b : ℤ) → IsRuleDay form → IsDayOf form year a → IsDayOf form year b → a ≡ b
 one_rule_day (Julian1 n) year a b fits h k = h.3 ∙ sym (julian_is year n h.0 h.1 h.2) ∙ julian_is _ n k.0 k.1 k.2 ∙ sym k.3
 one_rule_day (Julian0 n) year a b fits h k = h ∙ sym k
 one_rule_day (MonthWeekday month week weekday) year a b fits h k =
-    h.2 ∙ ap (day_number year _) (one_weekday _ _ _ _ h.0 k.0 fits.3 h.1 k.1) ∙ sym k.2
+    h.2 ∙ ap (day_number year _) (grind (arith, weekday_at, weekday_below)) ∙ sym k.2
 
 pub rule_day_is : (form : DayForm) (year : ℤ) → IsRuleDay form → IsDayOf form year (rule_day form year)
 unfolding rule_day
@@ -32,9 +24,6 @@ rule_day_is form year fits = grind arith
 pub rule_day_closed : (form : DayForm) (year : ℤ) → IsRuleDay form → rule_day form year ≡ closed_day form year
 rule_day_closed form year fits =
     one_rule_day _ _ _ _ fits (rule_day_is _ _ fits) (closed_day_is form year fits)
-
-julian_at_most : (leap : Bool) (n : ℕ) → n ≤ 365 → julian_place leap n ≤ 365
-julian_at_most leap n high = grind (arith, leap_at_most)
 
 -- the rule's day is a date of its year, if it is no plain day number
 weekday_lies : (year : ℤ) (month week weekday : ℕ) → IsRuleDay (MonthWeekday month week weekday)
@@ -48,7 +37,7 @@ weekday_lies year month week weekday fits =
 closed_within : (form : DayForm) (year : ℤ) → IsRuleDay form
     → (year_start year ≤ℤ closed_day form year) × (closed_day form year ≤ℤ (year_start year +ℤ pos 365))
 unfolding closed_day
-closed_within (Julian1 n) year fits = grind (arith, julian_at_most, floors)
+closed_within (Julian1 n) year fits = grind (arith, leap_at_most, floors)
 closed_within (Julian0 n) year fits = omega (arith, floors)
 closed_within (MonthWeekday month week weekday) year fits =
     let lies = weekday_lies year _ _ _ fits in

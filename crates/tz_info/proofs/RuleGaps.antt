@@ -42,9 +42,6 @@ other_at a s _ l dst h near never =
     other _ dst (λ e. never u (type_when a dst) near k.since (at a s u dst h.season near k.decided e)
     (omega linear))
 
-most_offset : (a : AlternateRule) (b c : Bool) → (type_when a (not b)).offset ≤ℤ (type_when a b).offset → (type_when a c).offset ≤ℤ (type_when a b).offset
-most_offset a b c h = grind linear
-
 near_by : (a : AlternateRule) (l : ℤ) (dst : Bool) → IsAlternateRule a → IsWide l → IsNear (l -ℤ (type_when a dst).offset)
 near_by a l true rule wide = grind linear
 near_by a l false rule wide = grind linear
@@ -76,7 +73,7 @@ gap_at a s from l dst rule wide is h never =
       more = omega linear;
       less = λ w f since_w k is. by_lt_z w u
           (λ b.
-          let e = subst (λ (x : LocalType). x.offset ≤ℤ (type_when a dst).offset) (sym is.shown) (most_offset a dst _ order) in
+          let e = subst (λ (x : LocalType). x.offset ≤ℤ (type_when a dst).offset) (sym is.shown) (grind linear) in
           omega linear)
           (λ b.
           let e = alternate_once a w _ f (lesser w b k) is in

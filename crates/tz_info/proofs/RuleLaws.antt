@@ -25,9 +25,8 @@ pub rule_told : (rule : TransitionRule) (u : ℤ) → IsRule rule → MatchOptio
 rule_told (Fixed _) _ _ = refl
 rule_told (Alternate a) u limits =
     let of_second = lies_in (floor_div u 86_400) in
-    let when = dst_by_three _ _ _ u _ (starts_near a limits) (ends_near a limits) of_second refl in
     let out = refused_at u _ of_second in
-    grind arith
+    grind (arith, dst_by_three, starts_near, ends_near)
 
 pub rule_decided : (rule : TransitionRule) (u : ℤ) → IsRule rule → ((t : LocalType) × RuleAt rule u t) ⊎ IsRuleRefused rule u
 rule_decided rule u h = let t = rule_told rule u h in grind linear

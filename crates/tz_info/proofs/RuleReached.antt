@@ -65,7 +65,6 @@ module _ (a : Alternate) (begin t l : ℤ) (s : LocalType) (rule : IsAlternateRu
     pub changed_reached : IsUtOffset c.before.offset → l ≡ int_max (t +ℤ s.offset) ((c.at -ℤ pos 1) +ℤ c.before.offset) → begin <ℤ c.at
         → IsReachedSince (RuleAt (AlternateRule a)) begin t l
     changed_reached offset_before is since =
-        let inside = last.inside in
         let all : (m u : ℤ) (r : LocalType) → begin ≤ℤ u → u ≤ℤ t → Shows (RuleAt (AlternateRule a)) m u r → m ≤ℤ l =
         λ m u r from come shows. elim (at_most m u r come shows) [
           | inl less ↦ omega (linear, clamps, less, is)
@@ -75,9 +74,9 @@ module _ (a : Alternate) (begin t l : ℤ) (s : LocalType) (rule : IsAlternateRu
         (λ more. record {
           at = c.at -ℤ pos 1;
           local_type = c.before;
-          near = omega (linear, wide, more, offset, offset_before, inside);
+          near = omega (linear, wide, more, offset, offset_before);
           from = omega (linear, since);
-          not_after = omega (linear, inside);
+          not_after = omega linear;
           shown = record { fits = last.is.fits_before; type = last.is.before; shown = omega (linear, clamps, is, more) };
           last = all;
           least = omega (linear, clamps, is, offset);
@@ -107,8 +106,7 @@ module _ (a : Alternate) (begin local low : ℤ) (rule : IsAlternateRule a) (low
         → shown ≤ℤ v
     shown_from v r from shows none =
         let come = less_before v r from shows in
-        let e = ap (λ (x : LocalType). x.offset) (unchanged a rule low v s r none here shows.type come) in let reached = shows.reached in
-        omega (linear, clamps, come, e, reached, shown_is)
+        let e = ap (λ (x : LocalType). x.offset) (unchanged a rule low v s r none here shows.type come) in omega (linear, clamps, come, e, shown_is)
 
     -- if they don't change up to then, it is that second
     pub still_first : IsNear low → IsNear shown → HasNoChange (AlternateAt a) (λ w. (low <ℤ w) × (w ≤ℤ shown))
@@ -139,9 +137,7 @@ module _ (a : Alternate) (begin local low : ℤ) (rule : IsAlternateRule a) (low
         let (b, is) = greatest in
         let reached : int_max a.std.offset a.dst.offset ≡ c.after.offset = elim (two_types a b next.is.before.dst next.is.after.dst
         (λ same. next.is.differ (next.is.before.shown ∙ same ∙ sym next.is.after.shown))) [
-          | inl old ↦
-              let e = ap (λ (x : LocalType). x.offset) (before ∙ next.is.before.shown ∙ sym old) in
-              absurd (omega (linear, clamps, e, is, low_is, shown_is, inside, come))
+          | inl old ↦ grind (linear, clamps)
           | inr new ↦ is ∙ ap (λ (x : LocalType). x.offset) (new ∙ sym next.is.after.shown)
         ] in
         record {

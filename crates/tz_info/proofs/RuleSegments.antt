@@ -2,10 +2,11 @@
 use Rattle.tz_info.proofs.{
   SegmentEndLaws.{begun_by, come_by, shows_less},
   SegmentLaws.{segment_at, segment_most, type_from, type_in_from},
-  TableLaws.{same_table, table_of, time_then},
+  TableLaws.{same_table, table_of},
   WallSegments.{leap_time_of, near_wide},
   Words.{IsFirstAtOrAfter, IsLeapTime, IsNear, IsValid, IsWide, LocalType, RuleAt, SFits, Some, TransitionRule, TypeAt, Zone, arith, begin_of, cases_lt, inl},
   Words.{inr, length, linear, place_at, segment_of, top_of, w64, ℕ, ℤ, ◌<◌, ◌≡◌, ◌≤ℤ◌, ◌≤◌},
+  ZoneChanges.time_of,
 }
 use Rattle.tz_info.specs.Steps.{Entries.{AreEntries, Entries}, SegmentEnds.IsFirstSegment, Since.{IsFirstSince, IsReachedSince}}
 
@@ -15,13 +16,12 @@ module _ (z : Zone) (e : Entries) (rule : TransitionRule) (k : ℕ) (valid : IsV
   all_come : (u : ℤ) → begin_of e.items k ≤ℤ u → SFits w64 u → (0 < length z.transitions → (x : ℤ) × IsLeapTime z.leaps u x)
       → segment_of z u ≡ length z.transitions
   all_come u from fits time =
-      let most = segment_most z u valid.transitions.rising in
       let same = same_table z e valid made u fits time in
-      grind (arith, come_by)
+      grind (arith, come_by, segment_most)
 
   to_rule : (u : ℤ) (t : LocalType) → begin_of e.items k ≤ℤ u → SFits w64 u → TypeAt z u t → RuleAt rule u t
   to_rule u t from fits here =
-      rw is at (type_from z u t valid.transitions.rising (record { type = here; segment = all_come u from fits (time_then z u t here) }))
+      rw is at (type_from z u t valid.transitions.rising (record { type = here; segment = all_come u from fits (grind (arith, time_of)) }))
 
   from_rule : (u : ℤ) (t : LocalType) → begin_of e.items k ≤ℤ u → IsNear u → RuleAt rule u t → TypeAt z u t
   from_rule u t from near here =
@@ -48,7 +48,6 @@ module _ (z : Zone) (e : Entries) (rule : TransitionRule) (k : ℕ) (valid : IsV
         shown = grind (linear, from_rule);
         first = λ v s shows. elim (cases_lt (place_at e.items v) k) [
           | inl before ↦ grind (linear, shows_less z e.items _ k l v s (table_of z e valid made) within (near_wide l wide) first.before shows.fits before)
-          | inr not ↦ let from = begun_by e.items k v made.rising within (omega arith) shows.fits in
-              h.first v s from (grind (linear, to_rule v s from))
+          | inr not ↦ grind (linear, begun_by, to_rule)
         ];
       }

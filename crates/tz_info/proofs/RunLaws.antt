@@ -2,10 +2,9 @@
 use Rattle.std.specs.Prelude.{IfSome, if◌then◌else◌}
 use Rattle.tz_base.specs.declared.span.Span.{Span}
 use Rattle.tz_info.proofs.{
-  SpanLaws.{since_more},
   Words.{Bool, HaveOneTypeFrom, IsNear, IsNextRun, IsOutOfForce, IsRunUntil, LocalType, None, Option, Some, TypeAt, Zone, false, linear, pos, true, ℤ, ◌-ℤ◌},
   Words.{◌<ℤ◌, ◌↔◌, ◌≡◌, ◌≤ℤ◌},
-  ZoneLaws.{type_once},
+  ZoneLaws.type_once,
 }
 use Rattle.tz_info.specs.Spans.{IsInSpan, IsSince, IsSpan, IsSpanAt, IsUntil}
 
@@ -46,11 +45,10 @@ run_until z s at limit end near near_limit ahead here ends =
       most = grind linear;
       same = λ u from until t k.
           let (before, within) = (ends u).0 until in
-          rw (← its t k) (here.span.each u (record { fits = omega linear; since = grind (linear, since_more); until = within }));
+          rw (← its t k) (here.span.each u (record { fits = omega linear; since = grind linear; until = within }));
       turns = λ less t k l. turned z _ limit end _ here.span.ends ends less (rw (← its t k) at l);
     }
 
 -- the first second of a near interval, or its last one, is near
 pub near_end : (forward : Bool) (low high : ℤ) → IsNear low → IsNear high → low <ℤ high → IsNear (if forward then low else high -ℤ pos 1)
-near_end true low _ near_low near_high some = near_low
-near_end false low high near_low near_high some = grind linear
+near_end forward low high h k l = grind linear

@@ -84,11 +84,10 @@ digits-four = refl
 pub digits-three : (n : ℕ) → 4 ≤ n → 3 ≤ digits n
 digits-three n h = grind (linear, digits-more, digits-four)
 
+-- how many binary digits the number of items that are left has
+pub ruleset halving = (digits-halved, digits-three, digits-more, digits-less)
+
 -- two steps among at most half of the items leave room for one look and the steps that are left
 pub two_steps : (count left n : ℕ) → 0 < count → 2 * count ≤ n → 4 ≤ n → left ≡ (count - count / 2) - (count - count / 2) / 2
     → 2 + digits (left - 1) + 1 ≤ digits n
 two_steps _ _ n some narrow many e = grind (arith, digits-halved, digits-less)
-
--- a step among more than one takes a look
-pub one_step : (count left : ℕ) → 1 < count → left ≡ count - count / 2 → digits (left - 1) + 1 ≤ digits (count - 1)
-one_step _ _ some e = grind (arith, digits-halved)

@@ -32,12 +32,10 @@ all_false cs u (suc n) k l out = elim (fits_or_not (u +ℤ get_or cs n (pos 0)))
 
 -- ---- a zone's type, or why it has none
 itself : (P : Type 0) (o : Option LocalType) (t : LocalType) → o ≡ Some t → MatchOption o P (λ s. o ≡ Some s)
-itself P None t h = absurd cc
-itself P (Some s) t h = refl
+itself P o t h = grind linear
 
 moved : (P R : Type 0) (Q S : LocalType → Type 0) (o : Option LocalType) → (P → R) → ((t : LocalType) → Q t → S t) → MatchOption o P Q → MatchOption o R S
-moved P R Q S None f g h = f h
-moved P R Q S (Some t) f g h = g t h
+moved P R Q S o h k l = grind linear
 
 or_told : (rule : Option TransitionRule) (z : Zone) (u : ℤ) (i : ℕ) → i < length z.types → IsRuleOrNone rule
     → MatchOption (rule_type_or rule u (slice_get z.types i)) (IsRefusedBy rule u) (λ t. RuleOrElse rule u (HasType z i t) t)
@@ -83,9 +81,7 @@ IsListed f u listed = ((listed ≡ []) × HasNoChange f (λ v. v ≡ u)) ⊎ ((c
 between_types : (f : InForce) (u : ℤ) (s t : Option LocalType) → IsOnce f → SFits w64 u → SFits w64 (u -ℤ pos 1)
     → MatchOption s ((x : LocalType) → f (u -ℤ pos 1) x → ⊥) (f (u -ℤ pos 1)) → MatchOption t ((x : LocalType) → f u x → ⊥) (f u)
     → IsListed f u (change_between u s t)
-between_types f u None t once fits fits_before h k = inl (refl, none_before f u h)
-between_types f u (Some s) None once fits fits_before h k = inl (refl, none_here f u k)
-between_types f u (Some s) (Some t) once fits fits_before h k = grind (arith, type_exact)
+between_types f u s t h k l m n = grind (linear, none_before, none_here, type_exact)
 
 pub here_listed : (f : InForce) (types : ℤ → Option LocalType) (u : ℤ) → IsOnce f → AreTypes f types → IsListed f u (change_here types u)
 here_listed f _ u once told = grind (linear, between_types, second_true)

@@ -4,12 +4,11 @@ use Rattle.tz_info.proofs.{
   ExtremeLaws.at_least_least,
   GapLaws.near_type,
   LeapStarts.saturated,
-  SegmentLaws.{begin_first, begins_rise, come_from, place_most, places_rise},
+  SegmentLaws.{begins_rise, come_from, place_most, places_rise},
   WallSegments.{near_of, near_wide, type_there},
-  Words.{AreRising, IsFirstAtOrAfter, IsNear, IsRuleOrNone, IsTable, IsUtOffset, IsValid, IsWide, IsWindowOf, List, LocalType, SFits, Some},
-  Words.{Transition, TypeAt, Zone, [], arith, begin_of, by_lt_z, cases_lt, get_or, get_or_append_left, get_or_push, index_of, inl, inr, length},
-  Words.{length_push, linear, place_at, pos, rises, saturate_signed, slice_get, suc, w64, zero, ℕ, ℤ, ◌++◌, ◌+ℤ◌, ◌-ℤ◌, ◌<ℤ◌, ◌<◌, ◌↔◌, ◌∷◌, ◌≡◌},
-  Words.{◌≤ℤ◌, ◌≤◌, ◌⊎◌},
+  Words.{AreRising, IsFirstAtOrAfter, IsNear, IsRuleOrNone, IsTable, IsUtOffset, IsValid, IsWide, IsWindowOf, List, LocalType, SFits, Some, Transition, TypeAt},
+  Words.{Zone, [], arith, begin_of, by_lt_z, cases_lt, get_or, get_or_append_left, get_or_push, index_of, inl, inr, length, length_push, linear, place_at, pos},
+  Words.{rises, saturate_signed, slice_get, suc, w64, zero, ℕ, ℤ, ◌++◌, ◌+ℤ◌, ◌-ℤ◌, ◌<ℤ◌, ◌<◌, ◌↔◌, ◌∷◌, ◌≡◌, ◌≤ℤ◌, ◌≤◌, ◌⊎◌},
 }
 use Rattle.tz_info.specs.Steps.SegmentEnds.{AreEndsRising, IsFirstOf, IsFirstSegment, IsReached, end_of}
 
@@ -39,10 +38,6 @@ module _ (types : List LocalType) (ts : List Transition) (k : ℕ) (l : ℤ) whe
   pub reached_more : IsReached types ts (suc k) l ↔ (IsReached types ts k l ⊎ (l <ℤ end_of types ts (suc k)))
   reached_more = grind arith
 
-  -- the search has come to the first segment
-  pub first_found : k ≤ length ts → (IsReached types ts k l → ⊥) → (k < length ts → IsReached types ts (suc k) l) → IsFirstSegment types ts l k
-  first_found within before here = grind (arith, reached_more)
-
 -- the later of the segment's begin and the second that shows the local time by its type
 pub first_of_made : (types : List LocalType) (ts : List Transition) (k i : ℕ) (l at begin shown : ℤ) (t : LocalType) → i ≡ index_of ts k
     → slice_get types i ≡ Some t → IsUtOffset t.offset
@@ -60,7 +55,7 @@ shows_less z ts top k l v s table within near none fits before own here =
     by_lt_z l (end_of z.types ts (suc (place_at ts v))) (λ more. grind linear) (λ less. grind (linear, saturated))
 
 pub begun_by : (ts : List Transition) (k : ℕ) (v : ℤ) → AreRising ts → k ≤ length ts → k ≤ place_at ts v → SFits w64 v → begin_of ts k ≤ℤ v
-begun_by ts k v rising within come fits = grind (linear, begin_first, come_from)
+begun_by ts k v rising within come fits = grind (linear, come_from)
 
 pub come_by : (ts : List Transition) (k : ℕ) (v : ℤ) → AreRising ts → k ≤ length ts → begin_of ts k ≤ℤ v → k ≤ place_at ts v
 come_by ts k v rising within begun = grind (linear, come_from)
@@ -79,7 +74,7 @@ module _ (z : Zone) (ts : List Transition) (top k : ℕ) (l : ℤ) (table : IsTa
   before_next at t is inner =
       let rise : begin_of ts k <ℤ begin_of ts (suc k) = elim (cases_lt 0 k) [
         | inl some ↦ grind (linear, begins_rise)
-        | inr none ↦ grind (linear, begin_first ts)
+        | inr none ↦ grind linear
       ] in
       grind (linear, is.from (begin_of ts (suc k) -ℤ pos 1))
 

@@ -62,9 +62,6 @@ later_segment z u v valid h = grind (linear, segments_rise)
 begin_suc : (ts : List Transition) (i : ℕ) (d : Transition) → i < length ts → begin_of ts (suc i) ≡ (get_or ts i d).unix_leap_time
 begin_suc ts i d h = grind (linear, last_taken)
 
-pub begin_first : (ts : List Transition) → begin_of ts 0 ≡ least_time
-begin_first ts = grind arith
-
 pub begin_next : (ts : List Transition) (i : ℕ) (d : Transition) → i < length ts → begin_of ts (i + 1) ≡ (get_or ts i d).unix_leap_time
 begin_next ts i d h = grind (arith, begin_suc)
 

@@ -3,8 +3,8 @@ use Rattle.std.specs.Prelude.{if◌then◌else◌}
 use Rattle.tz_info.proofs.{
   ExtremeLaws.{at_least_least, at_most_greatest},
   Words.{AreEndsWithin, AreShownWithin, AreWithin, Bool, HaveOneTypeFrom, IsEndWithin, IsFirstAtOrAfter, IsGreatest, IsLeast, IsNeverWithin, IsNextRun},
-  Words.{IsWindowOf, IsWithinRun, LocalType, None, Option, Precedes, SFits, ShownSeconds, ShowsWithin, Some, TypeAt, Zone, arith, false, linear},
-  Words.{offsets, pos, refl, subst, true, unsigned_abs, w64, ℤ, ◌+ℤ◌, ◌-ℤ◌, ◌<ℤ◌, ◌<◌, ◌≡◌, ◌≤ℤ◌},
+  Words.{IsWindowOf, IsWithinRun, LocalType, None, Option, Precedes, SFits, ShownSeconds, ShowsWithin, Some, TypeAt, Zone, arith, linear, offsets, pos, refl},
+  Words.{subst, unsigned_abs, w64, ℤ, ◌+ℤ◌, ◌-ℤ◌, ◌<ℤ◌, ◌<◌, ◌≡◌, ◌≤ℤ◌},
   ZoneLaws.type_once,
 }
 
@@ -28,9 +28,6 @@ module _ {z : Zone} {from until low high : ℤ} (start end : ℤ) (t : LocalType
       → IsWithinRun start end (from -ℤ t.offset) (until -ℤ t.offset) u
   in_run u s low high h = grind (linear, type_once)
 
-  to_run : (u : ℤ) → SFits w64 u → IsWithinRun start end (from -ℤ t.offset) (until -ℤ t.offset) u → ShowsWithin (TypeAt z) from until u t
-  to_run u fits is = grind linear
-
   -- what the next run leaves, if it has none
   pub goes_on : (w : Bool) → IsNextRun w low high start end → ((u : ℤ) → IsWithinRun start end (from -ℤ t.offset) (until -ℤ t.offset) u → ⊥)
       → AreWithin z from until (if w then end else low) (if w then high else start)
@@ -39,8 +36,7 @@ module _ {z : Zone} {from until low high : ℤ} (start end : ℤ) (t : LocalType
   -- the first such second of the next run is the first of all, or the last one the last of all
   pub found_in_run : (w : Bool) (u : ℤ) → SFits w64 u → IsNextRun w low high start end → IsWithinRun start end (from -ℤ t.offset) (until -ℤ t.offset) u
       → ((v : ℤ) → IsWithinRun start end (from -ℤ t.offset) (until -ℤ t.offset) v → Precedes w u v) → IsEndWithin w (TypeAt z) from until u t
-  found_in_run true u fits run is least = record { shown = to_run u fits is; first = λ v s h. grind (linear, all.within v s h, in_run v s, least v) }
-  found_in_run false u fits run is greatest = record { shown = to_run u fits is; last = λ v s h. grind (linear, all.within v s h, in_run v s, greatest v) }
+  found_in_run w u h k l m = grind (linear, in_run)
 
 -- it leaves less
 pub leaves_less : (w : Bool) (low high start end : ℤ) → low <ℤ high → IsNextRun w low high start end

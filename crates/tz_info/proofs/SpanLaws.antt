@@ -1,6 +1,6 @@
 -- Spans: at each second between two that have a type there is one, and from the last change to the next one it is the same.
 use Rattle.tz_info.proofs.{
-  ChangeSearch.{InForce, Typed, stays},
+  ChangeSearch.{Typed, stays},
   LastType.last_is,
   LeapEntries.{before_found, follow},
   LeapOrder.none_counted,
@@ -60,8 +60,7 @@ module _ (z : Zone) (a : AlternateRule) (v : ℤ) (valid : IsValid z) (rule : z.
   not_after_second : (u : ℤ) (t : LocalType) → v ≤ℤ u → TypeAt z u t → pos 67_767_976_170_460_799 <ℤ v → ⊥
   not_after_second u t h k high =
       let m = segment_most z u valid.transitions.rising in
-      let r = segments_rise z v u valid.transitions.rising valid.leaps h in
-      let within = rule_second a u t (grind (linear, to_rule)) in grind arith
+      let within = rule_second a u t (grind (linear, to_rule, segments_rise)) in grind (arith, segments_rise)
 
 pub out_of_years : (u : ℤ) → IsAlternateRefused u → (u <ℤ neg_ℤ (pos 67_768_100_504_812_800)) ⊎ (pos 67_767_976_170_460_799 <ℤ u)
 out_of_years u refused = by_lt_z u _
@@ -106,14 +105,6 @@ no_change z u v s t valid limits fits fits_end h none k l =
 
 abbrev pub seconds_of : Option Change → Option ℤ
 seconds_of found = option_map (λ c. c.at) found
-
-idle_since : (f : InForce) (u v : ℤ) (last : Option Change) → IsLast f (λ w. w ≤ℤ u) last → IsSince (seconds_of last) v
-    → HasNoChange f (λ w. (v <ℤ w) × (w ≤ℤ u))
-idle_since f u v last h since d is i = grind linear
-
-idle_until : (f : InForce) (u v : ℤ) (next : Option Change) → IsFirst f (λ w. u <ℤ w) next → IsUntil (seconds_of next) v
-    → HasNoChange f (λ w. (u <ℤ w) × (w ≤ℤ v))
-idle_until f u v next h until d is i = grind linear
 
 -- ---- a span goes from the last change or the first second with a type to the next change or the last second with a type
 -- a second with a type, from which on the span's seconds come, and up to which they come
@@ -178,8 +169,8 @@ span_between z u t _ _ from until valid limits fits h before after begin end =
             let (from, since) = low.later v i.fits i.since in let (up_to, until) = high.earlier v i.fits i.until in
             let (s, k) = typed_between z _ _ v _ _ valid from up_to low.typed.1 high.typed.1 limits in
             let same = by_lt_z v u
-            (λ l. no_change z v u s t valid limits i.fits fits (omega linear) (idle_since _ u v _ before since) k h)
-            (λ m. sym (no_change z u v t s valid limits fits i.fits m (idle_until _ u v _ after until) h k)) in
+            (λ l. no_change z v u s t valid limits i.fits fits (omega linear) (grind linear) k h)
+            (λ m. sym (no_change z u v t s valid limits fits i.fits m (grind linear) h k)) in
             grind linear;
         begins = low.begins;
         ends = high.ends;
@@ -187,9 +178,6 @@ span_between z u t _ _ from until valid limits fits h before after begin end =
     }
 
 -- ---- a second lies in one span
-pub since_more : (from : Option ℤ) (u v : ℤ) → IsSince from u → u ≤ℤ v → IsSince from v
-since_more from u v h l = grind linear
-
 pub until_less : (until : Option ℤ) (u v : ℤ) → IsUntil until v → u ≤ℤ v → IsUntil until u
 until_less until u v h l = grind linear
 

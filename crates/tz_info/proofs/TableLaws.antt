@@ -1,18 +1,18 @@
 -- What a zone's entries say of its table: the seconds before the last transition, or without a rule all, by the segments between entries.
 use Rattle.tz_info.proofs.{
-  EntryChanges.{index_there, looks_most},
+  EntryChanges.index_there,
   ExtremeLaws.window_made,
   GapLaws.{IsNever, gap_found, not_less},
   LeapSearch.own_leap_time,
   PassedTransitions.no_items,
   SegmentLaws.{come_at_time, come_from, place_before, place_begin, place_most, segment_here, segment_most},
   TableSearch.search_found,
-  WallSegments.{indexes_below, leap_time_of, near_fits, shown_inside, type_in_table, type_of_table, typed_answer},
-  Words.{AreBelow, AreExtremes, AreLess, AreListed, Change, Counts, Extremes, HasGap, HasReach, IsBegin, IsBegun, IsBegunNear, IsIndex, IsJump},
-  Words.{IsLeapTime, IsRuleOrNone, IsShownAmong, IsStart, IsTable, IsTableAnswer, IsTableLess, IsValid, IsWallAnswer, IsWide, IsWindowOf},
-  Words.{LocalResult, LocalType, MatchOption, None, Option, RoseWithin, SFits, Shown, ShownAmong, Some, TransitionRule, TypeAt, WallIndex, Zone, []},
-  Words.{ap, arith, begin_of, cases_lt, index_of, inl, inr, least_time, length, linear, offsets, passed, place_at, pos, refl, segment_of, shown_indexes},
-  Words.{slice_get, suc, sym, table_count, top_of, w32, w64, zero, ℕ, ℤ, ◌*◌, ◌-ℤ◌, ◌<ℤ◌, ◌<◌, ◌↔◌, ◌∙◌, ◌≡◌, ◌≤ℤ◌, ◌≤◌, IsSegment, Segment},
+  WallSegments.{leap_time_of, near_fits, shown_inside, type_in_table, type_of_table, typed_answer},
+  Words.{AreExtremes, AreLess, AreListed, Change, Extremes, HasGap, HasReach, IsBegin, IsBegun, IsBegunNear, IsIndex, IsJump, IsLeapTime, IsRuleOrNone},
+  Words.{IsSegment, IsShownAmong, IsStart, IsTable, IsTableAnswer, IsTableLess, IsValid, IsWallAnswer, IsWide, IsWindowOf, LocalResult, LocalType, MatchOption},
+  Words.{None, Option, SFits, Segment, Shown, ShownAmong, Some, TransitionRule, TypeAt, WallIndex, Zone, [], ap, arith, begin_of, cases_lt, index_of, inl, inr},
+  Words.{least_time, length, linear, offsets, passed, place_at, pos, refl, segment_of, shown_indexes, slice_get, suc, sym, table_count, top_of, w32, w64, ℕ, ℤ},
+  Words.{◌-ℤ◌, ◌<ℤ◌, ◌<◌, ◌↔◌, ◌∙◌, ◌≡◌, ◌≤ℤ◌, ◌≤◌},
   ZoneChanges.time_of,
 }
 use Rattle.tz_info.specs.{
@@ -24,14 +24,10 @@ use Rattle.tz_info.specs.{
 
 -- ---- the table's seconds
 index_of_none : (k : ℕ) → index_of [] k ≡ 0
-index_of_none zero = refl
-index_of_none (suc k) = refl
+index_of_none k = grind linear
 
 pub top_least : (rule : Option TransitionRule) (e : Entries) → length e.items ≤ e.all → length e.items ≤ top_of rule e
 top_least rule e h = grind arith
-
-pub time_then : (z : Zone) (u : ℤ) (t : LocalType) → TypeAt z u t → 0 < length z.transitions → (x : ℤ) × IsLeapTime z.leaps u x
-time_then z u t k some = grind (arith, time_of)
 
 module _ (z : Zone) (e : Entries) (valid : IsValid z) (made : AreEntries z e) where
   module _ (u : ℤ) (fits : SFits w64 u) (time : 0 < length z.transitions → (x : ℤ) × IsLeapTime z.leaps u x) where
@@ -59,8 +55,8 @@ module _ (z : Zone) (e : Entries) (valid : IsValid z) (made : AreEntries z e) wh
     indexes = made.indexes;
     within = grind arith;
     listed = λ u t fits below k.
-        let inside = (same_table u fits (time_then z u t k)).1 below in
-        sym (named_there u fits (time_then z u t k)) ∙ type_in_table z _ u t valid.transitions.rising inside (record { type = k; segment = refl });
+        let inside = (same_table u fits (grind (arith, time_of))).1 below in
+        sym (named_there u fits (grind (arith, time_of))) ∙ type_in_table z _ u t valid.transitions.rising inside (record { type = k; segment = refl });
     in_force = λ u t near below has.
         let (x, l) = leap_time_of z u valid near in
         let inside = (same_table u (near_fits u near) (λ _. (x, l))).1 below in
@@ -88,13 +84,10 @@ table_listed z valid none = record {
 }
 
 -- ---- the answers of the table
-pub table_below : (z : Zone) (l : ℤ) (s : Shown) → IsTableAnswer z l s → AreBelow (length z.types) (shown_indexes s)
-table_below z l s h = grind (arith, indexes_below)
-
 pub table_typed : (z : Zone) (l : ℤ) (s : Shown) (answer : LocalResult LocalType) → IsValid z → AreListed z.types (shown_indexes s) answer → IsTableAnswer z l s
     → IsWallAnswer (ShownAmong z 0 (table_count z) l) answer
 table_typed z l s answer valid listed (e, made, wall) =
-    grind (linear, typed_answer, table_of, same_table, time_then)
+    grind (linear, typed_answer, table_of, same_table, time_of)
 
 -- the rule is asked from the last transition on
 pub start_begun : (z : Zone) (e : Entries) (s : ℤ) → IsValid z → AreEntries z e → IsBegunNear e s → IsStart z.transitions z.leaps (length z.transitions) s
@@ -112,7 +105,7 @@ pub gap_by_index : (z : Zone) (e : Entries) (l low high : ℤ) (s : Shown) (c : 
     → IsNever z l → IsWindowOf z l l low high
     → IsShownAmong z e.items 0 (top_of z.rule e) l s → IsJump z.types e.items s c
     → MatchOption c (IsTableLess z l) (λ d. HasGap (TypeAt z) l d.before d.after d.at)
-gap_by_index z e l low high Less None valid limits made never reach shown jump = grind (linear, same_table, near_fits, time_then)
+gap_by_index z e l low high Less None valid limits made never reach shown jump = grind (linear, same_table, near_fits, time_of)
 gap_by_index z e l low high (Skipped (suc k)) (Some c) valid limits made never reach shown (at, has_before, has) =
     let jump = shown.side in
     let start : ℤ = begin_of e.items (suc k) in
@@ -131,11 +124,6 @@ gap_by_index z e l low high s c valid limits made never reach shown jump = grind
 -- two seconds between which clocks may come to show the local time
 pub reach_of : (z : Zone) (l : ℤ) (x : Extremes) → IsWide l → SFits w32 x.greatest → SFits w32 x.least → AreExtremes (offsets z.types z.rule) x → HasReach z l
 reach_of z l x wide fg fl found = (_, _, window_made z l l x.greatest x.least (grind linear) (grind linear) fg fl found.greatest found.least)
-
--- piece probes, and then questions to the rule
-pub rose_by_wall : (z : Zone) (a b c : Counts) (n : ℕ) → n ≤ 2 * length z.transitions → RoseByPieces a b (most_looks n) 0
-    → (0 < length z.transitions → a.piece_reads < b.piece_reads) → RoseWithin b c 0 2 → RoseByWallClock z a c
-rose_by_wall z a b c n few pieces looked rule = grind (linear, looks_most)
 
 -- ---- the index
 -- without entries

@@ -70,14 +70,9 @@ module _ (z : Zone) (valid : IsValid z) (limits : IsRuleOrNone z.rule) where
     beyond : (v : ℤ) → SFits w64 v → l <ℤ v → IsTyped z v → ⊥
     beyond v fits later there = grind (linear, refused_on, time_of)
 
-    never_refused : (u : ℤ) (rule : Option TransitionRule) → ((a : AlternateRule) → rule ≡ Some (Alternate a) → ⊥) → IsRefusedBy rule u → ⊥
-    never_refused u None not refused = refused
-    never_refused u (Some (Fixed _)) not refused = refused
-    never_refused u (Some (Alternate a)) not refused = not a refl
-
     pub last_without_turns : ((a : AlternateRule) → z.rule ≡ Some (Alternate a) → ⊥) → IsLastTyped z l
     last_without_turns not = record {
-      typed = typed_by l timed.fits (omega linear) (λ _ _ _ refused. never_refused l _ not refused);
+      typed = typed_by l timed.fits (omega linear) (λ _ _ _ refused. grind linear);
       none = beyond;
       far = timed.far;
     }

@@ -3,12 +3,11 @@ use Rattle.tz_base.specs.declared.error.{Error.TheVariants.{InvalidTzFile, OutOf
 use Rattle.tz_info.proofs.{
   FilePieceLaws.{file_ends, has_pieces},
   ListFaults.{has_list_fault, list_fault_low, list_fault_once, list_fault_or_valid},
-  ListLaws.{each_keeps},
-  Words.{Bool, Err, Error, FilePieces, HasPieces, IfErr, IfOk, In_file, IsFaultAt, IsFileFault, MatchResult, Result, TimeZone, IsErrAnd, IsOutOfMemory},
-  Words.{IsTzFile, IsValid, IsZoneFault, List, ListFault},
-  Words.{No_memory, None, Not_spelled, Not_valid, Ok, Option, Some, Spells, TransitionRule, Zone, ap, apart, arith, drop, either, error_number},
-  Words.{fault_low as low, fault_once as one_fault, file, inl, inr, lawful, length-take, linear, read, refl, sym, take, take-append-drop, value_once},
-  Words.{ℕ, ◌∙◌, ◌≡◌, ◌≤◌, ◌⊎◌, []},
+  ListLaws.each_keeps,
+  Words.{Bool, Err, Error, FilePieces, HasPieces, IfErr, IfOk, In_file, IsErrAnd, IsFaultAt, IsFileFault, IsOutOfMemory, IsTzFile, IsValid, IsZoneFault, List},
+  Words.{ListFault, MatchResult, No_memory, Not_spelled, Not_valid, Ok, Option, Result, Spells, TimeZone, TransitionRule, Zone, [], ap, apart, arith, drop},
+  Words.{either, error_number, fault_low as low, fault_once as one_fault, file, inl, inr, lawful, length-take, linear, read, refl, sym, take, take-append-drop},
+  Words.{value_once, ℕ, ◌∙◌, ◌≡◌, ◌≤◌, ◌⊎◌},
 }
 use Rattle.tz_base.specs.Grammar.{HasFault, from_fault}
 use Rattle.tz_info.specs.{
@@ -23,8 +22,7 @@ use Rattle.tz_info.specs.{
 footer_keeps : (extended : Bool) (footer : Option (List ℕ)) (bytes : List ℕ) (r : Option TransitionRule) (rest : List ℕ)
     → Spells (optional_footer extended footer) bytes r rest → bytes ≡ rest
 unfolding optional_footer
-footer_keeps extended None bytes r rest h = h.1
-footer_keeps extended (Some footer) bytes r rest h = h.2
+footer_keeps extended footer bytes r rest h = grind linear
 
 contents_keep : (p : FilePieces) (bytes : List ℕ) (z : Zone) (rest : List ℕ) → Spells (contents p) bytes z rest → bytes ≡ rest
 unfolding contents indicators type_at pair_at
@@ -89,8 +87,7 @@ module _ (bytes : List ℕ) (p : FilePieces) (after : List ℕ) (is : read file 
   pub contents_fault : (e : Error) (left : List ℕ) → (e ≡ OutOfMemory) ⊎ ((read (contents p) after ≡ Err e) × (left ≡ from_fault (contents p) after))
       → IsFaultAt bytes e left
   unfolding tz_file
-  contents_fault e left (inl memory) = inr (memory, (p, has_pieces bytes p after is))
-  contents_fault e left (inr (fails, at)) = fault_at bytes e left (rw (is, fails) refl) (rw (is, at) refl)
+  contents_fault e left h = grind (linear, has_pieces, fault_at)
 
   contents_file : (z : Zone) (rest : List ℕ) → read (contents p) after ≡ Ok (z, rest) → IsTzFile bytes z
   unfolding tz_file
@@ -100,8 +97,7 @@ module _ (bytes : List ℕ) (p : FilePieces) (after : List ℕ) (is : read file 
   -- whether the lists make a valid zone
   module _ (lists : Zone) (rest : List ℕ) (says : read (contents p) after ≡ Ok (lists, rest)) where
     pub lists_fault : (e : Error) (left : List ℕ) → ListFault lists e × ¬ (IsValid lists) → IsListPlace p left → IsFaultAt bytes e left
-    lists_fault e left fault place =
-        let file = contents_file lists rest says in let has = has_pieces bytes p after is in grind (linear, Not_valid, In_lists)
+    lists_fault e left fault place = let file = contents_file lists rest says in grind (linear, Not_valid, In_lists, has_pieces)
 
     module _ (valid : IsValid lists) (r : Result TimeZone Error) (made : MatchResult r (λ z. z ≡ lists) (λ e. e ≡ OutOfMemory)) where
       pub made_found : IfOk r (λ z. IsTzFile bytes z × IsValid z)

@@ -109,9 +109,8 @@ module _ (b : Shown) (ps : List Piece) (l : ℤ) (n : ℕ) (passed : ArePassed (
     | inl h ↦
         let (x, is, at) = latest.some h in
         let e : n ≡ suc (n - 1) = omega arith in
-        let taken = last_taken (λ (q : Piece). q.answer) b ps (n - 1) x in
-        let begun = rw e at started in grind (arith, length-map, passed.within)
-    | inr g ↦ grind (arith, latest.none)
+        let begun = rw e at started in grind (arith, length-map, passed.within, last_taken)
+    | inr g ↦ grind (arith, latest.none, last_taken)
   ]
 
 -- ---- in one pass
@@ -181,7 +180,6 @@ module _ {z : Zone} {ts : List Transition} {place : ℕ} {s : Segment} {i : ℕ}
       | inr here ↦
           let at : suc k ≡ place = omega arith in
           let k_is : place - 1 ≡ k = omega arith in
-          let ended = rw k_is at (o.ended (omega arith)) in
           rw at (grind (linear, end_before _ ts place _ o.segment.listed))
     ]
 
@@ -202,7 +200,6 @@ module _ {z : Zone} {ts : List Transition} {place : ℕ} {s : Segment} {i : ℕ}
     pub open_more : (top : ℕ) (out : List Piece) → (1 < place → latest <ℤ p.start) → IsTable z ts top → 0 < place → place < top
         → out ≡ (ps ++ (p ∷ [])) ++ (q ∷ []) → AreOpen z ts (suc place) next i out q.start
     open_more top out strict table some own e =
-        let within = table.within in
         let b = Once i in
         let one : suc place - 1 ≡ place = omega arith in
         let (ends, starts, end_by, start_by, order, is_next) = cuts_between in

@@ -4,14 +4,14 @@ use Rattle.std.proofs.lemmas.Option.{slice_get_within}
 use Rattle.tz_info.proofs.{
   AnswerLaws.{joined_answer, same_answer},
   LeapOrder.leap_times_answer,
-  LeapStarts.{saturated, saturated_rise},
+  LeapStarts.saturated,
   SegmentLaws.{begins_rise, come_at_time, come_from, place_most, places_rise, segment_most, type_before, type_from, type_in_before, type_in_from},
   TableSearch.Between,
-  Words.{AreBelow, AreListed, ArePieces, AreRising, HasType, IsLeapTime, IsMerged, IsNear, IsSegment, IsShownAmong, IsShownIn, IsSideAmong, IsStart, IsTable},
-  Words.{IsUtOffset, IsValid, IsWallAnswer, IsWide, List, ListedAmong, LocalResult, LocalType, None as none, Option, Piece, SFits, Segment, Shown},
-  Words.{ShownAmong, Shows, Some as some, Transition, TransitionRule, TypeAt, TypeIn, Zone, [], arith, begin_of, by_lt_z, cases_lt, cut_of, index_of, inl},
-  Words.{inr, joined, le_false, le_true, length, linear, place_at, refl, segment_of, shown_indexes, suc, table_count, table_count_by, together, w64, zero, ℕ},
-  Words.{ℤ, ⊎_elim, ◌+ℤ◌, ◌+◌, ◌-ℤ◌, ◌<ℤ◌, ◌<◌, ◌↔◌, ◌∷◌, ◌≡◌, ◌≤ℤ◌, ◌≤◌, ◌⊎◌},
+  Words.{AreBelow, AreListed, ArePieces, AreRising, HasType, IsLeapTime, IsMerged, IsNear, IsSegment, IsShownAmong, IsShownIn, IsStart, IsTable, IsUtOffset},
+  Words.{IsValid, IsWallAnswer, IsWide, List, ListedAmong, LocalResult, LocalType, None as none, Option, Piece, SFits, Segment, Shown, ShownAmong, Shows},
+  Words.{Some as some, Transition, TransitionRule, TypeAt, TypeIn, Zone, [], arith, by_lt_z, cases_lt, cut_of, index_of, inl, inr, joined, le_false, le_true},
+  Words.{length, linear, place_at, segment_of, shown_indexes, suc, table_count, table_count_by, together, w64, ℕ, ℤ, ⊎_elim, ◌+◌, ◌-ℤ◌, ◌<ℤ◌, ◌<◌, ◌↔◌, ◌∷◌},
+  Words.{◌≡◌, ◌≤ℤ◌, ◌≤◌, ◌⊎◌},
   ZoneLaws.leap_time_decided,
 }
 use Rattle.tz_info.specs.{Steps.Pieces.opening, declared.zone.made.shown.Shown.TheVariants.{Less, Once, Skipped}}
@@ -65,10 +65,6 @@ module _ (z : Zone) (k : ℕ) (s u : ℤ) (valid : IsValid z) (start : IsStart z
 wall_together : (a b : Shown) → shown_indexes (together a b) ≡ joined (shown_indexes a) (shown_indexes b)
 wall_together a b = grind arith
 
-side_together : (z : Zone) (ts : List Transition) (low : ℕ) (l : ℤ) (middle high : ℕ) (a b : Shown) → middle ≤ high
-    → IsSideAmong z ts low middle l a → IsSideAmong z ts middle high l b → IsSideAmong z ts low high l (together a b)
-side_together z ts low l middle high a b h c d = grind arith
-
 pub shown_joined : (z : Zone) (ts : List Transition) (low middle high : ℕ) (l : ℤ) (a b : Shown) → AreRising ts → low ≤ middle → middle ≤ high
     → IsShownAmong z ts low middle l a → IsShownAmong z ts middle high l b → IsShownAmong z ts low high l (together a b)
 shown_joined z ts low middle high l a b rising h k x y = record {
@@ -78,7 +74,7 @@ shown_joined z ts low middle high l a b rising h k x y = record {
     all = λ u i m. ⊎_elim (λ b. inl (grind arith)) (λ b. inr (grind arith)) (cases_lt (place_at ts u) middle);
     order = grind (linear, places_rise);
   }) x.wall y.wall);
-  side = side_together z ts low l _ _ a b k x.side y.side;
+  side = grind arith;
 }
 
 pub pieces_joined : {z : Zone} {ts : List Transition} {low middle high : ℕ} {bx by : Shown} {xs ys out : List Piece} → AreRising ts → low < middle
@@ -102,8 +98,7 @@ abbrev pub piece : ℤ → Shown → Piece
 piece start answer = record { start = start; answer = answer }
 
 opening_none : (k : ℕ) → 0 < k → opening k ≡ 0
-opening_none zero h = absurd (omega arith)
-opening_none (suc k) h = refl
+opening_none k h = grind linear
 
 -- a segment of a table
 module _ {z : Zone} {ts : List Transition} {top k : ℕ} {s : Segment} (table : IsTable z ts top) (own : k < top) (is : IsSegment z.types ts k s) where
@@ -136,15 +131,7 @@ module _ {z : Zone} {ts : List Transition} {top k : ℕ} {s : Segment} (table : 
         let cut = cut_begun k inner (omega arith) in
         record {
           wall = λ v j m. let e = second_of v j m in grind linear;
-          side = record {
-            some = inner;
-            inside = omega arith;
-            less = grind arith;
-            seen = l -ℤ s.offset;
-            near = near_here;
-            later = grind linear;
-            more = λ f has. let e : f.offset ≡ s.offset = cc in grind (linear, saturated (begin_of ts k +ℤ s.offset) l (near_wide l wide));
-          };
+          side = grind (linear, near_here, saturated, near_wide);
         }
 
     -- if it lies between the segment's cuts, the segment shows it once
@@ -155,7 +142,6 @@ module _ {z : Zone} {ts : List Transition} {top k : ℕ} {s : Segment} (table : 
         let near = near_here in
         let most = place_most ts u table.rising in
         let here : place_at ts u ≡ k = grind (linear, cut_begun k, cut_begun (suc k)) in
-        let type = table.in_force u is.type near (omega arith) (rw here is.listed) in
         let index = is.index in let offset = is.offset in
         record { wall = record { second = u; shown = grind linear; only = second_of }; side = tt }
 
@@ -182,7 +168,6 @@ module _ {z : Zone} {ts : List Transition} {top k : ℕ} {s : Segment} (table : 
       → ArePieces z ts k (suc k) (Skipped k) (piece (cut_of ts k s.offset) (Once s.index) ∷ piece (cut_of ts (suc k) s.offset) Less ∷ [])
   inner_pieces later n =
       let rise = begins_rise ts _ table.rising later n in
-      let order : cut_of ts k s.offset ≤ℤ cut_of ts (suc k) s.offset = saturated_rise _ _ (omega linear) in
       record {
         ordered = grind linear;
         most = grind (arith, opening_none);

@@ -84,13 +84,10 @@ weeks s t e =
     let a = floor_mod_parts (s +ℤ pos 4) 7 (omega arith) in let b = floor_mod_parts (t +ℤ pos 4) 7 (omega arith) in
     (floor_div (t +ℤ pos 4) 7 -ℤ floor_div (s +ℤ pos 4) 7, omega linear)
 
-weekday_on : (s q : ℤ) → weekday_of (s +ℤ pos 7 *ℤ q) ≡ weekday_of s
-weekday_on s q = grind arith
-
 -- two years whose starts are whole weeks apart
 module _ (x y q : ℤ) (leap : is_leap x ≡ is_leap y) (start : year_start y ≡ year_start x +ℤ pos 7 *ℤ q) where
   kind_same : kind_place y ≡ kind_place x
-  kind_same = grind (arith, weekday_on)
+  kind_same = grind arith
 
   moment_moved : (seconds : List ℤ) → moment_by seconds y ≡ moment_by seconds x +ℤ pos 86_400 *ℤ (pos 7 *ℤ q)
   moment_moved _ = rw (kind_same) (omega linear)

@@ -9,7 +9,7 @@ use Rattle.tz_info.proofs.{
   Words.{Alternate as AlternateRule, AlternateAt, AreLeapSeconds, Bool, Change, HasNoChange, IsAhead, IsBegin, IsChange, IsChangeByRule, IsInTable, IsLeapTime},
   Words.{IsLeapTimeRefused, IsNearest, IsNearestChange, IsOutOfForce, IsRuleTime, IsValid, LeapSecond, List, LocalType, None, Option, SFits, Some, TypeAt},
   Words.{Zone, arith, cases_lt, false, inl, inr, length, linear, not, passed_count, pos, refl, segment_of, sym, thresholds, true, w64, ℤ, ◌-ℤ◌, ◌<ℤ◌, ◌<◌, ◌↔◌},
-  Words.{◌∙◌, ◌≡◌, ◌≤ℤ◌, ◌≤◌, ◌⊎◌},
+  Words.{◌∙◌, ◌≡◌, ◌≤ℤ◌, ◌≤◌},
   ZoneLaws.{leap_time_decided, type_once},
 }
 use Rattle.tz_info.specs.declared.rule.transition_rule.TransitionRule.TheVariants.{Alternate}
@@ -104,20 +104,17 @@ IsNearer true z within = IsInTable z within
 IsNearer false z within = IsChangeByRule z within
 
 module _ (z : Zone) (within : ℤ → Type 0) where
-  in_either : (u : ℤ) → IsValid z → within u → IsInTable z within u ⊎ IsChangeByRule z within u
-  in_either u valid inside = grind (arith, segment_most)
-
   table_sooner : (u v : ℤ) → IsValid z → IsInTable z within u → IsChangeByRule z within v → u ≤ℤ v
   table_sooner u v valid t r = let k = later_segment z (u -ℤ pos 1) (v -ℤ pos 1) valid (omega arith) in omega linear
 
   pub nearer_first : (w : Bool) (c : Change) → IsValid z → IsNearestChange w (TypeAt z) (IsNearer w z within) c → IsNearestChange w (TypeAt z) within c
-  nearer_first true c valid h = grind (linear, in_either, table_sooner)
-  nearer_first false c valid h = grind (linear, in_either, table_sooner)
+  nearer_first true c valid h = grind (linear, segment_most, table_sooner)
+  nearer_first false c valid h = grind (linear, segment_most, table_sooner)
 
   pub farther_first : (w : Bool) (found : Option Change) → IsValid z → HasNoChange (TypeAt z) (IsNearer w z within)
       → IsNearest w (TypeAt z) (IsNearer (not w) z within) found → IsNearest w (TypeAt z) within found
-  farther_first true None valid none h = grind (linear, in_either)
-  farther_first w found valid none h = grind (linear, in_either)
+  farther_first true None valid none h = grind (linear, segment_most)
+  farther_first w found valid none h = grind (linear, segment_most)
 
 -- ---- at the ends of a span
 pub out_before : (z : Zone) (c : Change) → IsChange (TypeAt z) c → IsOutOfForce (TypeAt z) c.after (c.at -ℤ pos 1)

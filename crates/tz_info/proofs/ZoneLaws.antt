@@ -6,14 +6,11 @@ use Rattle.tz_info.proofs.{
   Words.{HasType, IsBeforeLast, IsFromLast, IsLeapTime, IsLeapTimeRefused, IsRefusedBy, IsRuleOrNone, IsTypeOf, IsTypeRefused, IsValid, LeapSecond, List},
   Words.{LocalType, None, Option, RuleOrElse, SFits, Some, Transition, TransitionRule, TypeAt, Zone, [], arith, by_leap_time, by_lt_z, by_rule, cases_lt},
   Words.{count_by-le-length, error_number, get_or, inl, inr, last_else, le_true, length, length-filter, linear, map, passed, refl, slice_get, suc, sym},
-  Words.{type_error, w64, zero, zone_of_rule, ℕ, ℤ, ◌<◌, ◌∙◌, ◌∷◌, ◌≡◌, ◌≤◌, ◌⊎◌},
+  Words.{type_error, w64, zero, zone_of_rule, ℕ, ℤ, ◌<◌, ◌∙◌, ◌∷◌, ◌≡◌, ◌⊎◌},
 }
 
-passed_at_most : (z : Zone) (x : ℤ) → length (passed z.transitions x) ≤ length z.transitions
-passed_at_most z x = grind (arith, length-filter, count_by-le-length)
-
 pub before_or_from_last : (z : Zone) (x : ℤ) → IsBeforeLast z x ⊎ IsFromLast z x
-before_or_from_last z x = grind (linear, passed_at_most)
+before_or_from_last z x = grind (linear, length-filter, count_by-le-length)
 
 -- two leap times of a second pass the same transitions
 pub same_passed : (z : Zone) (u x y : ℤ) → (0 < length z.transitions → IsLeapTime z.leaps u x) → (0 < length z.transitions → IsLeapTime z.leaps u y)

@@ -199,6 +199,7 @@ impl<T: Timed> Timeline<T> {
     // The same, if the latest item is one of those. Four steps are written out: in a loop the
     // compiler makes each a jump, which the processor guesses wrong every other time.
     #[inline(always)]
+    #[tactic(auto, using(crate::proofs::SearchSteps::halving))]
     fn passed_near(&self, second: i64, near: Near, probes: &mut Probes) -> Passed<'_, T>
         requires near { IsNarrowedTo (map T.time self.now) second near }
         requires narrow { 2 * near.count ≤ length self.now }
@@ -249,6 +250,7 @@ impl<T: Timed> Timeline<T> {
 
     // How many items come at or before the second, by halving all that are between the ends.
     #[inline(always)]
+    #[tactic(auto, using(crate::proofs::SearchSteps::halving))]
     fn passed_by_halves(&self, second: i64, probes: &mut Probes) -> Passed<'_, T>
         requires left { IsLeft (map T.time self.now) second 0 (length self.now - 1) }
         requires many { 1 < length self.now }

@@ -132,6 +132,7 @@ impl AlternateTime {
 
     // Whether it is daylight saving time at a second of the year.
     #[inline(always)]
+    #[tactic(auto, using(crate::proofs::Fits::fits))]
     pub(super) fn is_dst_in_year(&self, asked: AskedYear, second: i64) -> bool
         requires asked { IsAskedYear self.now asked }
         requires year { IsYearOf second asked.year }

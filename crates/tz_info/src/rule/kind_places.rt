@@ -13,6 +13,7 @@ impl RuleDay {
     // How many days of a year come before the rule's day, in years of each kind: the common years
     // that begin with Sunday to Saturday, and then the leap years. All are found at once, from the
     // month's front in a common year and in a leap year.
+    #[tactic(auto, unfolding(crate::specs::Steps::KindPlaces::places_by_kind, crate::specs::Steps::KindPlaces::place_by))]
     pub(super) fn places_by_kind(&self) -> [u32; 14]
         ensures value { result ≡ places_by_kind self.now }
         ensures rule { IsRuleDay self.now }

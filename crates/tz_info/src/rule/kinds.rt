@@ -40,6 +40,7 @@ pub(super) fn kind_by(is_leap: bool, first_weekday: u32) -> usize
 impl DayTime {
     // The second, counted from the year's first, at which a clock at that offset shows the time on
     // the day, in a year of each kind.
+    #[tactic(auto, using(crate::proofs::Fits::fits, crate::proofs::Words::take_all), unfolding(crate::specs::Steps::Kinds::seconds_by_kind))]
     pub(super) fn seconds_by_kind(&self, offset: i32) -> [i64; 14]
         requires time { IsWithinWeek self.now.time }
         requires offset { IsWithinDay offset }

@@ -163,6 +163,7 @@ impl AlternateTime {
     }
 
     // Whether it is daylight saving time at the second.
+    #[tactic(auto, using(crate::proofs::Fits::fits))]
     pub(super) fn is_dst_at(&self, second: i64) -> bool
         requires { IsRuleTime second }
         ensures { AlternateAt self.now second (type_when self.now result) }

@@ -44,6 +44,7 @@ impl TimeZone {
     }
 
     // The same of a second: the last local time of the segment that it lies in, or of the segments before.
+    #[tactic(auto, using(crate::proofs::Fits::fits, crate::proofs::SearchWords::ints, crate::proofs::SegmentEndLaws::begun_by))]
     fn reached_at(&self, second: i64, probes: &mut Probes) -> i64
         requires second { IsWide second }
         requires room { HasRoom probes.old }

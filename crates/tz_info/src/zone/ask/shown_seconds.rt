@@ -150,6 +150,7 @@ impl TimeZone {
 
     // The first second that shows a local time of the stretch, or the last one: goes from run to run
     // in that direction, until one has such a second.
+    #[tactic(auto, using(crate::proofs::SearchWords::ints, crate::proofs::ShownSecondLaws::none_left))]
     fn end_within(&self, from: i64, until: i64, forward: bool) -> Option<HeldSecond<'_>>
         requires from { IsEnd from }
         requires until { IsEnd until }
@@ -186,6 +187,7 @@ impl TimeZone {
 
     // The first run of the interval, or the last one, and its type: the part that the interval has
     // of the span of its first second, or of its last one.
+    #[tactic(auto, using(crate::proofs::Fits::fits, crate::proofs::SearchWords::ints, crate::proofs::RunLaws::near_end))]
     fn next_run(&self, left: Interval, forward: bool) -> (Interval, &LocalTimeType)
         requires low { IsNear left.low }
         requires high { IsNear left.high }

@@ -102,6 +102,7 @@ impl TimeZone {
 
     // What the table shows of the local time.
     #[inline(always)]
+    #[tactic(auto, using(crate::proofs::EntryChanges::looks_most))]
     pub(super) fn table_answer(&self, local: i64, probes: &mut Probes) -> Shown
         requires local { IsWide local }
         requires room { HasRoom probes.old }
@@ -117,6 +118,7 @@ impl TimeZone {
     // The answer of all seconds, and the moments of the local time's year if the rule's part was
     // decided by these alone.
     #[inline(always)]
+    #[tactic(auto, using(crate::proofs::Fits::fits, crate::proofs::WallSegments::table_alone, crate::proofs::TableLaws::table_typed, crate::proofs::WallSegments::all_segments))]
     pub(super) fn answer_after(
         &self,
         local: i64,

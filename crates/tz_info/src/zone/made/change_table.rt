@@ -107,6 +107,7 @@ impl ChangeTable {
 
     // What has come at the second. If there are no entries, one probe is counted.
     #[inline(always)]
+    #[tactic(auto, using(crate::proofs::EntryChanges::few_digits))]
     pub(in crate::zone) fn come(&self, second: i64, probes: &mut Probes) -> Come
         requires { HasRoomFor (2 ^ 64) probes.old.reads }
         ensures come { IsCome self.now second result }
@@ -348,6 +349,7 @@ impl ChangeTable {
     // The seconds between two entries that have the second, if one comes after it. If `near` entries have
     // come by then, it is found without a search.
     #[inline(always)]
+    #[tactic(auto, using(crate::proofs::SearchWords::ints, crate::proofs::EntryChanges::begin_at))]
     pub(in crate::zone) fn between(
         &self,
         types: &[LocalTimeType],

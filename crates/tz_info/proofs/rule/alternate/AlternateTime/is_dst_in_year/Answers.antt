@@ -1,4 +1,4 @@
-use Rattle.tz_info.proofs.{ChangingYears.calm_tells, Neighbours.{second_high, second_low}, Words.{arith, linear, to_z-of_z}}
+use Rattle.tz_info.proofs.{ChangingYears.calm_tells, Neighbours.{second_high, second_low}, Words.{linear, to_z-of_z}}
 use Rattle.tz_info.proofs.rule.alternate.AlternateTime.is_dst_in_year.Goals as goal
 
 pub returns-then-is_calm : goal.returns-then-is_calm
@@ -9,6 +9,3 @@ returns-then-is_calm c =
     let low = second_low _ _ c.requires.year in let high = second_high _ _ c.requires.year in
     rw (simp to_z-of_z at c.is_dst.ensures, asked.start, asked.end)
     (calm_tells a asked.rule calm _ _ c.requires.time low (omega linear))
-
-pub returns-else-is_calm : goal.returns-else-is_calm
-returns-else-is_calm c = grind (arith, to_z-of_z)

@@ -1,9 +1,6 @@
 use Rattle.tz_info.proofs.{KindLaws.{by_margin, within_years}, Neighbours.near_years, Words.{arith, ints, margin_of, rules, to_z-of_z}}
 use Rattle.tz_info.proofs.rule.alternate.AlternateTime.new.Goals as goal
 
-pub seconds_by_kind-ends-requires : goal.seconds_by_kind-ends-requires
-seconds_by_kind-ends-requires c = grind (arith, ints)
-
 pub changing_keys-changing-requires : goal.changing_keys-changing-requires
 unfolding margin_of
 changing_keys-changing-requires c = record {

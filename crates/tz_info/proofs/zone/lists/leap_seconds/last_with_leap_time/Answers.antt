@@ -1,8 +1,9 @@
 use Rattle.tz_info.proofs.{
   Fits.fits,
-  LeapSearch.{last_with_leap_time, refused_more, refuses_by_entry, since_epoch},
+  LeapEntries.threshold_at,
+  LeapSearch.{last_with_leap_time, refused_more},
   Prefixes.{any_leap, last_taken},
-  Words.{SFits, add-one, get_or, linear, rules, sym, w32},
+  Words.{SFits, add-one, get_or, linear, mapped_at, rules, sym, w32},
 }
 use Rattle.tz_info.proofs.zone.lists.leap_seconds.last_with_leap_time.Goals as goal
 
@@ -13,12 +14,9 @@ loop-entry-preserved c =
     let fm = c.min-last.type_inv in
     simp fits (record {
       refused = refused_more _ _ _ _ _ c.loop-entry.invariant.refused
-          (λ u most. let last = c.last_before.ensures u most in grind (linear, fits, refuses_by_entry)) (simp fits at c.min-last.ensures.value);
+          (λ u most. let last = c.last_before.ensures u most in grind (linear, fits, threshold_at, mapped_at)) (simp fits at c.min-last.ensures.value);
       before = sym (rw add-one (last_taken (λ e. e.correction) _ _ _ any_leap c.loop-entry-test.true));
     })
 
 pub returns : goal.returns
 returns c = grind (linear, fits, last_with_leap_time)
-
-pub last_before-requires : goal.last_before-requires
-last_before-requires c = grind (linear, fits, since_epoch)

@@ -1,8 +1,5 @@
-use Rattle.tz_info.proofs.{Fits.fits, LeapEntries.before_found, Prefixes.any_leap, Words.arith}
+use Rattle.tz_info.proofs.{Fits.fits, LeapEntries.before_found, Prefixes.any_leap}
 use Rattle.tz_info.proofs.zone.lists.leap_time.correction_before.Goals as goal
-
-pub correction_after-requires : goal.correction_after-requires
-correction_after-requires c = omega arith
 
 pub returns : goal.returns
 returns c =

@@ -1,7 +1,4 @@
-use Rattle.tz_info.proofs.{
-  Fits.fits,
-  Words.{SFits, inl, inr, linear, refl, rules, w64},
-}
+use Rattle.tz_info.proofs.{Fits.fits, Words.{SFits, inr, linear, refl, rules, w64}}
 use Rattle.tz_info.proofs.zone.made.one_pass.pieces_at.Goals as goal
 
 pub returns : goal.returns
@@ -13,8 +10,7 @@ returns c =
     let ends = simp fits at c.cut_of-end.ensures in
     let starts = simp fits at c.cut_of-start.ensures in
     elim c.if-end-start.branch [
-      | goal.then-end-start w ↦ rw (c.small-earlier.ensures, c.small-later.ensures, w.first-is) (simp fits
-          (inl (rw (← ends, ← starts) (record { order = omega linear; none = refl; next = refl }))))
+      | goal.then-end-start w ↦ grind linear
       | goal.else-end-start w ↦ rw (c.small-earlier.ensures, c.small-later.ensures, w.first-is) (simp fits
           (inr (rw (← ends, ← starts) (record { order = omega linear; both = refl; next = refl }))))
     ]

@@ -61,6 +61,3 @@ returns c =
       | goal.else-count-entries w ↦ let more = w.if-count-entries.false in
           (grind (linear, fits, whole), grind (linear, fits, whole), λ k _ more. c.loop-place.invariant.changes k (omega arith) more)
     ]
-
-pub push_reserved-requires-then-count-entries : goal.push_reserved-requires-then-count-entries
-push_reserved-requires-then-count-entries c = grind (linear, fits)

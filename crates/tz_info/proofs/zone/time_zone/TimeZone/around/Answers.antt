@@ -1,6 +1,7 @@
 use Rattle.tz_info.proofs.{
+  EntryChanges.looks_most,
   Fits.fits,
-  TableLaws.{gap_by_index, reach_of, rose_by_wall},
+  TableLaws.{gap_by_index, reach_of},
   Words.{HasReach, IsShownAmong, ap, arith, length, linear, rules, top_of, ◌≡◌},
   zone.time_zone.TimeZone.around.Goals.{After-answer-shown, After-answer_after-season},
 }
@@ -45,8 +46,7 @@ gap_at-requires c =
 cost : (c : After-answer_after-season) → RoseByWallClock c.args.self.now c.args.probes.now c.answer_after-season.new.probes
 cost c =
     let n = ap (λ z. length z.transitions) c.self.view_is in
-    rose_by_wall _ _ _ _ _ (omega arith) c.answer-shown.ensures.cost
-    (grind (linear, fits)) c.answer_after-season.ensures.cost
+    grind (linear, looks_most)
 
 pub returns-in-None : goal.returns-in-None
 returns-in-None c =

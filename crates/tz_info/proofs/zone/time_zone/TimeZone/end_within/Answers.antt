@@ -1,6 +1,6 @@
 use Rattle.tz_info.proofs.{
   Fits.fits,
-  ShownSecondLaws.{found_in_run, goes_on, leaves_less, none_left},
+  ShownSecondLaws.{found_in_run, goes_on, leaves_less},
   Words.{SFits, arith, ints, rules, w64, ◌-ℤ◌, ◌≡◌},
   zone.time_zone.TimeZone.end_within.Goals.After-second_showing-before,
 }
@@ -30,6 +30,3 @@ returns-in-Some c =
     let fi : SFits w64 c.in-Some.at = search rules in
     let found = rw (since, before) at (simp fits at c.in-Some.ensures) in
     simp fits (found_in_run _ _ _ (simp fits at c.loop-left.invariant) c.next_run.ensures.one_type _ _ fi c.next_run.ensures.run found.0 found.1)
-
-pub returns : goal.returns
-returns c = grind (arith, ints, none_left)

@@ -1,4 +1,4 @@
-use Rattle.tz_info.proofs.{Fits.fits, RunLaws.{near_end, next_run, one_type}, Words.{SFits, linear, rules, w64}}
+use Rattle.tz_info.proofs.{Fits.fits, RunLaws.{next_run, one_type}, Words.{SFits, rules, w64}}
 use Rattle.tz_info.proofs.zone.time_zone.TimeZone.next_run.Goals as goal
 
 pub returns : goal.returns
@@ -13,6 +13,3 @@ returns c =
       one_type = simp fits (one_type _ _ _ _ _ _
           c.requires.low c.requires.high c.near_span_at-span.ensures.span starts ends);
     }
-
-pub near_span_at-span-requires : goal.near_span_at-span-requires
-near_span_at-span-requires c = grind (linear, fits, near_end)

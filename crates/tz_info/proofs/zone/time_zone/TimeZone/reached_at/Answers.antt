@@ -11,9 +11,6 @@ use Rattle.tz_info.proofs.{
 use Rattle.tz_info.specs.{Steps.SegmentEnds.IsLatestEnd, Steps.Since.IsReachedSince}
 use Rattle.tz_info.proofs.zone.time_zone.TimeZone.reached_at.Goals as goal
 
-pub reached_since-reached-requires-clause-order : goal.reached_since-reached-requires-clause-order
-reached_since-reached-requires-clause-order c = grind (linear, fits, begun_by)
-
 -- from the begin of the segment on
 since : (c : After-latest_end-end)
     → IsReachedSince (TypeAt c.args.self.now) (begin_of c.self.inside.changes.items c.count-place.result) c.args.second (to_z w64 c.match-rule_at.reached-bits)
@@ -43,8 +40,7 @@ ended c =
     let more = digits-more _ _ (rw c.self.view_is at c.self.invariant.list).few in
     let first = rose_then _ _ _ _ _ _ _ c.count-place.ensures.cost c.begin_of-index.ensures.cost in
     elim c.match-rule_at.branch [
-      | goal.in-Some w ↦ rose_less _ _ _ _ _ _ (rose_then _ _ _ _ _ _ _ (rose_then _ _ _ _ _ _ _ first w.reached_since-reached.ensures.cost)
-          (rw w.probes-is at c.latest_end-end.ensures.cost)) (omega arith) (omega arith)
+      | goal.in-Some w ↦ grind (linear, rose_less, rose_then)
       | goal.in-None w ↦ grind linear
     ]
 

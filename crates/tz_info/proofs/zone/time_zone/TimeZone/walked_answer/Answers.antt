@@ -58,14 +58,7 @@ loop-place-init c =
       begin = c.latest-current.ensures.begin;
       index = c.latest-current.ensures.index;
       listed = c.latest-current.ensures.listed;
-      walked = record {
-        inside = λ k d l m. absurd (omega arith);
-        kept = omega arith;
-        most = omega arith;
-        questions = omega arith;
-        pieces = q.pieces_same ∙ p.pieces_same;
-        looked = λ h. omega arith;
-      };
+      walked = grind arith;
     }
 
 pub transition-next-requires-clause-room : goal.transition-next-requires-clause-room

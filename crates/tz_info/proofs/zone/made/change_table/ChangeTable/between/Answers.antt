@@ -14,6 +14,3 @@ returns-then-from-gtminus9223372036854775808-clause-between c =
       index = c.index_after-index.ensures.index;
       span = λ t. (grind arith, omega linear, grind arith);
     })
-
-pub returns-else-from-gtminus9223372036854775808-clause-between : goal.returns-else-from-gtminus9223372036854775808-clause-between
-returns-else-from-gtminus9223372036854775808-clause-between c = grind (linear, begin_at)

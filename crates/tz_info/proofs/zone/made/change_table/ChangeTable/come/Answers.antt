@@ -1,8 +1,5 @@
-use Rattle.tz_info.proofs.{EntryChanges.{few_digits, is_come}, Fits.fits, Words.{arith, refl}}
+use Rattle.tz_info.proofs.{EntryChanges.is_come, Fits.fits, Words.refl}
 use Rattle.tz_info.proofs.zone.made.change_table.ChangeTable.come.Goals as goal
-
-pub passed-passed-requires : goal.passed-passed-requires
-passed-passed-requires c = grind (arith, few_digits)
 
 pub returns-clause-come : goal.returns-clause-come
 returns-clause-come c =
