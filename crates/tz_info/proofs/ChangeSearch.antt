@@ -72,9 +72,6 @@ none_in_empty f _ _ h d is k = omega linear
 abbrev pub IsOnce : InForce → Type 0
 IsOnce f = (u : ℤ) (s t : LocalType) → f u s → f u t → s ≡ t
 
-abbrev one_change : ℤ → LocalType → LocalType → Change
-one_change at before after = record { at = at; before = before; after = after }
-
 -- changes at one second are one
 pub apart : (f : InForce) → IsOnce f → (c d : Change) → IsChange f c → IsChange f d → c.at ≡ d.at → c ≡ d
 apart f once c d h k at = grind (linear, at)
