@@ -1,11 +1,12 @@
 -- Answers to a column's times: by a lookup, and by what is kept of a stretch.
 use Rattle.zoned_ffi.specs.{Columns.{IsInstantOf, IsInstantTaken, IsRowNumber, second_holding}, Steps.KeptTimes.{IsKeptOf, LieWithin, IsStop}}
-use Rattle.zoned_ffi.specs.{Units.{IsCounted, IsLocal, IsWithout, uncounted}, declared.{choice.Missing.{Missing}, column.{Question.{Question}, Stop.{Stop}, Way.TheVariants.{ToInstants}}}}
+use Rattle.zoned_ffi.specs.{Units.{IsCounted, IsLocal, IsWithout, uncounted}, declared.choice.Missing.{Missing}}
+use Rattle.zoned_ffi.specs.declared.column.{Question.{Question}, Stop.{Stop}, Way.TheVariants.{ToInstants}}
 use Rattle.zoned_ffi.{specs.declared.{column.Way.TheVariants.{ToLocal}, resolved.Taken.TheVariants.{GapEnd, InForce, Shifted}}, proofs.Words.{All-contains}}
 use Rattle.zoned_ffi.proofs.Words.{AreKeptTimes, Choice, Fits64, IsGreatest, IsInRange, IsLeast, IsNoInstant, IsOffsetStretch, IsShownOnce, IsTakenAs, Kept}
 use Rattle.zoned_ffi.proofs.Words.{List, LocalType, MatchOption, None, OffsetStretch, Option, Shows, Some, Taken, TypeAt, Unit, Zone, ap, arith, first_second}
-use Rattle.zoned_ffi.proofs.Words.{floor_div, floors, get_or, inl, ints, neg_ℤ, offsets, per_second, pos, refl, subst, taken_instant, ℕ, ℤ, ◌*ℤ◌, ◌+ℤ◌, ◌+◌, ◌-ℤ◌}
-use Rattle.zoned_ffi.proofs.{Words.{◌<ℤ◌, ◌≡◌, ◌≤ℤ◌, drop, ◌∙◌, ◌≤◌}, Slices.{same_after}, Resolving.{none_is, taken_once}}
+use Rattle.zoned_ffi.proofs.Words.{floor_div, floors, get_or, inl, ints, neg_ℤ, offsets, per_second, pos, refl, subst, taken_instant, ℕ, ℤ, ◌*ℤ◌, ◌+ℤ◌, ◌+◌}
+use Rattle.zoned_ffi.proofs.{Words.{◌-ℤ◌, ◌<ℤ◌, ◌≡◌, ◌≤ℤ◌, drop, ◌∙◌, ◌≤◌}, Slices.{same_after}, Resolving.{none_is, taken_once}}
 use Rattle.std.proofs.Common.{bit_or}
 use lib.Bits.{and_le_l, and_le_r, or_add_and}
 use Rattle.tz_info.proofs.{ExtremeLaws.{at_least_least, at_most_greatest}, ForCallers.{type_once}}

@@ -6,7 +6,8 @@ use Rattle.naive_base.specs.Range.{IsInRange}
 use Rattle.tz_base.specs.LocalTypes.{LocalType}
 use Rattle.tz_info.specs.Zones.{Zone}
 use Rattle.zoned_ffi.specs.{Resolved.{IsNoneTaken, IsTakenGapEnd, IsTakenType}, WholeSeconds.{IsFound, IsNotFound}}
-use Rattle.zoned_ffi.specs.{Units.{IsCounted, IsLocal, IsWithout, no_time, per_second}, declared.{choice.{Choice.{Choice}, Missing.{Missing}}, column.Way.{Way}, unit.Unit.{Unit}}}
+use Rattle.zoned_ffi.specs.Units.{IsCounted, IsLocal, IsWithout, no_time, per_second}
+use Rattle.zoned_ffi.specs.declared.{choice.{Choice.{Choice}, Missing.{Missing}}, column.Way.{Way}, unit.Unit.{Unit}}
 use Rattle.zoned_ffi.specs.declared.whole_second.WholeSecond.{WholeSecond}
 use Rattle.zoned_ffi.specs.declared.column.Way.TheVariants as ways
 

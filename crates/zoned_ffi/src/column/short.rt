@@ -68,8 +68,8 @@ pub fn write_short(question: Question, times: &[i64], answers: &mut [i64]) -> Re
     requires { length times.now ≡ length answers.old }
     ensures size { length answers.new ≡ length times.now }
     ensures answered { MatchResult result
-        (λ row. (row ≤ length times.now) × (row < length times.now → 8 ≤ length times.now) × AreWritten question.entry (take row times.now) (take row answers.new)
-        × (drop row answers.new ≡ drop row answers.old))
+        (λ row. (row ≤ length times.now) × (row < length times.now → 8 ≤ length times.now)
+        × AreWritten question.entry (take row times.now) (take row answers.new) × (drop row answers.new ≡ drop row answers.old))
         (λ s. IsStop question.entry times.now answers.old answers.new s) }
 {
     let mut kept = Kept::none(question);
