@@ -1,5 +1,5 @@
 """One value costs at most three times what zoneinfo takes for it, and a column of 1,000 or of 10,000 rows at most a third or a
-tenth of what pandas takes, or twice that where other work runs.
+tenth of what pandas takes, or two and a half times that where other work runs.
 
 The least times of many rounds are compared, in which both are asked by turns, so that what else runs doesn't matter.
 """
@@ -93,7 +93,7 @@ FORMS = {
 #: By number of rows: how many times as fast as pandas a column is on an idle machine.
 RATIOS = {1_000: 3, 10_000: 10}
 # What part of that is asked of any machine.
-SURE = 0.5
+SURE = 0.4
 
 
 def years(first, end, rows):
