@@ -2,7 +2,6 @@
 use Rattle.std.proofs.Common.{arith, ◌≡◌, ℕ, ◌≤◌, List, Bool, cond, Ok, Err, Result, refl, inl, inr, ◌⊎◌}
 use Rattle.std.specs.Bool.{Decides}
 use Rattle.tz_base.specs.{Errors.{error_number}, Fronts.{◌>>=◌}, declared.error.Error.{Error}}
-use Rattle.tz_base.proofs.ReadLaws.{ok_same, err_same}
 
 -- a value is read if and only if it is meant, and an error is returned if and only if its fault is there. Running out of memory
 -- is no such error: the numbers are the first sixteen
@@ -15,10 +14,10 @@ pub record Decided (X : Type 0) (r : Result X Error) (P : X → Type 0) (F : Err
 
 -- one value or one fault, never both, and one of them
 pub value_once : {X : Type 0} {r : Result X Error} {P : X → Type 0} {F : Error → Type 0} → Decided X r P F → (x y : X) → P x → P y → x ≡ y
-value_once {r = r} d x y p q = ok_same r x y (d.again x p) (d.again y q)
+value_once d x y p q = let a = d.again x p in let b = d.again y q in cc
 
 pub fault_once : {X : Type 0} {r : Result X Error} {P : X → Type 0} {F : Error → Type 0} → Decided X r P F → (other err : Error) → F other → F err → other ≡ err
-fault_once {r = r} d other err f g = err_same r other err (d.refuses other f) (d.refuses err g)
+fault_once d other err f g = let a = d.refuses other f in let b = d.refuses err g in cc
 
 pub apart : {X : Type 0} {r : Result X Error} {P : X → Type 0} {F : Error → Type 0} → Decided X r P F → (x : X) (err : Error) → P x → F err → ⊥
 apart d x err p f = let a = d.again x p in let b = d.refuses err f in cc

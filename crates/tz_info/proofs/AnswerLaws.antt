@@ -44,10 +44,9 @@ both {f} {n} o x y = record {
 pub joined_answer : {T : Type 0} (p q r : ℤ → T → Type 0) (a b : LocalResult T) → Parts p q r → IsWallAnswer p a
     → IsWallAnswer q b → IsWallAnswer r (joined a b)
 joined_answer p q r None b o x y = grind (linear, same_answer)
-joined_answer p q r (Single a) None o x y = grind (linear, same_answer)
+joined_answer p q r a None o x y = grind (linear, same_answer)
 joined_answer p q r (Single a) (Single c) o x y = both o (of_one x) (of_one y)
 joined_answer p q r (Single a) (Ambiguous c d) o x y = both o (of_one x) (of_several y)
-joined_answer p q r (Ambiguous a b) None o x y = grind (linear, same_answer)
 joined_answer p q r (Ambiguous a b) (Single c) o x y = both o (of_several x) (of_one y)
 joined_answer p q r (Ambiguous a b) (Ambiguous c d) o x y = both o (of_several x) (of_several y)
 

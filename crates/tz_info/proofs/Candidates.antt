@@ -3,8 +3,8 @@ use Rattle.offset_core.specs.declared.local_result.LocalResult.TheVariants.{None
 use Rattle.tz_info.proofs.{
   AnswerLaws.same_answer,
   RuleLaws.rule_once,
-  Words.{Alternate as AlternateRule, AlternateAt, Bool, Contains, FitsSigned, IsAskedLast, IsWallAnswer, LocalResult, LocalType, RuleAt, Shows, Some},
-  Words.{TransitionRule, TypeFrom, arith, inl, inr, joined, linear, rule_offsets, type_when, w64, ℤ, ◌+ℤ◌, ◌-ℤ◌, ◌<ℤ◌, ◌≡◌, ◌≤ℤ◌, ◌⊎◌},
+  Words.{Alternate as AlternateRule, AlternateAt, Contains, FitsSigned, IsAskedLast, IsWallAnswer, LocalResult, LocalType, RuleAt, Shows, Some},
+  Words.{TransitionRule, TypeFrom, arith, inl, inr, joined, linear, rule_offsets, w64, ℤ, ◌+ℤ◌, ◌-ℤ◌, ◌<ℤ◌, ◌≡◌, ◌≤ℤ◌, ◌⊎◌},
 }
 use Rattle.tz_info.specs.declared.rule.transition_rule.TransitionRule.TheVariants.{Alternate}
 
@@ -23,15 +23,11 @@ pub asked_both : (at : ℤ → LocalType → Type 0) (l o p : ℤ) (one two : Lo
     → ((u : ℤ) (t : LocalType) → Shows at l u t → (u ≡ l -ℤ o) ⊎ (u ≡ l -ℤ p)) → IsAskedLast at l o None one → IsAskedLast at l p one two
     → IsWallAnswer (Shows at l) two
 asked_both at l o p one two less both (inl (e, none)) g = grind arith
-asked_both at l o p one two less both (inr (s, k, e)) (inl (f, none)) = grind arith
-asked_both at l o p one two less both (inr (s, k, e)) (inr (t, m, f)) = grind linear
+asked_both at l o p one two less both (inr (s, k, e)) g = grind linear
 
 -- a rule and a type
 module _ (a : AlternateRule) (t : LocalType) where
   -- ---- a rule's
-  one_of : (dst : Bool) → t ≡ type_when a dst → (t ≡ a.std) ⊎ (t ≡ a.dst)
-  one_of dst e = grind arith
-
   -- an alternate rule has its standard type or its daylight saving type
   pub one_of_two : (u : ℤ) → AlternateAt a u t → (t ≡ a.std) ⊎ (t ≡ a.dst)
   one_of_two u k = grind arith

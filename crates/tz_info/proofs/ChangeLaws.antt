@@ -2,8 +2,8 @@
 use Rattle.std.proofs.lemmas.Map.Made.{Contains-tail}
 use Rattle.tz_info.proofs.{
   ChangeSearch.apart,
-  Words.{AllPairs, AreChanges, Bool, Change, Contains, Contains-append_right, IsChange, IsFirst, IsNearest, IsTypeBeforeGap, List, LocalType, None, Option},
-  Words.{Precedes, Some, TypeAt, Zone, [], ap, arith, linear, pos, refl, suc, zero, ℤ, ◌+ℤ◌, ◌-ℤ◌, ◌<ℤ◌, ◌∷◌, ◌≡◌, ◌≤ℤ◌},
+  Words.{AllPairs, AreChanges, Bool, Change, Contains, Contains-append_right, IsChange, IsNearest, IsTypeBeforeGap, List, LocalType, None, Option},
+  Words.{Some, TypeAt, Zone, [], ap, arith, linear, pos, refl, suc, ℤ, ◌+ℤ◌, ◌<ℤ◌, ◌∷◌, ◌≡◌, ◌≤ℤ◌},
   ZoneLaws.type_once,
 }
 
@@ -11,40 +11,34 @@ pub one_change : (z : Zone) (c d : Change) → IsChange (TypeAt z) c → IsChang
 one_change z = apart (TypeAt z) (type_once z)
 
 -- ---- the nearest one
-each_way : (w : Bool) (x y : ℤ) → Precedes w x y → Precedes w y x → x ≡ y
-each_way w x y h k = grind linear
-
 pub one_nearest : (w : Bool) (z : Zone) (within : ℤ → Type 0) (a b : Option Change) → IsNearest w (TypeAt z) within a → IsNearest w (TypeAt z) within b → a ≡ b
 one_nearest w z _ None None h k = refl
 one_nearest w z within None (Some d) h k = grind linear
 one_nearest w z within (Some c) None h k = grind linear
-one_nearest w z within (Some c) (Some d) h k = ap Some (one_change z c d h.is k.is
-    (each_way w _ _ (h.nearest d k.is k.inside) (k.nearest c h.is h.inside)))
+one_nearest w z within (Some c) (Some d) h k =
+    let l = h.nearest d k.is k.inside in let m = k.nearest c h.is h.inside in ap Some (one_change z c d h.is k.is (grind linear))
 
 -- ---- lists
-abbrev Rise : List Change → Type 0
+abbrev pub Rise : List Change → Type 0
 Rise changes = AllPairs (λ c d. c.at <ℤ d.at) changes
 
-at_front : (c : Change) (cs : List Change) → Contains (c ∷ cs) c
+pub at_front : (c : Change) (cs : List Change) → Contains (c ∷ cs) c
 at_front c cs = (0, omega arith, refl)
 
 later : (c d : Change) (cs : List Change) → Rise (c ∷ cs) → Contains cs d → c.at <ℤ d.at
 later c d cs rise h = rw h.2 at (rise 0 (suc h.0) d (omega arith) (omega arith))
 
-not_before : (c d : Change) (cs : List Change) → Rise (c ∷ cs) → Contains (c ∷ cs) d → c.at ≤ℤ d.at
-not_before c d cs rise (zero, l, same) = grind linear
-not_before c d cs rise (suc k, l, same) = let m = later c d cs rise (k, omega arith, same) in omega linear
+pub not_before : (c d : Change) (cs : List Change) → Rise (c ∷ cs) → Contains (c ∷ cs) d → c.at ≤ℤ d.at
+not_before c d cs rise h = let m = rise 0 h.0 d in grind linear
 
 -- the changes after the first
 rest : (z : Zone) (from until : ℤ) (c : Change) (cs : List Change) → AreChanges (TypeAt z) from until (c ∷ cs) → AreChanges (TypeAt z) (c.at +ℤ pos 1) until cs
 rest z from until c cs h = record {
   rising = λ i j d l m. h.rising (suc i) (suc j) d (omega arith) (omega arith);
-  each = λ x. (
-    λ inside.
-        let l = later c x cs h.rising inside in
-        let k = (h.each x).0 (Contains-append_right (c ∷ []) cs x inside) in grind linear,
+  each = λ x. let e = h.each x in (
+    λ inside. let l = later c x cs h.rising inside in let k = e.0 (Contains-append_right (c ∷ []) cs x inside) in grind linear,
     λ k. let low = k.1.0 in let first = ((h.each c).0 (at_front c cs)).1.0 in
-        Contains-tail c cs x (λ e. absurd (grind linear)) ((h.each x).1 (k.0, (omega linear, k.1.1))),
+        Contains-tail c cs x (λ e. absurd (grind linear)) (e.1 (k.0, (omega linear, k.1.1))),
   );
 }
 
@@ -60,13 +54,6 @@ one_list_of_changes z from until (c ∷ cs) (d ∷ ds) h k =
     let same = one_change z c d is.0 other.0 (omega linear) in
     let others = one_list_of_changes z (c.at +ℤ pos 1) until cs ds (rest z _ _ c cs h) (rw (← same) at (rest z _ _ d ds k)) in
     λ i. same i ∷ others i
-
--- the front of a list is the first change at or after its first second
-pub front_is_first : (z : Zone) (from until : ℤ) (c : Change) (cs : List Change) → AreChanges (TypeAt z) from until (c ∷ cs)
-    → IsFirst (TypeAt z) (λ u. (from -ℤ pos 1) <ℤ u) (Some c)
-front_is_first z _ until c cs h =
-    let here = (h.each c).0 (at_front c cs) in
-    record { is = here.0; inside = grind linear; nearest = λ d is inside. let m = not_before c d cs h.rising in let e = h.each d in grind linear }
 
 -- ---- the type before a gap
 pub one_type_before_gap : (z : Zone) (l : ℤ) (s t : LocalType) → IsTypeBeforeGap (TypeAt z) l s → IsTypeBeforeGap (TypeAt z) l t → s ≡ t

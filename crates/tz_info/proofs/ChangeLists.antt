@@ -5,7 +5,7 @@ use Rattle.tz_info.proofs.{
   Words.{AreChanges, Change, Changes, Contains, Contains-append_left, Contains-get_or, Contains-push, Contains-push_cases, HasNoChange, IsChange},
   Words.{IsFirstChange, IsFromUntil, IsInStretch, IsLastChange, IsRuleOrNone, IsValid, List, LocalType, Option, TypeAt, Zone, [], add-suc, add-zero},
   Words.{all_pairs_push, ap, append-nil, append_assoc, arith, by_lt_z, change_here, changes_in, changes_left, changes_of, get_or, inl, inr, least_time, length},
-  Words.{length-append, linear, lt_false, pos, refl, seconds_between, subst, suc, type_or_none, zero, ℕ, ℤ, ◌++◌, ◌+ℤ◌, ◌+◌, ◌-ℤ◌, ◌<ℤ◌, ◌<◌, ◌↔◌, ◌∙◌},
+  Words.{length-append, linear, lt_false, pos, refl, seconds_between, suc, type_or_none, zero, ℕ, ℤ, ◌++◌, ◌+ℤ◌, ◌+◌, ◌-ℤ◌, ◌<ℤ◌, ◌<◌, ◌↔◌, ◌∙◌},
   Words.{◌∷◌, ◌≡◌, ◌≤ℤ◌},
   ZoneLaws.{type_once},
 }
@@ -50,10 +50,6 @@ until_is : (from until : ℤ) → from ≤ℤ until → from +ℤ pos (seconds_b
 unfolding seconds_between
 until_is _ _ late = grind arith
 
-none_between : (from until : ℤ) → until ≤ℤ from → seconds_between from until ≡ 0
-unfolding seconds_between
-none_between _ _ late = rw (lt_false _ _ late)
-
 -- the seconds of two stretches, one after the other
 parts : (types : ℤ → Option LocalType) (from : ℤ) (m n : ℕ) → changes_in types from (m + n) ≡ changes_in types from m ++ changes_in types (from +ℤ pos m) n
 parts types from m zero = grind (linear, add-zero, append-nil)
@@ -66,12 +62,11 @@ parts types from m (suc n) =
 module _ (z : Zone) (valid : IsValid z) (limits : IsRuleOrNone z.rule) (from until : ℤ) where
   -- the list has exactly the changes of the stretch
   changes_are : AreChanges (TypeAt z) from until (changes_of z from until)
-  unfolding changes_of
+  unfolding changes_of seconds_between
   changes_are = by_lt_z from until
-      (λ less. subst (λ u. AreChanges (TypeAt z) from u (changes_in (type_or_none z) from (seconds_between from until)))
-      (until_is from _ (omega linear))
-      (changes_made _ _ _ _ (type_once z) (types_told z valid limits)))
-      (λ late. grind (linear, none_between))
+      (λ less. let all = changes_made _ _ from (seconds_between from until) (type_once z) (types_told z valid limits) in
+      rw (until_is from until (omega linear)) at all)
+      (λ late. rw (lt_false _ _ late) (grind linear))
 
   none_left : HasNoChange (TypeAt z) (IsFromUntil from until) → changes_of z from until ≡ []
   none_left none = empty _ (λ c inside. let k = changes_are.each c in grind arith)

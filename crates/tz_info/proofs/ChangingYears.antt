@@ -4,8 +4,8 @@ use Rattle.std.specs.List.{list_any}
 use Rattle.tz_info.proofs.{
   ChangeSearch.{IsAsked, asked, nearest_either, nearest_moved, stays},
   KindLaws.{IsMargin, kind_found, margin_kept},
-  Neighbours.{KeepsMargin, dst_by_three, ends_near, second_high, second_low, starts_near},
-  RuleChanges.{change_near, rule_second, rule_until, same_or_not},
+  Neighbours.{KeepsMargin, dst_by_three, ends_near, in_year, starts_near},
+  RuleChanges.{change_near, rule_second, rule_until},
   RuleLaws.{alternate_at, alternate_once, rule_time, rule_year},
   SeasonLaws.{season_made},
   Words.{Alternate, AlternateAt, Bool, Change, Contains, DayTime, HasNoChange, IsAlternateRule, IsCalmRule, IsChange, IsNearest, IsOfYear, IsRuleDay},
@@ -38,16 +38,15 @@ module _ (a : Alternate) (year : ℤ) (dst : ℤ → Bool) (tells : Tells a year
   -- a change comes only where it begins or ends
   no_turn : (d : Change) → IsChange (AlternateAt a) d → IsYearOf (d.at -ℤ pos 1) year → dst (d.at -ℤ pos 1) ≢ dst d.at
   no_turn d is of_year same =
-      let low = second_low _ _ of_year in let high = second_high _ _ of_year in
-      let before = tells _ (rule_second a _ _ is.before) low (omega linear) in
-      let after = tells _ (rule_second a _ _ is.after) (omega linear) (omega linear) in
-      is.differ (alternate_once a _ _ _ is.before before ∙ rw same (sym (alternate_once a _ _ _ is.after after)))
+      let (low, high) = in_year _ _ of_year in
+      let before = alternate_once a _ _ _ is.before (tells _ (rule_second a _ _ is.before) low (omega linear)) in
+      let after = alternate_once a _ _ _ is.after (tells _ (rule_second a _ _ is.after) (omega linear) (omega linear)) in grind linear
 
   -- and there one comes, if the types differ
   turn : (u : ℤ) → IsRuleYear year → IsRuleTime u → IsYearOf (u -ℤ pos 1) year → a.std ≢ a.dst → dst (u -ℤ pos 1) ≡ not (dst u)
       → IsChange (AlternateAt a) (record { at = u; before = type_when a (dst (u -ℤ pos 1)); after = type_when a (dst u) })
   turn u inside time of_year types differ =
-      let before = rule_time _ _ of_year inside in let low = second_low _ _ of_year in let high = second_high _ _ of_year in
+      let before = rule_time _ _ of_year inside in let (low, high) = in_year _ _ of_year in
       record {
         fits = omega linear;
         fits_before = omega linear;
@@ -80,12 +79,6 @@ apart x y = (λ h. grind linear, λ h same. grind linear)
 -- if they are apart, it begins at the start and ends at the end, and at no other second
 turned : (s e : ℤ) (to_dst : Bool) → s ≢ e → (is_dst_by_one s e (cond to_dst s e) ≡ to_dst) × (is_dst_by_one s e (cond to_dst s e -ℤ pos 1) ≡ not to_dst)
 turned s e to_dst apart = grind arith
-
-never_dst : (s e u v : ℤ) → s ≡ e → is_dst_by_one s e u ≡ is_dst_by_one s e v
-never_dst s e u v one = grind arith
-
-dst_alike : (s e u : ℤ) → (s ≡ u → ⊥) → (e ≡ u → ⊥) → is_dst_by_one s e (u -ℤ pos 1) ≡ is_dst_by_one s e u
-dst_alike s e u h k = grind linear
 
 -- a moment far from the year's ends lies in it, and so does the second before
 amid : (moments : ℤ → ℤ) (year : ℤ) → KeepsMargin moments (pos 172_800) → IsYearOf (moments year) year × IsYearOf (moments year -ℤ pos 1) year
@@ -127,26 +120,18 @@ module _ (a : Alternate) (rule : IsAlternateRule a) where
         (season_made a _ _ _ _ calm_margin refl refl refl refl refl).decided u time (omega (arith, floors))
 
     inside : (year : ℤ) (to_dst : Bool) → IsYearOf (turn_of a to_dst year) year × IsYearOf (turn_of a to_dst year -ℤ pos 1) year
-    inside year true = amid _ year calm_margin.start
-    inside year false = amid _ year calm_margin.end
+    inside year to_dst = let s = amid _ year calm_margin.start in let e = amid _ year calm_margin.end in grind arith
 
     -- if they are two, clocks change at each
     pub turn_change : (year : ℤ) (to_dst : Bool) → IsRuleYear year → a.std ≢ a.dst → start_in a year ≢ end_in a year
         → IsChange (AlternateAt a) (record { at = turn_of a to_dst year; before = type_when a (not to_dst); after = type_when a to_dst })
     turn_change year to_dst of_rule types apart =
         let (own, before) = inside year to_dst in let (here, there) = turned _ _ to_dst apart in
-        rw (here, there) at (turn a year _ (calm_tells year) (turn_of a to_dst year) of_rule (rule_time _ _ own of_rule) before types
-        (there ∙ ap not (sym here)))
+        let t = turn a year _ (calm_tells year) (turn_of a to_dst year) of_rule (rule_time _ _ own of_rule) before types in grind arith
 
     -- and at no other second of the year
     at_moments : (year : ℤ) (d : Change) → IsChange (AlternateAt a) d → IsYearOf (d.at -ℤ pos 1) year → (start_in a year ≡ d.at) ⊎ (end_in a year ≡ d.at)
-    at_moments year d is of_year = elim (same_or_not _ _) [
-      | inl e ↦ inl e
-      | inr apart ↦ elim (same_or_not _ _) [
-        | inl e ↦ inr e
-        | inr other ↦ absurd (no_turn a year _ (calm_tells year) d is of_year (dst_alike _ _ _ apart other))
-      ]
-    ]
+    at_moments year d is of_year = let turn = no_turn a year _ (calm_tells year) d is of_year in grind linear
 
     -- so the nearest of the two is the nearest one of the year
     pub nearest_of_two : (w : Bool) (year after last : ℤ) (found other : Option Change)
@@ -162,7 +147,7 @@ module _ (a : Alternate) (rule : IsAlternateRule a) where
         (asked w _ _ _ _ _ k))
 
     pub none_of_one : (year : ℤ) → start_in a year ≡ end_in a year → HasNoneIn a year
-    none_of_one year one d is of_year = no_turn a year _ (calm_tells year) d is of_year (never_dst _ _ _ _ one)
+    none_of_one year one d is of_year = let turn = no_turn a year _ (calm_tells year) d is of_year in grind linear
 
   apart_by_kind : (year : ℤ) → let kind = kind_place year in
       let two = are_apart (get_or (starts_of a) kind (pos 0)) (get_or (ends_of a) kind (pos 0)) in
@@ -179,7 +164,7 @@ module _ (a : Alternate) (rule : IsAlternateRule a) where
   none_by year false calm none d is of_year =
       let near = years_near (start_in a) (end_in a) year in
       let off = none_at (flips_at near) (seconds_near near) _ (change_near a _ d rule is of_year) (ap (λ y. has_flip y) (near_by_kind year) ∙ none) in
-      let low = second_low _ _ of_year in let high = second_high _ _ of_year in
+      let (low, high) = in_year _ _ of_year in
       no_turn a year _ (near_tells year) d is of_year (flip_off near.first near.next d.at _ _ (omega linear) (omega linear) off)
 
   pub none_in : (year : ℤ) → changes_in_year a year ≡ false → HasNoneIn a year

@@ -15,12 +15,8 @@ made u v s t = record { from = u; until = v; old = s; new = t }
 covers : (z w : Zone) (from until u : ℤ) (d e : Difference) → IsDifference (TypeAt z) (TypeAt w) from until d → IsDifference (TypeAt z) (TypeAt w) from until e
     → d.old ≡ e.old → d.new ≡ e.new → IsInDifference u d → IsInDifference u e → (d.from ≤ℤ e.from) × (e.until ≤ℤ d.until)
 covers z w from until u d e h k old new i j = (
-  by_lt_z e.from d.from
-      (λ less. let b = h.begins (omega linear) in absurd (grind linear))
-      (λ m. m),
-  by_lt_z d.until e.until
-      (λ less. let types = k.each d.until (omega linear) less in let b = h.ends (omega linear) in absurd (grind linear))
-      (λ m. m),
+  by_lt_z e.from d.from (λ less. let b = h.begins (omega linear) in absurd (grind linear)) (λ m. m),
+  by_lt_z d.until e.until (λ less. let types = k.each d.until (omega linear) less in let b = h.ends (omega linear) in absurd (grind linear)) (λ m. m),
 )
 
 pub one_difference : (z w : Zone) (from until u : ℤ) (d e : Difference) → IsDifference (TypeAt z) (TypeAt w) from until d
@@ -86,10 +82,6 @@ listed_more z w from until at end s t ds es h pair k l listed = let reached = h.
       begins = λ less m n. h.turned less (omega linear) s t k l m n;
       ends = λ less m n. pair.turns less s t k l m n;
     }
-
--- a pair that begins at the second `at`
-pub listed_pair : (ds es : List Difference) (d : Difference) (at : ℤ) → d.from ≡ at → IsListedIf ds d es → IsListedIf ds (made at d.until d.old d.new) es
-listed_pair ds es d at from h = grind (linear, at)
 
 -- at the end of the window all are listed
 pub all_listed : (z w : Zone) (from until at : ℤ) (ds : List Difference) → AreListedTo (TypeAt z) (TypeAt w) from until at ds → until ≤ℤ at

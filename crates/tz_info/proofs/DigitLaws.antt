@@ -16,10 +16,8 @@ unfolding digits
 digits-half m = ap suc (grind (arith, enough))
 
 within_more : (f m n : ℕ) → m ≤ n → digits_within f m ≤ digits_within f n
-within_more zero m n h = omega arith
-within_more (suc f) zero n h = omega arith
-within_more (suc f) (suc m) zero h = omega arith
-within_more (suc f) (suc m) (suc n) h = let k = within_more f (suc m / 2) (suc n / 2) (omega arith) in omega arith
+within_more zero m n h = grind arith
+within_more (suc f) m n h = grind (arith, within_more f (m / 2) (n / 2))
 
 pub digits-more : (m n : ℕ) → m ≤ n → digits m ≤ digits n
 unfolding digits
@@ -31,9 +29,8 @@ digits-less m zero p h = omega arith
 digits-less m (suc n) p h = let e = digits-half n in let k = digits-more m _ h in omega arith
 
 within-le : (f m : ℕ) → digits_within f m ≤ f
-within-le zero m = omega arith
-within-le (suc f) zero = omega arith
-within-le (suc f) (suc m) = let h = within-le f (suc m / 2) in omega arith
+within-le zero m = grind arith
+within-le (suc f) m = grind (arith, within-le f (m / 2))
 
 pub digits-le : (m : ℕ) → digits m ≤ m
 unfolding digits

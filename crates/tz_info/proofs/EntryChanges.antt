@@ -1,21 +1,21 @@
 -- What a zone's entries say of it: the types in force, the clock changes, and the spans between them.
 use Rattle.tz_info.proofs.{
   LeapOrder.leap_times_answer,
-  Prefixes.{any, index_within, last_taken},
+  Prefixes.{any, index_within},
   SegmentLaws.{begin_next, come_at_time, come_by_time, come_from, not_later, place_before, place_begin, place_most, places_rise, segment_most, split_at},
   SegmentLaws.split_count,
   TableSearch.search_found,
-  Words.{AreLeapSeconds, AreRising, Bool, Change, Counts, HasNoChange, HasType, IsAhead, IsBeforeLast, IsChange, IsInTable, IsLastOf, IsLeapTime, IsNear},
-  Words.{IsNearest, IsNearestChange, IsSpanAt, IsTrue, IsValid, LeapSecond, List, LocalType, MatchOption, None, Option, Precedes, RoseWithin, SFits, Some},
+  Words.{AreLeapSeconds, AreRising, Bool, Change, Counts, HasNoChange, HasType, IsAhead, IsBeforeLast, IsChange, IsInTable, IsLeapTime, IsNear},
+  Words.{IsNearest, IsNearestChange, IsSpanAt, IsTrue, IsValid, LeapSecond, List, LocalType, None, Option, Precedes, RoseWithin, SFits, Some},
   Words.{Transition, TypeAt, Zone, arith, begin_of, cases_lt, correction_at, digits, digits-le, digits-more, false, get_or, index_at, index_of, inl, inr},
-  Words.{leap_time_at, length, length-take, linear, passed, pos, refl, segment_of, slice_get, suc, sym, take, true, w64, zero, ℕ, ℤ, ◌+ℤ◌, ◌+◌, ◌-ℤ◌, ◌-◌},
-  Words.{◌<ℤ◌, ◌<◌, ◌==◌, ◌↔◌, ◌∙◌, ◌≡◌, ◌≤ℤ◌, ◌≤◌},
+  Words.{leap_time_at, length, linear, passed, pos, refl, segment_of, slice_get, suc, sym, true, w64, zero, ℕ, ℤ, ◌+ℤ◌, ◌+◌, ◌-ℤ◌, ◌-◌},
+  Words.{◌<ℤ◌, ◌<◌, ◌↔◌, ◌∙◌, ◌≡◌, ◌≤ℤ◌, ◌≤◌},
   ZoneChanges.{out_before, out_from, refused_on, time_of},
   ZoneLaws.{before_or_from_last, inside_listed, last_index_below, leap_time_decided},
 }
 use Rattle.tz_info.specs.{
   Steps.Entries.{AreEntries, Entries, HaveComeAt, IsBetween, IsCome, IsEntryChange, entry_time, last_index, most_looks},
-  Steps.Changes.{IsAheadChange, IsChangeWith, count_ahead, place_ahead},
+  Steps.Changes.{IsAheadChange, IsChangeWith, count_ahead},
   declared.zone.made.change_table.{Between.Between, Come.Come},
 }
 
@@ -30,24 +30,14 @@ time_at e k = entry_time e.items k
 
 pub index_there : (e : Entries) (u : ℤ) → AreRising e.items → last_index (passed e.items u) ≡ index_of e.items (count_at e u)
 index_there e u rising =
-    let p = split_at _ u rising in
-    let n = split_count _ u p.0 p.1 in
-    grind (linear, search_found)
-
--- n entries have come if the last of them has and the next one hasn't
-pub count_here : (ts : List Transition) (u : ℤ) (n : ℕ) → AreRising ts → n ≤ length ts → (0 < n → entry_time ts (n - 1) ≤ℤ u)
-    → (n < length ts → u <ℤ entry_time ts n) → n ≡ length (passed ts u)
-count_here ts u n rising within since until = let a = come_by_time ts u n any rising in grind (linear, place_most, come_by_time, any)
+    let p = split_at _ u rising in let n = split_count _ u p.0 p.1 in grind (linear, search_found)
 
 pub begin_at : (ts : List Transition) (k : ℕ) (d : Transition) → 0 < k → k ≤ length ts → (get_or ts (k - 1) d).unix_leap_time ≡ begin_of ts k
 begin_at ts k d some within = grind (linear, begin_next)
 
 -- ---- which seconds have a leap time
 pub near_time : (es : List LeapSecond) (u : ℤ) → AreLeapSeconds es → IsNear u → IsLeapTime es u (u +ℤ correction_at es u)
-near_time es u valid near = elim (leap_time_decided es u) [
-  | inl x ↦ grind linear
-  | inr r ↦ absurd (leap_times_answer es u valid near.0 near.1 r)
-]
+near_time es u valid near = let d = leap_time_decided es u in let a = leap_times_answer es u valid near.0 near.1 in grind linear
 
 -- ---- the type in force
 pub have_come : (z : Zone) (e : Entries) (u : ℤ) (c : Come) → IsValid z → AreEntries z e → SFits w64 u → IsLeapTime z.leaps u (leap_time_at z u)
@@ -57,29 +47,6 @@ have_come z e u c valid made fits l come = grind (linear, last_index_below)
 pub not_last : (z : Zone) (u : ℤ) (c : Come) → HaveComeAt z u c → c.are_all ≡ false → IsBeforeLast z (leap_time_at z u)
 not_last z u c h not = grind (linear, before_or_from_last)
 
--- what a search among them finds
-pub is_come : (e : Entries) (u : ℤ) (n : ℕ) (latest : Option Transition) (c : Come) → n ≤ length e.items
-    → passed e.items u ≡ take n e.items → IsLastOf e.items n latest
-    → MatchOption latest (c.index ≡ 0) (λ t. c.index ≡ t.type_index) → c.are_all ≡ (n == e.all) → IsCome e u c
-is_come e u n _ c within come last index all =
-    let many : length (passed e.items u) ≡ n = grind (linear, length-take) in
-    record { all = grind linear; index = rw come (named_by _ n _ _ within last index) }
-  where
-    named_by : (ts : List Transition) (n : ℕ) (latest : Option Transition) (i : ℕ) → n ≤ length ts → IsLastOf ts n latest
-        → MatchOption latest (i ≡ 0) (λ t. i ≡ t.type_index)
-        → i ≡ last_index (take n ts)
-    named_by ts zero latest i within last index = let none = last.none refl in rw none at index
-    named_by ts (suc n) latest i within last index =
-        let (t, is, item2) = last.some (omega arith) in
-        let p : suc n - 1 ≡ n = omega arith in
-        let item = rw p at item2 in
-        let some = rw is at index in
-        cc (last_taken (λ a. a.type_index) 0 ts n t (omega arith))
-
-digits_one : digits 1 ≡ 1
-unfolding digits
-digits_one = refl
-
 pub rose_less : (a b : Counts) (m n p q : ℕ) → RoseWithin a b m p → m ≤ n → p ≤ q → RoseWithin a b n q
 rose_less a b m n p q rose less fewer = grind linear
 
@@ -87,7 +54,9 @@ pub rose_then : (a b c : Counts) (m n p q : ℕ) → RoseWithin a b m p → Rose
 rose_then a b c m n p q one two = grind linear
 
 pub looks_most : (m n : ℕ) → 0 < n → m ≤ n → most_looks m ≤ digits n
-looks_most m n some h = grind (linear, digits-more, digits_one)
+unfolding digits
+looks_most zero n some h = let k = digits-more 1 n some in omega arith
+looks_most (suc m) n some h = digits-more (suc m) n h
 
 -- the entry at that place is one of those that are left
 abbrev IsLeftAt : Bool → ℕ → ℕ → ℕ → Type 0
@@ -116,14 +85,7 @@ module _ (z : Zone) (e : Entries) (valid : IsValid z) (made : AreEntries z e) wh
 
   type_amid : (u x : ℤ) (n : ℕ) (t : LocalType) → SFits w64 u → IsLeapTime z.leaps u x → count_at e u ≡ n → n < e.all
       → HasType z (index_of e.items n) t → TypeAt z u t
-  type_amid u x n t fits l count more has = record {
-    leap_time = x;
-    of_second = λ _. l;
-    in_force = record {
-      before_last = λ _. type_here u x n fits l count ∙ has;
-      from_last = grind linear;
-    };
-  }
+  type_amid u x n t fits l count more has = let same = type_here u x n fits l count in grind linear
 
   amid_type : (u : ℤ) (n : ℕ) (t : LocalType) → SFits w64 u → 0 < length z.transitions → count_at e u ≡ n → n < e.all → TypeAt z u t
       → HasType z (index_of e.items n) t
@@ -141,15 +103,11 @@ module _ (z : Zone) (e : Entries) (valid : IsValid z) (made : AreEntries z e) wh
       let seg = come_at_time z u _ l in
       let rise = places_rise e.items u d.at made.rising (omega linear) in
       let amid : m < e.all = grind (arith, place_most) in
-      elim (cases_lt m (count_at e d.at)) [
-        | inl b ↦
-            let most = place_most e.items d.at made.rising in
-            (m, omega arith, let a = come_by m d.at (omega arith) in let r = come_by m u (omega arith) in grind linear)
-        | inr b ↦
-            let s = amid_type u m d.before is.fits_before (omega arith) refl amid is.before in
-            let t = amid_type d.at m d.after is.fits (omega arith) (omega arith) amid is.after in
-            grind linear
-      ]
+      let most = place_most e.items d.at made.rising in
+      let here = cases_lt m (count_at e d.at) in
+      let s = amid_type u m d.before is.fits_before (omega arith) refl amid is.before in
+      let t = amid_type d.at m d.after is.fits (omega arith) in
+      (m, grind linear, let a = come_by m d.at in let r = come_by m u in grind linear)
 
   -- how many have come at an entry's second, and just before it
   count_then : (k : ℕ) → k < length e.items → count_at e (time_at e k) ≡ k + 1
@@ -164,13 +122,8 @@ module _ (z : Zone) (e : Entries) (valid : IsValid z) (made : AreEntries z e) wh
       let (x, l) = made.leap_time k h in
       let l2 = rw (← is) at l in
       let (y, m) = earlier_time (c.at -ℤ pos 1) _ x (omega linear) l2 in
-      record {
-        fits = fits;
-        fits_before = omega linear;
-        before = type_amid _ y k _ (omega linear) m (rw is (count_before k h)) (omega arith) before;
-        after = type_amid _ x _ _ fits l2 (rw is (count_then k h)) more after;
-        differ = grind linear;
-      }
+      let old = type_amid (c.at -ℤ pos 1) y k c.before (omega linear) m (rw is (count_before k h)) (omega arith) before in
+      let new = type_amid c.at x _ c.after fits l2 (rw is (count_then k h)) more after in grind linear
 
   -- before an entry comes some transition has not
   in_table : (k : ℕ) (c : Change) → k < length e.items → IsChange (TypeAt z) c → c.at ≡ time_at e k → segment_of z (c.at -ℤ pos 1) < length z.transitions
@@ -191,53 +144,36 @@ module _ (z : Zone) (e : Entries) (valid : IsValid z) (made : AreEntries z e) wh
   -- the entries ahead of the second
   ahead_by : (w : Bool) (s : ℤ) (j : ℕ) → j < length e.items
       → IsAhead w s (time_at e j) ↔ IsLeftAt w (length e.items) (count_ahead w (length e.items) (count_at e s)) j
-  ahead_by true s j h = let r = come_by j s h in grind linear
-  ahead_by false s j h = grind (linear, come_by)
-
-  left_none : (w : Bool) (s : ℤ) → AreLeft z e w s 0 → HasNoChange (TypeAt z) (IsInTable z (IsAhead w s))
-  left_none true s left = grind (linear, table_change)
-  left_none false s left = grind (linear, table_change)
+  ahead_by w s j h = let r = come_by j s h in grind linear
 
   left_less : (w : Bool) (s : ℤ) (left : ℕ) → AreLeft z e w s left → IsAheadChange z e w left None → AreLeft z e w s (left - 1)
   left_less true s left l none = grind linear
   left_less false s left l none = grind linear
 
-  left_found : (w : Bool) (s : ℤ) (left place : ℕ) (c : Change) → AreLeft z e w s left → 0 < left → place ≡ place_ahead w (length e.items) left
-      → IsChange (TypeAt z) c → c.at ≡ time_at e place → IsNearestChange w (TypeAt z) (IsInTable z (IsAhead w s)) c
-  left_found true s left place c l some is change at =
-      let first = ahead_by true s place (omega arith) in
-      found true s place c (omega arith) change at (grind linear) (grind (linear, not_later))
-  left_found false s left place c l some is change at =
-      let most = place_most e.items s made.rising in
-      let first = ahead_by false s place (omega arith) in
-      found false s place c (omega arith) change at (grind linear) (grind (linear, not_later))
-
   found_with : (w : Bool) (s : ℤ) (left : ℕ) (c : Change) → AreLeft z e w s left → IsAheadChange z e w left (Some c)
       → IsNearestChange w (TypeAt z) (IsInTable z (IsAhead w s)) c
   found_with w s zero c l one = grind arith
-  found_with w s (suc n) c l one =
-      let (change, at) = (one.1 (omega arith)).change in
-      left_found w s (suc n) _ c l (omega arith) refl change at
+  found_with true s (suc n) c l one =
+      let (change, at) = (one.1 (omega arith)).change in let first = ahead_by true s (length e.items - suc n) (omega arith) in
+      found true s _ c (omega arith) change at (grind linear) (grind (linear, not_later))
+  found_with false s (suc n) c l one =
+      let (change, at) = (one.1 (omega arith)).change in let most = place_most e.items s made.rising in let first = ahead_by false s n (omega arith) in
+      found false s _ c (omega arith) change at (grind linear) (grind (linear, not_later))
 
   -- no more than two entries are asked
   few_left : (w : Bool) (s : ℤ) (left : ℕ) → SFits w64 s → left ≡ count_ahead w (length e.items) (count_at e s) → IsAheadChange z e w left None
       → IsAheadChange z e w (left - 1) None → AreLeft z e w s (left - 1 - 1) → HasNoChange (TypeAt z) (IsInTable z (IsAhead w s))
-  few_left true s zero fits is one two l = left_none true s l
-  few_left true s (suc n) fits is one two l = elim ((one.1 (omega arith)).none refl) [
-    | inl last ↦ let none : suc n - 1 - 1 ≡ 0 = grind linear in left_none true s (rw none at l)
-    | inr least ↦ let first = ahead_by true s (length e.items - suc n) (omega arith) in absurd (grind linear)
-  ]
-  few_left false s zero fits is one two l = left_none false s l
-  few_left false s (suc zero) fits is one two l = left_none false s l
-  few_left false s (suc (suc n)) fits is one two l = elim ((two.1 (omega arith)).none refl) [
-    | inl last ↦ let most = place_most e.items s made.rising in absurd (omega arith)
-    | inr least ↦ λ d change inside.
-        let (k, below, time) = table_change d change inside.table in
-        let before = l.each k d below change time inside.inside in
-        let most = place_most e.items s made.rising in
-        let rise = not_later e.items k n any made.rising (omega arith) (omega arith) in
-        absurd (grind linear)
-  ]
+  few_left true s left fits is one two l d change inside =
+      let (k, below, time) = table_change d change inside.table in
+      let before = l.each k d below change time inside.inside in
+      let last = (one.1 (omega arith)).none refl in
+      let first = ahead_by true s (length e.items - left) (omega arith) in grind linear
+  few_left false s left fits is one two l d change inside =
+      let (k, below, time) = table_change d change inside.table in
+      let before = l.each k d below change time inside.inside in
+      let most = place_most e.items s made.rising in
+      let last = (two.1 (omega arith)).none refl in
+      let rise = not_later e.items k (left - 2) any made.rising (omega arith) (omega arith) in grind linear
 
   pub first_found : (w : Bool) (s : ℤ) (left : ℕ) (c : Change) → left ≡ count_ahead w (length e.items) (count_at e s)
       → IsAheadChange z e w left (Some c) → IsNearestChange w (TypeAt z) (IsInTable z (IsAhead w s)) c
@@ -283,9 +219,8 @@ span_between z e u b t valid made h is fits low high has =
       span = record {
         some = grind linear;
         each = λ v i. stretch_between z e u v b t valid made h low high has i.since i.until;
-        begins = out_before z (record { at = b.from; before = r; after = t }) (entry_change z e valid made (k - 1) _ (omega arith) (omega arith)
+        begins = out_before z _ (entry_change z e valid made (k - 1) (record { at = b.from; before = r; after = t }) (omega arith) (omega arith)
             (grind (linear, begin_at)));
-        ends = out_from z (record { at = b.until; before = t; after = s }) (entry_change z e valid made k _ h.some more
-            (grind linear));
+        ends = out_from z _ (entry_change z e valid made k (record { at = b.until; before = t; after = s }) h.some more (grind linear));
       };
     }

@@ -1,19 +1,18 @@
 -- How the entries of a zone are made, one transition after another.
-use Rattle.std.proofs.lemmas.{List.{take-append-le, Elements.filter-append}, Option.slice_get_within}
-use Rattle.std.specs.Prelude.{option_to_list}
+use Rattle.std.proofs.lemmas.{List.{take-append-le, Elements.filter-append}}
 use Rattle.tz_info.proofs.{
   LeapSearch.own_leap_time,
   Prefixes.index_within,
   SegmentLaws.{come_by_time, index_next, not_later, place_most},
-  Words.{All, All-push, AreLeapSeconds, AreRising, IsFromLast, IsLeapTime, IsLeapTimeRefused, IsValid, LeapSecond, List, None, Option, Some, Transition, Zone},
+  Words.{All, All-push, AreLeapSeconds, AreRising, FitsSigned, IsFromLast, IsLeapTime, IsLeapTimeRefused, IsValid, LeapSecond, List, Transition, Zone},
   Words.{[], all_pairs_push, append-nil, arith, by_lt_z, cases_lt, get_or, get_or_append_left, get_or_default, get_or_push, index_of, last_else, le_false},
-  Words.{le_true, length, length_push, linear, map, nat_tests, passed, pos, refl, slice_get, slice_get-get_or, suc, take, take_all, take_more, zero, ℕ, ℤ},
-  Words.{◌++◌, ◌+◌, ◌-◌, ◌<ℤ◌, ◌<◌, ◌==◌, ◌↔◌, ◌∷◌, ◌≡◌, ◌≢◌, ◌≤ℤ◌, ◌≤◌, ◌⊎◌},
+  Words.{le_true, length, length_push, linear, map, nat_tests, passed, pos, refl, slice_get, slice_get-get_or, suc, sym, take, take_all, take_more, w64, zero},
+  Words.{ℕ, ℤ, ◌++◌, ◌+◌, ◌-◌, ◌<ℤ◌, ◌<◌, ◌==◌, ◌↔◌, ◌∷◌, ◌≡◌, ◌≢◌, ◌≤ℤ◌, ◌≤◌, ◌⊎◌},
   ZoneChanges.refused_on,
 }
 use Rattle.tz_info.specs.{
   Transitions.NameTypes,
-  Steps.Entries.{AllChange, AreBefore, AreEntries, EndsAt, IsAdded, IsStartIn, NeverComes, added, as_listed, idle, last_index, none_there, one_there},
+  Steps.Entries.{AllChange, AreBefore, AreEntries, IsAdded, IsStartIn, NeverComes, added, as_listed, idle, last_index},
 }
 
 -- ---- lists with one item more
@@ -62,13 +61,6 @@ pub record AreMadeOf (z : Zone) (entries : List Transition) (k : ℕ) : Type 0 w
   pub differ : (j : ℕ) → j < length entries → (j + 1 < length entries) ⊎ (k < length z.transitions)
       → slice_get z.types (index_of entries (j + 1)) ≢ slice_get z.types (index_of entries j)
 
--- the entries that are kept: the first ones
-record AreKept (entries kept : List Transition) (s : ℤ) : Type 0 where
-  few : length kept ≤ length entries
-  item : (j : ℕ) (d : Transition) → j < length kept → get_or kept j d ≡ get_or entries j d
-  index : (j : ℕ) → j ≤ length kept → index_of kept j ≡ index_of entries j
-  same : (u : ℤ) → u <ℤ s → passed kept u ≡ passed entries u
-
 -- what holds of all holds of those
 pub kept_all : (P : Transition → Type 0) (entries kept : List Transition) (s : ℤ) → AreBefore entries s kept → All P entries → All P kept
 kept_all P entries kept s before all j d l = grind (linear, length_push, get_or_append_left, take-append-le, passed_out)
@@ -76,11 +68,8 @@ kept_all P entries kept s before all j d l = grind (linear, length_push, get_or_
 -- all of them come before it
 kept_earlier : (entries kept : List Transition) (s : ℤ) → AreRising entries → All (λ t. t.unix_leap_time ≤ℤ s) entries → AreBefore entries s kept
     → All (λ t. t.unix_leap_time <ℤ s) kept
-kept_earlier entries kept s rising until (none_there e other) = rw e (λ j d h.
-    let r = rising j (length entries - 1) d in
-    grind (linear, slice_get-get_or))
-kept_earlier entries kept s rising until (one_there t e at) = λ j d h.
-    let r = rw e at rising j (length kept) d h in grind (linear, get_or_append_left, length_push)
+kept_earlier entries kept s rising until before j d h =
+    let r = rising j (length entries - 1) d in grind (linear, slice_get-get_or, get_or_append_left, length_push)
 
 -- ---- one turn of the loop
 pub record IsTurn (z : Zone) (old kept entries : List Transition) (k : ℕ) (s : ℤ) (t : Transition) : Type 0 where
@@ -101,8 +90,8 @@ module _ (z : Zone) (old kept entries : List Transition) (k : ℕ) (s : ℤ) (t 
       let b = start.reached s y time in
       let c = h.start.reached s y time in grind (linear, get_or_default)) h.before
 
-  keep : AreKept old kept s
-  keep = grind (linear, length_push, get_or_append_left, take-append-le, passed_out)
+  kept_same : (u : ℤ) → u <ℤ s → passed kept u ≡ passed old u
+  kept_same u early = let before = h.before in grind (linear, passed_out)
 
   taken : take (k + 1) z.transitions ≡ take k z.transitions ++ t ∷ []
   taken = grind (linear, take_more)
@@ -111,7 +100,7 @@ module _ (z : Zone) (old kept entries : List Transition) (k : ℕ) (s : ℤ) (t 
   named_before : (u x : ℤ) → IsLeapTime z.leaps u x → u <ℤ s
       → slice_get z.types (last_index (passed (take (k + 1) z.transitions) x)) ≡ slice_get z.types (last_index (passed kept u))
   named_before u x l early =
-      let r = h.start.reached u x l in grind (linear, taken, passed_out, keep)
+      let r = h.start.reached u x l in grind (linear, taken, passed_out, kept_same)
 
   named_from : (u x : ℤ) → IsLeapTime z.leaps u x → s ≤ℤ u → last_index (passed (take (k + 1) z.transitions) x) ≡ t.type_index
   named_from u x l late = rw (taken, passed_in _ t x (grind linear), last_more) refl
@@ -119,12 +108,13 @@ module _ (z : Zone) (old kept entries : List Transition) (k : ℕ) (s : ℤ) (t 
   -- then the entries are those of one transition more
   pub turned : AreMadeOf z entries (k + 1)
   turned =
-      let few = keep.few in
-      let rising : AreRising kept = grind (linear, keep) in
+      let few : length kept ≤ length old = grind (linear, length_push) in
+      let rising : AreRising kept = grind (linear, length_push, get_or_append_left) in
       let indexes : NameTypes (length z.types) kept = kept_all (λ a. a.type_index < length z.types) old kept s h.before h.made.indexes in
       let own : All (IsOwn z (k + 1)) kept = kept_all (IsOwn z (k + 1)) old kept s h.before (λ j d l.
       let (a, i, below, own, start) = h.made.own j d l in grind linear) in
-      let differ : (j : ℕ) → j < length kept → slice_get z.types (index_of kept (j + 1)) ≢ slice_get z.types (index_of kept j) = grind (linear, keep) in
+      let differ : (j : ℕ) → j < length kept → slice_get z.types (index_of kept (j + 1)) ≢ slice_get z.types (index_of kept j) =
+      λ j l. let d = h.made.differ j in grind (linear, length_push, get_or_append_left, take-append-le) in
       elim h.change [
         | idle e not same ↦ rw e (record {
           rising = rising;
@@ -164,43 +154,39 @@ module _ (z : Zone) (old kept entries : List Transition) (k : ℕ) (s : ℤ) (t 
 
 -- ---- all transitions
 module _ (z : Zone) (entries : List Transition) (k all : ℕ) (valid : IsValid z) (made : AreMadeOf z entries k) where
+  listed : length entries ≤ all → all ≤ length entries + 1 → (all ≡ length entries + 1 → k < length z.transitions) → ((0 < length z.transitions) ↔ (0 < all))
+      → k ≤ length z.transitions
+      → ((u x : ℤ) → FitsSigned w64 u → IsLeapTime z.leaps u x
+      → (passed (take k z.transitions) x ≡ passed z.transitions x) × (IsFromLast z x ↔ (length (passed entries u) ≡ all)))
+      → AreEntries z (record { items = entries; all = all; transitions = z.transitions })
+  listed low high more some most then = record {
+    listed = refl;
+    rising = made.rising;
+    indexes = made.indexes;
+    few = omega arith;
+    more = low;
+    most = high;
+    some = some;
+    named = λ u x f l. rw (then u x f l).0 at (made.named u x l);
+    come = λ u x f l. (then u x f l).1;
+    leap_time = λ j h. (made.own j _ h).4.leap_time;
+    differ = grind linear;
+  }
+
   pub all_come : k ≡ length z.transitions → all ≡ length entries → AreEntries z (record { items = entries; all = all; transitions = z.transitions })
   all_come e a =
-      record {
-        listed = refl;
-        rising = made.rising;
-        indexes = made.indexes;
-        few = omega arith;
-        more = omega arith;
-        most = omega arith;
-        some = grind arith;
-        named = grind (linear, take_all);
-        come = grind linear;
-        leap_time = λ j h. (made.own j _ h).4.leap_time;
-        differ = grind linear;
-      }
+      listed (omega arith) (omega arith) (omega arith) (grind arith) (omega arith) (λ u x f l. (grind (arith, take_all), grind linear))
 
   pub never_come : (t : Transition) → k < length z.transitions → t ≡ get_or z.transitions k t → NeverComes z.leaps t.unix_leap_time
       → all ≡ length entries + 1 → AreEntries z (record { items = entries; all = all; transitions = z.transitions })
   never_come t more item never a =
-      record {
-        listed = refl;
-        rising = made.rising;
-        indexes = made.indexes;
-        few = omega arith;
-        more = omega arith;
-        most = omega arith;
-        some = grind linear;
-        named = λ u x f l. rw (passed_first z.transitions k x (λ i d low h.
-            let late = never u x f l in
-            let n = not_later z.transitions k i d valid.transitions.rising low h in grind (linear, get_or_default))) (grind linear);
-        come = λ u x f l.
-            let late = never u x f l in
-            let c = come_by_time z.transitions x k t valid.transitions.rising more in
-            grind (linear, place_most);
-        leap_time = λ j h. (made.own j _ h).4.leap_time;
-        differ = grind linear;
-      }
+      listed (omega arith) (omega arith) (λ _. more) (grind linear) (omega arith) (λ u x f l.
+      let late = never u x f l in
+      let c = come_by_time z.transitions x k t valid.transitions.rising more in (
+        sym (passed_first z.transitions k x (λ i d low h.
+            let n = not_later z.transitions k i d valid.transitions.rising low h in grind (linear, get_or_default))),
+        grind (linear, place_most),
+      ))
 
 -- the transitions are the entries, if there is no leap second and each but the last changes the type
 pub own_entries : (z : Zone) → IsValid z → length z.leaps ≡ 0 → AllChange z.types z.transitions (length z.transitions) → AreEntries z (as_listed z.transitions)
@@ -214,15 +200,6 @@ module _ (leaps : List LeapSecond) (x start : ℤ) (reached : (u y : ℤ) → Is
 
   pub never_refused : AreLeapSeconds leaps → IsLeapTimeRefused leaps start → NeverComes leaps x
   never_refused valid refused u y f l = by_lt_z y x (λ h. h) (λ h. absurd (refused_on leaps start u y valid ((reached u y l).0 h) refused l))
-
--- ---- one entry less
-pub popped : (entries kept : List Transition) (r : Option Transition) (second : ℤ) → EndsAt entries second → entries ≡ kept ++ option_to_list r
-    → ((d : Transition) → 0 < length entries → r ≡ Some (get_or entries (length entries - 1) d)) → AreBefore entries second kept
-popped entries kept None second (t, is, at) e value =
-    let some = slice_get_within entries _ t is in let v = value t (omega arith) in absurd cc
-popped entries kept (Some r) second (t, is, at) e value =
-    let some = slice_get_within entries _ t is in
-    let v = value t (omega arith) in one_there r e (grind (arith, slice_get-get_or))
 
 pub last_item : (entries : List Transition) (t : Transition) → 0 < length entries → t ≡ get_or entries (length entries - 1) t
     → t.type_index ≡ last_index entries

@@ -34,16 +34,10 @@ pub rule_exact : (a b : TransitionRule) → IsTrue (rule_eq.it a b) ↔ (a ≡ b
 rule_exact a b = grind (arith, type_exact, alternate_exact)
 
 -- ---- zones
-transition_exact : IsExact transition_eq.it
-transition_exact a b = search rules
-
-leap_exact : IsExact leap_eq.it
-leap_exact a b = search rules
-
 pub zone_exact : (a b : Zone) → IsTrue (zone_eq transition_eq.it type_eq.it leap_eq.it rule_eq.it a b) ↔ (a ≡ b)
 zone_exact a b =
-    let transitions = list_exact _ transition_exact a.transitions b.transitions in
-    let leaps = list_exact _ leap_exact a.leaps b.leaps in
+    let transitions = list_exact transition_eq.it (λ x y. search rules) a.transitions b.transitions in
+    let leaps = list_exact leap_eq.it (λ x y. search rules) a.leaps b.leaps in
     let rules = option_exact _ rule_exact a.rule b.rule in
     grind (arith, list_exact, type_exact)
 

@@ -1,11 +1,10 @@
 -- The least and the greatest of some offsets.
-use Rattle.std.proofs.lemmas.List.{map-append}
 use Rattle.tz_info.proofs.{
   Candidates.one_of_two,
   Words.{All-contains, All-push, AreExtremes, AreJoined, AreJoinedByRule, Contains, Contains-append_left, Contains-append_right, Contains-push, Extremes},
-  Words.{IsEnd, IsGreatest, IsLeast, IsTypeOf, IsWindowOf, List, LocalType, Option, SFits, Some, TransitionRule, TypeAt, Zone, [], add-one, ap, append_assoc},
-  Words.{get_or, get_or-map, inl, inr, length, length-map, linear, offsets, offsets_of, rule_offsets, slice_get, slice_get-get_or, sym, take, take-suc, w32, ℕ},
-  Words.{ℤ, ◌++◌, ◌+◌, ◌-ℤ◌, ◌<◌, ◌∙◌, ◌∷◌, ◌≡◌, ◌≤ℤ◌, ◌⊎◌},
+  Words.{IsEnd, IsGreatest, IsLeast, IsTypeOf, IsWindowOf, List, LocalType, Option, SFits, Some, TransitionRule, TypeAt, Zone, [], append_assoc},
+  Words.{get_or-map, inl, inr, length, length-map, linear, offsets, offsets_of, rule_offsets, slice_get, slice_get-get_or, w32, ℕ},
+  Words.{ℤ, ◌++◌, ◌+◌, ◌-ℤ◌, ◌<◌, ◌∷◌, ◌≡◌, ◌≤ℤ◌, ◌⊎◌},
   ZoneLaws.type_listed,
 }
 use Rattle.tz_info.specs.declared.rule.transition_rule.TransitionRule.TheVariants.{Alternate, Fixed}
@@ -27,11 +26,6 @@ joined xs e o r a j = record {
   };
 }
 
--- of one type more
-pub next_type : (types : List LocalType) (n : ℕ) (d : LocalType) (e r : Extremes) → n < length types → AreExtremes (offsets_of (take n types)) e
-    → AreJoined e (get_or types n d).offset r → AreExtremes (offsets_of (take (n + 1) types)) r
-next_type types n d e r h a j = rw (add-one, take-suc types n d h, map-append) (joined _ e _ r a j)
-
 -- ---- with the rule's
 pub rule_joined : (types : List LocalType) (rule : Option TransitionRule) (some : TransitionRule) (e r : Extremes) → rule ≡ Some some
     → AreExtremes (offsets_of types) e → AreJoinedByRule e some r → AreExtremes (offsets types rule) r
@@ -46,9 +40,7 @@ rule_among rule u t h = grind (linear, one_of_two)
 
 listed_among : (types : List LocalType) (k : ℕ) (t : LocalType) → k < length types → slice_get types k ≡ Some t → Contains (offsets_of types) t.offset
 listed_among types k t h e =
-    let g : Some (get_or types k t) ≡ Some t = sym (slice_get-get_or types k t h) ∙ e in
-    let s : get_or types k t ≡ t = cc in
-    (k, simp length-map h, get_or-map (λ t. t.offset) types k t _ h ∙ ap (λ (x : LocalType). x.offset) s)
+    (k, simp length-map h, let g = slice_get-get_or types k t h in let m = get_or-map (λ (t : LocalType). t.offset) types k t t.offset h in grind linear)
 
 pub in_force_among : (z : Zone) (u : ℤ) (t : LocalType) → TypeAt z u t → Contains (offsets z.types z.rule) t.offset
 in_force_among z u t a = elim (type_listed z u t a) [

@@ -8,7 +8,7 @@ use Rattle.tz_info.proofs.{
 }
 use Rattle.tz_info.specs.{
   FileHeaders.{header},
-  declared.file.header.{Counts.{Counts}, Place.TheVariants.{First, Second}, Version.TheVariants.{One, Three, Two}},
+  declared.file.header.{Counts.{Counts}, Place.TheVariants.{First, Second}, Version.TheVariants.{One}},
 }
 
 -- ---- what is spelled comes first, and what follows after it
@@ -54,8 +54,7 @@ after_ends : (v : Version) (c : Counts) (b : Parts) (start bytes : List ℕ) (p 
 unfolding after_first_block first_version
 after_ends One _ _ start _ _ _ h (_, _, inl (none, (_, same)), (value, e)) = rw (value, ← none) ([], start, refl, inl refl, h, sym e ∙ sym same)
 after_ends One _ _ _ _ _ _ _ (_, _, inr (_, never), _) = absurd never
-after_ends Two c b _ bytes p rest h k = ends_after (block 4 c) _ b bytes p rest h (later_ends _ p rest k)
-after_ends Three c b _ bytes p rest h k = ends_after (block 4 c) _ b bytes p rest h (later_ends _ p rest k)
+after_ends v c b _ bytes p rest h k = ends_after (block 4 c) _ b bytes p rest h (later_ends _ p rest k)
 
 pub file_ends : (bytes : List ℕ) (p : FilePieces) (rest : List ℕ) → Spells file bytes p rest → EndsIn bytes p rest
 unfolding file

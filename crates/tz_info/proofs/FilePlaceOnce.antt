@@ -1,10 +1,8 @@
 -- Where a file is at fault, and that it is at one place.
 use Rattle.tz_info.proofs.{
-  FilePieceLaws.{end_file},
   TzFileLaws.{one_pieces},
-  Words.{Bool, FilePieces, IsTrue, List, [], ap, apart, arith, below_more, drop, drop_front, false, footer_bytes, from_leap_seconds},
-  Words.{from_times, from_type_indexes, from_types, from_ut_local, lawful, length, length-append, linear, pieces_of, refl, sym, ℕ, ℤ, ◌++◌, ◌+◌, ◌-◌, ◌<ℤ◌},
-  Words.{◌<◌, ◌↔◌, ◌∙◌, ◌≡◌, ◌≤◌, EndFile, HasPieces},
+  Words.{FilePieces, List, [], ap, apart, arith, below_more, drop, drop_front, lawful, length, length-append, linear, refl, ℕ, ℤ, ◌++◌, ◌+◌, ◌-◌},
+  Words.{◌<ℤ◌, ◌<◌, ◌∙◌, ◌≡◌, ◌≤◌},
 }
 use Rattle.tz_info.specs.{
   FileContents.{time_at},
@@ -21,9 +19,6 @@ pub next_bytes : {bytes after : List ℕ} (x rest : List ℕ) → after ≡ drop
 next_bytes x rest is whole = is ∙ ap (drop _) whole ∙ drop_front x rest
 
 -- ---- what the loops keep
-pub next_false : (P : ℕ → Type 0) (n : ℕ) (b : Bool) → HoldsOfNone P n → IsTrue b ↔ P n → b ≡ false → HoldsOfNone P (n + 1)
-next_false P n b none is other = below_more (λ k. ¬ (P k)) n none (λ h. grind linear)
-
 pub next_later : (p : FilePieces) (k : ℕ) (here before : ℤ) → HoldsOfNone (IsNotLater p) k → here ≡ time_at p k → before ≡ time_at p (k - 1) → before <ℤ here
     → HoldsOfNone (IsNotLater p) (k + 1)
 next_later p k here before none is was later = grind (linear, below_more)

@@ -5,7 +5,7 @@ use Rattle.tz_info.proofs.{
   RuleLaws.rule_year,
   SegmentLaws.{type_before, type_from},
   Words.{AreLess, HasGap, IsFirstAtOrAfter, IsNear, IsNeverShown, IsRefusedBy, IsRuleOrNone, IsTypeRefused, IsValid, IsWindowOf, LocalType, None, Option},
-  Words.{RuleOrElse, Shows, Some, TransitionRule, TypeAt, Zone, by_leap_time, by_lt_z, by_rule, floor_div, inl, inr, length, lies_in, linear, pos},
+  Words.{Shows, Some, TransitionRule, TypeAt, Zone, by_leap_time, by_lt_z, by_rule, floor_div, inl, inr, length, lies_in, linear, pos},
   Words.{segment_of, ℕ, ℤ, ◌+ℤ◌, ◌-ℤ◌, ◌<ℤ◌, ◌<◌, ◌∙◌, ◌≡◌, ◌≤ℤ◌, ◌⊎◌},
   ZoneLaws.{some_once, type_decided},
 }
@@ -16,9 +16,7 @@ IsNever z l = IsNeverShown (Shows (TypeAt z) l)
 
 -- ---- each near second has a type
 near_rule : (rule : Option TransitionRule) (u : ℤ) → IsNear u → IsRefusedBy rule u → ⊥
-near_rule (Some (Alternate a)) u near h = grind (linear, lies_in (floor_div u 86_400), rule_year u)
-near_rule None u near h = h
-near_rule (Some (Fixed t)) u near h = h
+near_rule rule u near h = grind (linear, lies_in (floor_div u 86_400), rule_year u)
 
 pub near_not_refused : (z : Zone) (u : ℤ) → IsValid z → IsNear u → IsTypeRefused z u → ⊥
 near_not_refused z u valid near (by_leap_time some refused) = leap_times_answer _ u valid.leaps near.0 near.1 refused
@@ -34,10 +32,6 @@ IsSteady None = Unit {0}
 IsSteady (Some (Fixed t)) = Unit {0}
 IsSteady (Some (Alternate a)) = ⊥
 
-steady_once : (rule : Option TransitionRule) (o : Option LocalType) (u v : ℤ) (s t : LocalType) → IsSteady rule → RuleOrElse rule u (o ≡ Some s) s
-    → RuleOrElse rule v (o ≡ Some t) t → s ≡ t
-steady_once rule o u v s t steady h k = grind linear
-
 -- the segment lies before the last transition, or the rule has no second type
 abbrev pub HasOneType : Zone → ℕ → Type 0
 HasOneType z i = (i < length z.transitions) ⊎ (IsSteady z.rule × (i ≡ length z.transitions))
@@ -47,9 +41,9 @@ pub one_type : (z : Zone) (i : ℕ) (u v : ℤ) (s t : LocalType) → IsValid z 
 one_type z i u v s t valid (inl h) a b k m = some_once _ s t
     (type_before z u s valid.transitions.rising i (record { type = k; segment = a }) h)
     (type_before z v t valid.transitions.rising i (record { type = m; segment = b }) h)
-one_type z i u v s t valid (inr (steady, e)) a b k m = steady_once _ _ u v s t steady
-    (type_from z u s valid.transitions.rising (record { type = k; segment = a ∙ e }))
-    (type_from z v t valid.transitions.rising (record { type = m; segment = b ∙ e }))
+one_type z i u v s t valid (inr (steady, e)) a b k m =
+    let x = type_from z u s valid.transitions.rising (record { type = k; segment = a ∙ e }) in
+    let y = type_from z v t valid.transitions.rising (record { type = m; segment = b ∙ e }) in grind linear
 
 -- ---- seconds at which clocks show less
 -- at `high` clocks show the local time or a later one

@@ -3,7 +3,7 @@ use Rattle.std.proofs.{Common.◌↔◌, lemmas.Nat.le-div}
 use Rattle.tz_info.proofs.{
   SearchSteps.not_before,
   SearchWords.{AreEnds, AreHints, AreMarked, AreNonDecreasing, AreOrdered, AreRaised, AreRaisedUntil, AreStepsUntil, Ends, Hints, IsHinted, IsNarrowedTo, List},
-  SearchWords.{Near, RiseFromZero, arith, cases_eq, cases_lt, div-lt_iff_lt-mul, div-mul-le_self, get_or-set_at, get_or-set_other, inl, inr, item_time, length},
+  SearchWords.{Near, RiseFromZero, arith, cases_eq, div-lt_iff_lt-mul, div-mul-le_self, get_or-set_at, get_or-set_other, inl, inr, item_time, length},
   SearchWords.{length-set, linear, nat_abs, nat_cmp, ord_max, pos, pow_pos, set, slice_index, stretch_of, suc, ℕ, ℤ, ◌*◌, ◌+ℤ◌, ◌+◌, ◌-ℤ◌, ◌-◌, ◌/◌, ◌<ℤ◌, ◌<◌},
   SearchWords.{◌^◌, ◌≡◌, ◌≢◌, ◌≤ℤ◌, ◌≤◌, ◌⊎◌},
 }
@@ -16,11 +16,8 @@ pub near_hinted : (times : List ℤ) (v : ℤ) (hints : Hints) (ends : Ends) (se
 near_hinted times v hints ends seconds near ordered fits some are h from is positive hinted = grind linear
 
 -- how many seconds one time comes after another
-size_of : (z : ℤ) → pos 0 ≤ℤ z → pos (nat_abs z) ≡ z
-size_of z h = grind linear
-
 size_of_rise : (first time : ℤ) → first ≤ℤ time → pos (nat_abs (time -ℤ first)) ≡ time -ℤ first
-size_of_rise first time h = grind (linear, size_of)
+size_of_rise first time h = grind linear
 
 -- items in order, and the time of the first
 module _ (times : List ℤ) (first : ℤ) (ordered : AreOrdered times) (from : first ≡ item_time times 0) where
@@ -60,13 +57,7 @@ raising_more before after greatest n here r h rise is_here =
       raised = record {
         count = omega arith;
         above = grind arith;
-        some = λ b l. elim (cases_eq b n) [
-          | inl same ↦ let a = at b same in elim (cases_lt (slice_index before n) greatest) [
-            | inl k ↦ grind linear
-            | inr k ↦ grind linear
-          ]
-          | inr differs ↦ let s = r.raised.some b (omega arith) in grind linear
-        ];
+        some = λ b l. let this = r.raised.some b in elim (cases_eq b n) [ inl same ↦ grind linear | inr differs ↦ grind linear ];
       };
       rest = grind linear;
       up_to = grind arith;
@@ -108,10 +99,7 @@ hints_made times hints first span most marked ordered many shift from is long m 
             before = λ l. grind (arith, first_least times first ordered from, in_stretch);
             after = λ k l n.
                 let in_k = in_stretch first (item_time times k) hints.shift b (first_least times first ordered from k n) in
-                elim (cases_lt (stretch_of first (item_time times k) hints.shift) b) [
-                  | inl lt ↦ grind (arith, m.latest k n, r.above b (suc (stretch_of first (item_time times k) hints.shift)))
-                  | inr ge ↦ grind (linear, in_stretch)
-                ];
+                grind (arith, m.latest k n, r.above b (suc (stretch_of first (item_time times k) hints.shift)));
           });
       some = λ h. many;
       narrow = grind (linear, m.of_item, in_stretch);

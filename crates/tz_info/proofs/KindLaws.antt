@@ -2,14 +2,14 @@
 use Rattle.std.proofs.lemmas.List.FromFn.{get_or-map-range_with_len}
 use Rattle.tz_info.proofs.{
   ListLaws.{one_true},
-  Neighbours.{IsNear, KeepsMargin, ends_near, near_margin, starts_near},
+  Neighbours.{IsNear, KeepsMargin, ends_near, starts_near},
   RuleDays.{rule_day_closed},
   Words.{Alternate, Bool, DayForm, DayTime, IsAlternateRule, IsRuleDay, List, are_calm, arith, closed_day, cond, day_number, day_time_second},
-  Words.{days_of_months, end_in, false, floors, get_or, get_or-map, inr, int_le, int_lt, is_calm, is_calm_kind, is_leap, kind_place, margin_of, moment},
+  Words.{days_of_months, end_in, false, floors, get_or, get_or-map, inr, int_le, is_calm, is_calm_kind, is_leap, kind_place, margin_of, moment},
   Words.{nat_le, neg_ℤ, place_by, places_by_kind, pos, refl, second_in, seconds_by_kind, start_in, sym, true, weekday_below, weekday_later},
   Words.{weekday_of, year_start, ℕ, ℤ, ◌%◌, ◌*ℤ◌, ◌+ℤ◌, ◌+◌, ◌-ℤ◌, ◌-◌, ◌<◌, ◌∙◌, ◌≡◌, ◌≤ℤ◌, ◌⊎◌},
 }
-use Rattle.tz_info.specs.Steps.ChangingYears.{AreWithinYears}
+use Rattle.tz_info.specs.Steps.{ChangingYears.{AreWithinYears}, Kinds.{ends_of, starts_of}}
 
 first_of_month : (year : ℤ) (month : ℕ) → day_number year month 1 ≡ year_start year +ℤ pos (days_of_months (is_leap year) (month - 1))
 unfolding day_number
@@ -44,14 +44,13 @@ kind_found t offset year d fits =
 -- the second at the place of the year's kind makes the year's moment, and lies near the year
 abbrev pub IsKept : ℤ → ℤ → ℤ → Type 0
 IsKept first second at =
-    (pos 86_400 *ℤ first +ℤ second ≡ at) × (neg_ℤ (pos 691_198) ≤ℤ second) × (second ≤ℤ pos 32_227_198)
+    (pos 86_400 *ℤ first +ℤ second ≡ at) × (neg_ℤ (pos 691_200) ≤ℤ second) × (second ≤ℤ pos 32_227_200)
 
 pub moment_by_kind : (t : DayTime) (offset year first d : ℤ) (seconds : List ℤ) (kind : ℕ) → IsRuleDay t.day → IsNear (moment t offset)
     → seconds ≡ seconds_by_kind t offset → kind ≡ kind_place year → first ≡ year_start year → IsKept first (get_or seconds kind d) (moment t offset year)
-moment_by_kind t offset year _ d seconds kind fits near e f g =
-    let here : get_or seconds kind d ≡ second_in t offset year = rw (e, f) (kind_found t _ _ d fits) in
+moment_by_kind t offset year first d seconds kind fits near e f g =
     let low = near.low year in let high = near.high year in
-    (omega (arith, floors), omega (arith, floors), omega (arith, floors))
+    rw (e, f, g, kind_found t offset year d fits) (omega (arith, floors), omega (arith, floors), omega (arith, floors))
 
 pub within_years : (t : DayTime) (offset : ℤ) (seconds : List ℤ) → IsRuleDay t.day → IsNear (moment t offset) → seconds ≡ seconds_by_kind t offset
     → AreWithinYears seconds
@@ -74,28 +73,22 @@ record IsCalm (start_first : Bool) (start end : ℤ) : Type 0 where
 calm_is : (start_first : Bool) (start end : ℤ) → is_calm start_first start end ≡ true → IsCalm start_first start end
 calm_is b s e h = grind arith
 
-abbrev starts : Alternate → List ℤ
-starts a = seconds_by_kind a.start a.std.offset
-
-abbrev ends : Alternate → List ℤ
-ends a = seconds_by_kind a.end a.dst.offset
-
 -- if all kinds are calm, each year is
-calm_year : (a : Alternate) (year : ℤ) → IsAlternateRule a → are_calm (starts a) (ends a) ≡ true
-    → IsCalm (int_le (get_or (starts a) 0 (pos 0)) (get_or (ends a) 0 (pos 0))) (second_in a.start a.std.offset year) (second_in a.end a.dst.offset year)
+calm_year : (a : Alternate) (year : ℤ) → IsAlternateRule a → are_calm (starts_of a) (ends_of a) ≡ true
+    → IsCalm (int_le (get_or (starts_of a) 0 (pos 0)) (get_or (ends_of a) 0 (pos 0))) (second_in a.start a.std.offset year) (second_in a.end a.dst.offset year)
 unfolding are_calm
 calm_year a year rule all =
     let kind = kind_place year in
-    let calm = calm_is _ (get_or (starts a) kind (pos 0)) (get_or (ends a) kind (pos 0))
-    (one_true 14 _ (is_calm_kind (starts a) (ends a)) (kind_parts (is_leap year) _ (weekday_below (year_start year))).0 all) in
+    let calm = calm_is _ (get_or (starts_of a) kind (pos 0)) (get_or (ends_of a) kind (pos 0))
+    (one_true 14 _ (is_calm_kind (starts_of a) (ends_of a)) (kind_parts (is_leap year) _ (weekday_below (year_start year))).0 all) in
     rw (kind_found a.start a.std.offset year (pos 0) rule.start_day, kind_found a.end a.dst.offset year (pos 0) rule.end_day) at calm
 
 shifted : (x y base : ℤ) → int_le (x -ℤ base) (y -ℤ base) ≡ int_le x y
 shifted x y base = grind arith
 
-margin_by : (a : Alternate) (margin : ℤ) (calm : Bool) → IsAlternateRule a → are_calm (starts a) (ends a) ≡ calm
+margin_by : (a : Alternate) (margin : ℤ) (calm : Bool) → IsAlternateRule a → are_calm (starts_of a) (ends_of a) ≡ calm
     → margin ≡ cond calm (pos 172_800) (neg_ℤ (pos 691_200)) → IsMargin a margin
-margin_by a _ false rule all is = grind (arith, near_margin, starts_near, ends_near)
+margin_by a _ false rule all is = grind (arith, starts_near, ends_near)
 margin_by a margin true rule all is =
     let calm = λ (year : ℤ). calm_year a year rule all in
     let ordered = λ (year : ℤ). sym (shifted (start_in a year) (end_in a year) (pos 86_400 *ℤ year_start year)) ∙ (calm year).order in
@@ -106,11 +99,7 @@ margin_by a margin true rule all is =
       bound = (omega (arith, floors), omega (arith, floors));
     })
 
-pub by_margin : (starts ends : List ℤ) → int_lt (pos 0) (margin_of starts ends) ≡ are_calm starts ends
-unfolding margin_of
-by_margin starts ends = grind arith
-
 pub margin_kept : (a : Alternate) (margin : ℤ) → IsAlternateRule a
-    → margin ≡ margin_of (starts a) (ends a) → IsMargin a margin
+    → margin ≡ margin_of (starts_of a) (ends_of a) → IsMargin a margin
 unfolding margin_of
 margin_kept a _ rule is = margin_by a _ _ rule refl is

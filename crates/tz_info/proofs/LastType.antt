@@ -3,15 +3,12 @@ use Rattle.std.proofs.lemmas.Option.{slice_get_within}
 use Rattle.tz_info.proofs.{
   SegmentLaws.{come_by_time, index_next, split_at, split_count, type_in_from},
   Words.{Agrees, HasType, IfSome, IsLeapTime, IsUnixTime, IsValid, LeapSecond, List, LocalType, Option, RuleOrElse, Some, Transition, TransitionRule, TypeAt},
-  Words.{Zone, arith, get_or, last_transition, length, slice_get, slice_get-get_or, ℤ, ◌+◌, ◌-◌, ◌<◌, ◌≡◌, ◌≤ℤ◌},
+  Words.{Zone, arith, get_or, last_transition, length, slice_get, slice_get-get_or, ℤ, ◌-◌, ◌≡◌, ◌≤ℤ◌},
   ZoneLaws.some_once,
 }
 
-some_last : (ts : List Transition) (last : Transition) → last_transition ts ≡ Some last → 0 < length ts
-some_last ts last is = grind (arith, slice_get_within)
-
 pub last_is : (ts : List Transition) (last : Transition) → last_transition ts ≡ Some last → get_or ts (length ts - 1) last ≡ last
-last_is ts last is = grind (arith, slice_get-get_or, some_last)
+last_is ts last is = grind (arith, slice_get-get_or, slice_get_within)
 
 -- what the rule says at the transition's Unix time, or without a rule the transition's type
 said : (rule : Option TransitionRule) (types : List LocalType) (leaps : List LeapSecond) (ts : List Transition) (last : Transition) (u : ℤ) (t : LocalType)
@@ -25,12 +22,11 @@ pub last_type : (z : Zone) (last : Transition) (u x : ℤ) (t : LocalType) → I
 last_type z last u x t valid is unix time come has =
     let ts = z.transitions in
     let rising = valid.transitions.rising in
-    let h = some_last ts _ is in
+    let h = slice_get_within ts _ last is in
     let e = last_is ts _ is in
     let p = split_at ts x rising in
     let n = split_count ts x p.0 p.1 in
-    let passed = (come_by_time ts x (length ts - 1) last rising (omega arith)).1 (rw e come) in
-    let all : p.0 ≡ length ts = omega arith in
-    let same : length ts - 1 + 1 ≡ length ts = omega arith in
-    let index = rw (same, e) at (index_next ts (length ts - 1) last (omega arith)) in
-    (type_in_from z u x t time (rw all at p.1) (rw index (said _ _ _ ts _ u t valid.agrees is unix has))).type
+    let passed = come_by_time ts x (length ts - 1) last rising (omega arith) in
+    let index = index_next ts (length ts - 1) last (omega arith) in
+    let s = said _ _ _ ts _ u t valid.agrees is unix has in
+    (type_in_from z u x t time (grind arith) (grind arith)).type

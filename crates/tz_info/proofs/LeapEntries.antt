@@ -2,7 +2,7 @@
 use Rattle.tz_info.proofs.{
   Prefixes.{last_taken},
   Words.{AreLeapSeconds, IsNextLeap, IsOneStep, LeapSecond, List, [], add-one, ap, arith, correction_before, corrections, filter_first, get_or, get_or_default},
-  Words.{int_lt, last_else, length, linear, lt_false, lt_true, pos, refl, rises, suc, sym, take, thresholds, zero, ℕ, ℤ, ◌+ℤ◌, ◌+◌, ◌-ℤ◌, ◌<ℤ◌, ◌<◌, ◌∷◌, ◌≡◌},
+  Words.{int_lt, last_else, length, linear, lt_false, lt_true, pos, refl, rises, suc, sym, take, thresholds, zero, ℕ, ℤ, ◌+◌, ◌-ℤ◌, ◌<ℤ◌, ◌<◌, ◌∷◌, ◌≡◌},
   Words.{◌≤ℤ◌, ◌≤◌},
 }
 
@@ -26,11 +26,6 @@ pub threshold_at : (p : ℤ) (es : List LeapSecond) (k : ℕ) (d : LeapSecond) (
 threshold_at p [] k d z h = absurd (omega arith)
 threshold_at p (e ∷ es) zero d z h = refl
 threshold_at p (e ∷ es) (suc k) d z h = threshold_at _ es k d z (omega arith)
-
--- two thresholds are 28 days apart but for two seconds
-pub threshold_apart : (a b : LeapSecond) (p : ℤ) → IsNextLeap a b → IsOneStep p a.correction
-    → ((a.unix_leap_time -ℤ p) +ℤ pos 2_419_198) ≤ℤ (b.unix_leap_time -ℤ a.correction)
-threshold_apart a b p n s = grind linear
 
 -- the threshold of the entry at place k
 abbrev pub threshold : List LeapSecond → ℕ → ℤ

@@ -1,12 +1,12 @@
 -- Leap times rise weakly with Unix times, none is refused near now, and where corrections count 1, 2, 3 and so on each Unix
 -- time is that of its leap time.
 use Rattle.tz_info.proofs.{
-  LeapEntries.{Follow, follow, follow_tail, threshold_apart, threshold_at, threshold_count},
+  LeapEntries.{Follow, follow, follow_tail, threshold_at, threshold_count},
   Prefixes.{last_taken},
   Words.{AreCounted, AreLeapSeconds, IsLeapTime, IsLeapTimeRefused, IsUnixTime, LeapSecond, List, [], add-one, ap, arith, by_lt_z, cond, correction_at},
   Words.{corrections, count_by, count_by-le-length, filter, filter_first, get_or, int_le, int_lt, ints, last_else, le_false, le_true, length, linear},
-  Words.{mapped_at, neg_ℤ, passed_count, pos, refl, suc, sum_by-cons, sym, take, thresholds, zero, ℕ, ℤ, ◌*◌, ◌+ℤ◌, ◌-ℤ◌, ◌<ℤ◌, ◌<◌, ◌↔◌, ◌∙◌, ◌∷◌, ◌≡◌, ◌≤ℤ◌},
-  Words.{◌≤◌},
+  Words.{mapped_at, neg_ℤ, passed_count, pos, refl, suc, sum_by-cons, sym, take, thresholds, zero, ℕ, ℤ, ◌*◌, ◌+ℤ◌, ◌-ℤ◌, ◌-◌, ◌<ℤ◌, ◌<◌, ◌↔◌, ◌∙◌, ◌∷◌},
+  Words.{◌≡◌, ◌≤ℤ◌, ◌≤◌},
 }
 
 -- how many entries after one of correction p are passed at u
@@ -21,7 +21,7 @@ module _ (p : ℤ) (e : LeapSecond) (es : List LeapSecond) where
   -- the next threshold comes later
   tail_later : Follow p (e ∷ es) → (d : LeapSecond) → 0 < length es
       → ((e.unix_leap_time -ℤ p) +ℤ pos 2_419_198) ≤ℤ ((get_or es 0 d).unix_leap_time -ℤ e.correction)
-  tail_later f d h = threshold_apart e _ p (f.next 0 d (omega arith)) (f.step e (omega arith))
+  tail_later f d h = grind (linear, f.next 0 d (omega arith), f.step e (omega arith))
 
   counted : (u : ℤ) → (e.unix_leap_time -ℤ p) ≤ℤ u → counted_from p (e ∷ es) u ≡ suc (counted_from e.correction es u)
   counted u h = sum_by-cons (λ t. cond (int_le t u) 1 0) (e.unix_leap_time -ℤ p) (thresholds e.correction es)
@@ -46,22 +46,21 @@ sums_rise p u v (e ∷ es) f h =
     (λ below. by_lt_z v (e.unix_leap_time -ℤ p)
     (λ under. rw (none_counted p u _ f (λ d l. below), none_counted p v _ f (λ d l. under)) (omega linear))
     (λ above.
-    let q = none_counted _ (e.unix_leap_time -ℤ p) es t (λ d l. let t = tail_later p e es f d l in omega linear) in
-    let r = rw q at (sums_rise _ (e.unix_leap_time -ℤ p) v es t above) in
+    let q = none_counted _ (e.unix_leap_time -ℤ p) es t in
+    let r = sums_rise e.correction (e.unix_leap_time -ℤ p) v es t above in
     let s = f.step e (omega arith) in
-    rw (none_counted p u _ f (λ d l. below), counted p e es v above) (grind linear)))
+    let z = none_counted p u (e ∷ es) f (λ d l. below) in grind (linear, counted, tail_later)))
     (λ above. rw (counted p e es u above, counted p e es v (omega linear)) (sums_rise e.correction u v es t h))
 
 pub leap_sums_rise : (es : List LeapSecond) (u v : ℤ) → AreLeapSeconds es → u ≤ℤ v → (u +ℤ correction_at es u) ≤ℤ (v +ℤ correction_at es v)
 leap_sums_rise es u v valid h = sums_rise _ u v es (follow es valid) h
 
-pub leap_times_rise : (es : List LeapSecond) (u v x y : ℤ) → AreLeapSeconds es → u ≤ℤ v → IsLeapTime es u x → IsLeapTime es v y → x ≤ℤ y
-leap_times_rise es u v x y valid h a b = rw (a.sum, b.sum) (sums_rise _ u v es (follow es valid) h)
-
-was_counted : (p u : ℤ) (e : LeapSecond) (es : List LeapSecond) (k : ℕ) → Follow p (e ∷ es) → k < counted_from p (e ∷ es) u → (e.unix_leap_time -ℤ p) ≤ℤ u
-was_counted p u e es k f l = by_lt_z u (e.unix_leap_time -ℤ p)
-    (λ below. let z = none_counted p u _ f (λ d m. below) in absurd (omega arith))
-    (λ above. above)
+-- the passed entries are those whose thresholds are not above u
+pub split : (p u : ℤ) (es : List LeapSecond) (k : ℕ) → Follow p es → k < length es → (k < counted_from p es u) ↔ (get_or (thresholds p es) k (pos 0) ≤ℤ u)
+split p u [] k f h = absurd (omega arith)
+split p u (e ∷ es) k f h = by_lt_z u (e.unix_leap_time -ℤ p)
+    (λ below. let z = none_counted p u (e ∷ es) f (λ d m. below) in grind (linear, not_counted, split _ u es (k - 1) (follow_tail p e es f)))
+    (λ above. grind (arith, counted, split _ u es (k - 1) (follow_tail p e es f)))
 
 -- the k-th passed entry lies k steps on, and its correction is at most k + 1 away
 pub record Bounded (p a u : ℤ) (es : List LeapSecond) (k : ℕ) : Type 0 where
@@ -72,9 +71,11 @@ pub record Bounded (p a u : ℤ) (es : List LeapSecond) (k : ℕ) : Type 0 where
 bounded : (p a u : ℤ) (es : List LeapSecond) (k : ℕ) → Follow p es → ((d : LeapSecond) → 0 < length es → a ≤ℤ ((get_or es 0 d).unix_leap_time -ℤ p))
     → k < counted_from p es u → Bounded p a u es k
 bounded p a u [] k f h l = absurd (omega arith)
-bounded p a u (e ∷ es) zero f h l = let t = h e (omega arith) in let d = f.step e (omega arith) in grind (linear, was_counted)
+bounded p a u (e ∷ es) zero f h l =
+    let t = h e (omega arith) in let d = f.step e (omega arith) in
+    let a = (split p u (e ∷ es) 0 f (omega arith)).0 l in grind linear
 bounded p a u (e ∷ es) (suc k) f h l =
-    let above = was_counted p u e es _ f l in let t = h e (omega arith) in let d = f.step e (omega arith) in
+    let above = (split p u (e ∷ es) 0 f (omega arith)).0 (omega arith) in let t = h e (omega arith) in let d = f.step e (omega arith) in
     let c = counted p e es u above in
     grind (
       arith,
@@ -91,23 +92,10 @@ pub leap_times_answer : (es : List LeapSecond) (u : ℤ) → AreLeapSeconds es �
 leap_times_answer es u valid low high r =
     let b = passed_bounded es u _ valid r.passed in grind arith
 
--- the passed entries are those whose thresholds are not above u
-pub split : (p u : ℤ) (es : List LeapSecond) (k : ℕ) → Follow p es → k < length es → (k < counted_from p es u) ↔ (get_or (thresholds p es) k (pos 0) ≤ℤ u)
-split p u [] k f h = absurd (omega arith)
-split p u (e ∷ es) zero f h = by_lt_z u (e.unix_leap_time -ℤ p)
-    (λ below. let z = none_counted p u _ f (λ d m. below) in grind linear)
-    (λ above. let c = counted p e es u above in grind linear)
-split p u (e ∷ es) (suc k) f h =
-    let r = split _ u es k (follow_tail p e es f) (omega arith) in
-    by_lt_z u (e.unix_leap_time -ℤ p)
-    (λ below. let c = not_counted p e es u below in let z = none_counted p u _ f (λ d m. below) in grind linear)
-    (λ above. grind (arith, counted))
-
 -- the correction of the last of the first k entries is k
 counted_correction : (es : List LeapSecond) (k : ℕ) → AreCounted es → k ≤ length es → last_else (pos 0) (corrections (take k es)) ≡ pos k
-counted_correction [] zero c h = refl
+counted_correction es zero c h = grind arith
 counted_correction [] (suc k) c h = absurd (omega arith)
-counted_correction (e ∷ es) zero c h = refl
 counted_correction (e ∷ es) (suc k) c h =
     last_taken (λ e. e.correction) (pos 0) (e ∷ es) k e (omega arith)
     ∙ sym (mapped_at (λ e. e.correction) (e ∷ es) k e (pos 0) (omega arith)) ∙ c k (omega arith) ∙ ap pos (add-one k)
@@ -119,10 +107,6 @@ leap_time_undone es u x v valid c a b =
     let l = count_by-le-length (λ t. int_le t u) (thresholds (pos 0) es) in
     let f : filter (λ e. int_lt e.unix_leap_time x) es ≡ take n es =
     filter_first (λ e. int_lt e.unix_leap_time x) es n (omega arith)
-    (λ k d j.
-    let t = (split _ u es k (follow es valid) (omega arith)).0 j in
-    let w = threshold_at (pos 0) es k d (pos 0) (omega arith) in grind (linear, counted_correction))
-    (λ k d j i.
-    let t = split (pos 0) u es k (follow es valid) i in
-    let w = threshold_at (pos 0) es k d (pos 0) i in grind (linear, counted_correction)) in
+    (λ k d j. grind (linear, counted_correction, split (pos 0) u es k (follow es valid) (omega arith), threshold_at (pos 0) es k d (pos 0) (omega arith)))
+    (λ k d j i. grind (linear, counted_correction, split (pos 0) u es k (follow es valid) i, threshold_at (pos 0) es k d (pos 0) i)) in
     grind arith

@@ -1,12 +1,12 @@
 -- The passed entries, by halves, and the last second that has a leap time.
 use Rattle.std.proofs.lemmas.Int.{clamps}
-use Rattle.std.specs.{Int.{int_min, saturate_signed}, List.Sorted.{IsPartitionedBy}}
+use Rattle.std.specs.Int.{int_min, saturate_signed}
 use Rattle.tz_info.proofs.{
   LeapEntries.{follow, threshold, times_rise},
   LeapOrder.{passed_bounded, split},
   LeapStarts.{correction_after, passed_at_most, passed_when},
   Prefixes.{any_leap, last_taken},
-  Words.{AreLeapSeconds, IsLeapTime, LeapSecond, List, SFits, [], arith, by_lt_z, corrections, get_or, int_le, int_lt, le_is, le_true, length, linear},
+  Words.{AreLeapSeconds, IsLeapTime, LeapSecond, List, SFits, [], arith, by_lt_z, corrections, get_or, int_le, le_is, le_true, length, linear},
   Words.{mapped_at, passed_count, pos, refl, suc, true, w64, zero, ℕ, ℤ, ◌+ℤ◌, ◌+◌, ◌<ℤ◌, ◌<◌, ◌↔◌, ◌∷◌, ◌≡◌, ◌≤ℤ◌, ◌≤◌},
 }
 use Rattle.tz_info.specs.Steps.Starts.{IsLastWithLeapTime}
@@ -16,9 +16,6 @@ pub record ArePassedBetween (es : List LeapSecond) (u : ℤ) (first high : ℕ) 
   pub least : first ≤ passed_count es u
   pub most : passed_count es u ≤ high
   pub within : high ≤ length es
-
-pub all_between : (es : List LeapSecond) (u : ℤ) (n : ℕ) → n ≡ length es → ArePassedBetween es u 0 n
-all_between es u n e = let m = passed_at_most es u in record { least = omega arith; most = omega arith; within = omega arith }
 
 -- no entry comes before 1970
 pub since_epoch : (es : List LeapSecond) (k : ℕ) (d : LeapSecond) → AreLeapSeconds es → k < length es → pos 0 ≤ℤ (get_or es k d).unix_leap_time
@@ -41,9 +38,8 @@ leap_time_fits es u x f l = by_count (passed_count es u) refl where
   by_count zero e = let s = rw e at l.sum in omega linear
   by_count (suc m) e =
       let within = passed_at_most es u in
-      let s = rw (e, last_taken (λ e. e.correction) _ es m any_leap (omega arith)) at l.sum in
-      let t = rw (mapped_at (λ e. e.correction) es m any_leap (pos 0) (omega arith)) at (l.fits m (omega arith)) in
-      rw s t
+      let last = last_taken (λ e. e.correction) (pos 0) es m any_leap (omega arith) in
+      grind (linear, l.fits m (omega arith), mapped_at (λ (e : LeapSecond). e.correction) es m any_leap (pos 0) (omega arith))
 
 -- ---- the last second that has a leap time
 -- the entry at place k is passed at u, and the sum with its correction is beyond 64 bits
@@ -87,10 +83,6 @@ last_with_leap_time es last valid r = record {
         leaves = λ f. omega linear;
       };
 }
-
--- ---- the entries before a leap time
-pub parted_before : (es : List LeapSecond) (x : ℤ) → AreLeapSeconds es → IsPartitionedBy (λ e. int_lt e.unix_leap_time x) es
-parted_before es x valid i j d h l t = let r = times_rise es d valid i j h l in grind arith
 
 -- without leap seconds the leap time of a second is that second
 pub own_leap_time : (es : List LeapSecond) (u : ℤ) → length es ≡ 0 → IsLeapTime es u u

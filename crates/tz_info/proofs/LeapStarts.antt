@@ -1,11 +1,10 @@
 -- The first second at which a leap time has come.
-use Rattle.std.specs.List.Sorted.{IsPartitionedBy}
 use Rattle.tz_info.proofs.{
-  LeapEntries.{follow, threshold_at, threshold_count, times_rise},
+  LeapEntries.{follow, threshold_at, threshold_count},
   LeapOrder.split,
-  Prefixes.last_taken,
-  Words.{AreLeapSeconds, HaveCome, IsLeapTime, IsNear, IsOneStep, LeapSecond, List, [], arith, cases_lt, corrections, count_by-le-length, get_or, inl, inr},
-  Words.{int_le, last_else, length, linear, passed_count, pos, saturate_signed, suc, take, w64, zero, ℕ, ℤ, ◌-ℤ◌, ◌-◌, ◌<ℤ◌, ◌<◌, ◌↔◌, ◌∷◌, ◌≡◌, ◌≤ℤ◌, ◌≤◌},
+  Prefixes.{any_leap, last_taken},
+  Words.{AreLeapSeconds, HaveCome, IsLeapTime, IsNear, IsOneStep, LeapSecond, List, [], arith, corrections, count_by-le-length, get_or},
+  Words.{last_else, length, linear, passed_count, pos, saturate_signed, suc, take, w64, zero, ℕ, ℤ, ◌-ℤ◌, ◌-◌, ◌<◌, ◌↔◌, ◌≡◌, ◌≤ℤ◌, ◌≤◌},
 }
 
 -- the correction in force after the first k entries
@@ -14,10 +13,6 @@ correction_after es k = last_else (pos 0) (corrections (take k es))
 
 pub passed_at_most : (es : List LeapSecond) (u : ℤ) → passed_count es u ≤ length es
 passed_at_most es u = grind (linear, count_by-le-length, threshold_count)
-
-no_first : {X : Type 0} (xs : List X) (n : ℕ) → n < length xs → X
-no_first [] n h = absurd (omega arith)
-no_first (x ∷ xs) n h = x
 
 -- a number limited to 64 bits is on the same side of each second near now
 pub saturated : (v u : ℤ) → IsNear u → (saturate_signed w64 v ≤ℤ u) ↔ (v ≤ℤ u)
@@ -35,51 +30,20 @@ module _ (es : List LeapSecond) (d : LeapSecond) (valid : AreLeapSeconds es) whe
   pub passed_when : (u : ℤ) (k : ℕ) → k < length es → (k < passed_count es u) ↔ (((get_or es k d).unix_leap_time -ℤ correction_after es k) ≤ℤ u)
   passed_when u k h = let t = threshold_at (pos 0) es k d (pos 0) h in grind (linear, split, follow)
 
-  -- fewer entries are passed at u than come by x
-  below_law : (x u y : ℤ) (n : ℕ) → HaveCome es x n → IsLeapTime es u y → passed_count es u < n → y <ℤ x
-  below_law x u y n h l less = let p = passed_when u (passed_count es u) in grind arith
-
   -- more entries are passed at u than come by x
   above_law : (x u y : ℤ) (n c : ℕ) → HaveCome es x n → IsLeapTime es u y → passed_count es u ≡ suc c → n ≤ c → x ≤ℤ y
   above_law x u y n c h l is more =
-      let m = passed_at_most es u in
-      let s = (passed_when u c (omega arith)).0 (omega arith) in
-      let a = h.after c d more (omega arith) in
-      let step = one_step c (omega arith) in grind linear
+      let m = passed_at_most es u in let step = one_step c in let s = passed_when u c in let a = h.after c d in grind linear
 
-  -- and then x less the correction in force at x comes before u
-  above_start : (x u : ℤ) (n : ℕ) → HaveCome es x n → n < passed_count es u → (x -ℤ correction_after es n) ≤ℤ u
-  above_start x u n h more = let m = passed_at_most es u in let p = passed_when u n in grind arith
-
-  -- else at the later of two seconds: the one at which the latest entry is passed, and the one that its correction leads back to
+  -- x is reached at the later of two seconds: the one at which the latest entry is passed, and the one that its correction leads back to
   pub reached_later : (x u y : ℤ) (n : ℕ) → HaveCome es x n → 0 < n → IsLeapTime es u y
       → (x ≤ℤ y) ↔ ((((get_or es (n - 1) d).unix_leap_time -ℤ correction_after es (n - 1)) ≤ℤ u) × ((x -ℤ correction_after es n) ≤ℤ u))
   reached_later x u y n h some l =
-      let b = below_law x u y n h l in
-      let a = above_law x u y n (passed_count es u - 1) h l in
-      let c = above_start x u n h in
-      elim (cases_lt n (passed_count es u)) [ inl more ↦ grind (linear, passed_when) | inr most ↦ grind (linear, passed_when) ]
+      let a = above_law x u y n (passed_count es u - 1) h l in let b = passed_when u (passed_count es u) in
+      let m = passed_at_most es u in let q = passed_when u n in let p = passed_when u (n - 1) in grind linear
 
 -- if none has come, the leap time is reached at the same number
 pub reached_first : (es : List LeapSecond) (x u y : ℤ) → AreLeapSeconds es → HaveCome es x 0 → IsLeapTime es u y → (x ≤ℤ y) ↔ (x ≤ℤ u)
-reached_first es x u y valid h l = elim (cases_lt 0 (passed_count es u)) [
-  | inl more ↦
-      let m = passed_at_most es u in
-      let d = no_first es 0 (omega arith) in
-      let a = above_law es d valid x u y 0 (passed_count es u - 1) h l in
-      let b = above_start es d valid x u 0 h in grind linear
-  | inr none ↦ grind arith
-]
-
-pub parted : (es : List LeapSecond) (x : ℤ) → AreLeapSeconds es → IsPartitionedBy (λ e. int_le e.unix_leap_time x) es
-parted es x valid i j d h l t = let r = times_rise es d valid i j h l in grind arith
-
--- the first n entries have come by x if the last of them has and the next one hasn't
-pub come_here : (es : List LeapSecond) (x : ℤ) (n : ℕ) → AreLeapSeconds es → n ≤ length es
-    → ((d : LeapSecond) → 0 < n → (get_or es (n - 1) d).unix_leap_time ≤ℤ x)
-    → ((d : LeapSecond) → n < length es → x <ℤ (get_or es n d).unix_leap_time) → HaveCome es x n
-come_here es x n valid within since until = record {
-  within = within;
-  before = λ k d l. let r = times_rise es d valid k (n - 1) in grind linear;
-  after = λ k d a l t. let r = times_rise es d valid n k in grind linear;
-}
+reached_first es x u y valid h l =
+    let m = passed_at_most es u in let p = passed_when es any_leap valid u 0 in
+    let a = above_law es any_leap valid x u y 0 (passed_count es u - 1) h l in grind linear

@@ -23,10 +23,8 @@ pub mod LeapEntries
 pub mod LeapOrder
 pub mod TableSearch
 pub mod PassedTransitions
-pub mod Validity
 pub mod ListFaults
 pub mod ZoneLaws
-pub mod NamedTypes
 pub mod TextLaws
 pub mod PosixLaws
 pub mod TextFits

@@ -16,9 +16,6 @@ use Rattle.tz_info.specs.{Leaps.IsFirstLeap, Transitions.NameTypes}
 abbrev pub Known : Type 0 → Type 0
 Known P = P ⊎ ¬ P
 
-less_known : (a b : ℕ) → Known (a < b)
-less_known a b = grind arith
-
 pub equal_known : (a b : ℤ) → Known (a ≡ b)
 equal_known a b = grind arith
 
@@ -30,10 +27,8 @@ like_known to from p = grind arith
 
 -- ---- of each number below one, each element, and each and the next
 below_known : {P : ℕ → Type 0} (n : ℕ) → ((k : ℕ) → Known (P k)) → Known ((k : ℕ) → k < n → P k)
-below_known zero each = inl (λ k l. absurd (omega arith))
-below_known {P = P} (suc n) each =
-    like_known (λ h k l. below_more P n h.0 h.1 k (omega arith)) (λ h. (λ k l. h k (omega arith), h n (omega arith)))
-    (both_known (below_known n each) (each n))
+below_known zero each = inl (grind arith)
+below_known (suc n) each = let r = below_known n each in let here = each n in grind (arith, below_more)
 
 all_known : {X : Type 0} {P : X → Type 0} → ((x : X) → Known (P x)) → (xs : List X) → Known (All P xs)
 all_known each [] = inl (grind arith)
@@ -55,16 +50,10 @@ adjacent_known {R = R} each (x ∷ xs) = like_known
     (below_known {P = λ k. R _ _} (length xs) (λ k. each _ _))
 
 -- ---- transitions and leap seconds
-earlier_known : (a b : Transition) → Known (a.unix_leap_time <ℤ b.unix_leap_time)
-earlier_known a b = grind arith
-
-next_leap_known : (a b : LeapSecond) → Known (IsNextLeap a b)
-next_leap_known a b = grind arith
-
 leaps_known : (leaps : List LeapSecond) → Known (AreLeapSeconds leaps)
 leaps_known [] = inl (grind arith)
 leaps_known (e ∷ es) = like_known (λ h. record { first = λ d l. h.0; next = h.1 }) (λ h. (h.first e (omega arith), h.next))
-    (both_known (grind arith) (adjacent_known next_leap_known (e ∷ es)))
+    (both_known (grind arith) (adjacent_known {R = IsNextLeap} (λ a b. grind arith) (e ∷ es)))
 
 -- ---- the first fault
 pub list_fault_or_valid : (z : Zone) (e : Error) → ListFault z e → IsValid z → ⊥
@@ -87,18 +76,15 @@ Staged z e =
 staged : (z : Zone) (e : Error) → ListFault z e → Staged z e
 staged z e f = grind arith
 
-one_fault : (z : Zone) (d e : Error) → Staged z d → Staged z e → d ≡ e
-one_fault z d e f g = grind arith
-
 pub list_fault_once : (z : Zone) (d e : Error) → ListFault z d → ListFault z e → d ≡ e
-list_fault_once z d e f g = one_fault z d e (staged z d f) (staged z e g)
+list_fault_once z d e f g = let a = staged z d f in let b = staged z e g in grind arith
 
 pub has_list_fault : (z : Zone) → ¬ (IsValid z) → (e : Error) × ListFault z e
 has_list_fault z bad = elim (cases_lt 0 (length z.types)) [
   | inr none ↦ (_, No_type (λ l. omega arith))
-  | inl some ↦ elim (all_known (λ t. less_known t.type_index (length z.types)) _) [
+  | inl some ↦ elim (all_known {P = λ (t : Transition). t.type_index < length z.types} (λ t. grind arith) _) [
     | inr other ↦ (_, Other_index some other)
-    | inl indexes ↦ elim (pairs_known earlier_known _) [
+    | inl indexes ↦ elim (pairs_known {R = λ (a b : Transition). a.unix_leap_time <ℤ b.unix_leap_time} (λ a b. grind arith) _) [
       | inr other ↦ (_, Not_rising some indexes other)
       | inl rising ↦
           let transitions : AreTransitions (length z.types) _ = record { indexes = indexes; rising = rising } in

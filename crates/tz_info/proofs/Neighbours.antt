@@ -3,14 +3,18 @@ use Rattle.std.proofs.lemmas.Bool.Decides.{Decides-like}
 use Rattle.tz_info.proofs.{
   RuleDays.{day_within},
   Words.{Alternate, Bool, DayTime, Decides, Decides-or, IsAlternateRule, IsDstAt, IsInSomeYear, IsRuleDay, IsWithinDay, IsWithinWeek, IsYearOf, arith, by_lt_z},
-  Words.{cond, days_at_least, end_in, floors, inl, inr, int_le, is_between, is_dst_by_one, is_in_three, linear, moment, neg_ℤ, new_year, not, pos, refl},
+  Words.{cond, days_at_least, end_in, floors, inl, inr, int_le, is_between, is_in_three, linear, moment, neg_ℤ, new_year, not, pos, refl},
   Words.{start_in, starts_rise, year_start, year_step, ℤ, ⊎_elim, ◌*ℤ◌, ◌+ℤ◌, ◌-ℤ◌, ◌<ℤ◌, ◌≡◌, ◌≤ℤ◌, ◌⊎◌},
 }
 
--- the moments of each year lie less than eight days outside of it
-pub record IsNear (moments : ℤ → ℤ) : Type 0 where
-  pub low : (year : ℤ) → (new_year year -ℤ pos 691_198) ≤ℤ moments year
-  pub high : (year : ℤ) → moments year ≤ℤ (pos 86_400 *ℤ (year_start year +ℤ pos 365) +ℤ pos 691_198)
+-- the moments of each year keep that margin from its ends
+pub record KeepsMargin (moments : ℤ → ℤ) (margin : ℤ) : Type 0 where
+  pub low : (year : ℤ) → (new_year year +ℤ margin) ≤ℤ moments year
+  pub high : (year : ℤ) → moments year ≤ℤ (pos 86_400 *ℤ (year_start year +ℤ pos 365) -ℤ margin)
+
+-- they lie at most eight days outside of it
+abbrev pub IsNear : (ℤ → ℤ) → Type 0
+IsNear moments = KeepsMargin moments (neg_ℤ (pos 691_200))
 
 pub near_years : (t : DayTime) (offset : ℤ) → IsRuleDay t.day → IsWithinWeek t.time → IsWithinDay offset → IsNear (moment t offset)
 unfolding moment
@@ -32,21 +36,14 @@ year_after a b h =
     let rise = starts_rise (a +ℤ pos 1) b (omega (arith, floors)) in
     omega (arith, floors)
 
--- two years later at least 730 days later
-pub two_years_after : (a b : ℤ) → (a +ℤ pos 1) <ℤ b → (year_start a +ℤ pos 730) ≤ℤ year_start b
-two_years_after a b h = let step = year_after a (a +ℤ pos 1) in let next = year_after (a +ℤ pos 1) b in grind (linear, floors)
-
 -- a second of the year comes from the year's first day on, and before the next year
-pub second_low : (u year : ℤ) → IsYearOf u year → new_year year ≤ℤ u
-second_low u _ h = omega (arith, floors)
-
-pub second_high : (u year : ℤ) → IsYearOf u year → u <ℤ new_year (year +ℤ pos 1)
-second_high u _ h = omega (arith, floors)
+pub in_year : (u year : ℤ) → IsYearOf u year → (new_year year ≤ℤ u) × (u <ℤ new_year (year +ℤ pos 1))
+in_year u _ h = (omega (arith, floors), omega (arith, floors))
 
 pub not_earlier : (lasts : ℤ → ℤ) (u year other : ℤ) → IsNear lasts → IsYearOf u year → u <ℤ lasts other → (year -ℤ pos 1) ≤ℤ other
 not_earlier _ u year other near of_second before = by_lt_z other (year -ℤ pos 1)
     (λ less.
-    let far = two_years_after other year (omega (arith, floors)) in
+    let step = year_after other (other +ℤ pos 1) (omega linear) in let far = year_after (other +ℤ pos 1) year (omega linear) in
     let high = near.high other in omega (arith, floors))
     (λ h. h)
 
@@ -75,14 +72,6 @@ by_three firsts lasts year u near_first near_last of_second = Decides-like _
     (place _ _ (not_earlier _ u _ _ near_last of_second before) (not_later firsts u _ _ near_first of_second from)))
     (Decides-or _ _ (Decides-or _ _ (between _ _ u) (between _ _ u)) (between _ _ u))
 
--- the moments of each year keep that margin from its ends
-pub record KeepsMargin (moments : ℤ → ℤ) (margin : ℤ) : Type 0 where
-  pub low : (year : ℤ) → (new_year year +ℤ margin) ≤ℤ moments year
-  pub high : (year : ℤ) → moments year ≤ℤ (pos 86_400 *ℤ (year_start year +ℤ pos 365) -ℤ margin)
-
-pub near_margin : (moments : ℤ → ℤ) → IsNear moments → KeepsMargin moments (neg_ℤ (pos 691_200))
-near_margin _ near = grind arith
-
 -- the second lies no further outside the year than its neighbours' moments lie inside theirs
 abbrev pub IsBeside : ℤ → ℤ → ℤ → Type 0
 IsBeside margin year u =
@@ -98,25 +87,20 @@ own_year _ _ _ year u other first last beside from before =
     (λ more. let after = year_after _ _ more in let low = first.low other in omega (arith, floors))
     (λ not_more. omega (arith, floors)))
 
-by_own : (firsts lasts : ℤ → ℤ) (margin year u : ℤ) → KeepsMargin firsts margin → KeepsMargin lasts margin → IsBeside margin year u
+pub by_own : (firsts lasts : ℤ → ℤ) (margin year u : ℤ) → KeepsMargin firsts margin → KeepsMargin lasts margin → IsBeside margin year u
     → Decides (is_between (firsts year) (lasts year) u) (IsInSomeYear firsts lasts u)
 by_own _ _ _ year u first last beside = Decides-like _ (λ h. (year, h.0, h.1))
     (λ some. let (other, from, before) = some in rw (← own_year _ _ _ _ u _ first last beside from before) (from, before)) (between _ _ u)
 
 -- such tests decide, where moments come in their order in the second's own year
-dst_by : (starts ends : ℤ → ℤ) (year own u : ℤ) (dst first last : Bool) → int_le (starts own) (ends own) ≡ int_le (starts year) (ends year)
+pub decides_dst : (starts ends : ℤ → ℤ) (year own u : ℤ) (dst first last : Bool) → int_le (starts own) (ends own) ≡ int_le (starts year) (ends year)
     → dst ≡ cond (int_le (starts year) (ends year)) first (not last)
     → Decides first (IsInSomeYear starts ends u) → Decides last (IsInSomeYear ends starts u) → IsDstAt starts ends own u dst
-dst_by _ _ _ own u dst _ _ same is on off = grind arith
-
-pub dst_by_one : (starts ends : ℤ → ℤ) (margin year own u : ℤ) (dst : Bool) → KeepsMargin starts margin → KeepsMargin ends margin → IsBeside margin year u
-    → int_le (starts own) (ends own) ≡ int_le (starts year) (ends year) → dst ≡ is_dst_by_one (starts year) (ends year) u → IsDstAt starts ends own u dst
-dst_by_one _ _ _ _ own u dst start end beside same is =
-    dst_by _ _ _ own u dst _ _ same is (by_own _ _ _ _ u start end beside) (by_own _ _ _ _ u end start beside)
+decides_dst _ _ _ own u dst _ _ same is on off = grind arith
 
 -- the moments of three years decide everywhere
 pub dst_by_three : (starts ends : ℤ → ℤ) (year u : ℤ) (dst : Bool) → IsNear starts → IsNear ends → IsYearOf u year
     → dst ≡ cond (int_le (starts year) (ends year)) (is_in_three starts ends year u) (not (is_in_three ends starts year u)) → IsDstAt starts ends year u dst
 dst_by_three _ _ _ u dst near_start near_end of_second is =
-    dst_by _ _ _ _ u dst _ _ refl is (by_three _ _ _ u near_start near_end of_second)
+    decides_dst _ _ _ _ u dst _ _ refl is (by_three _ _ _ u near_start near_end of_second)
     (by_three _ _ _ u near_end near_start of_second)

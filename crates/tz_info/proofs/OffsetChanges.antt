@@ -1,10 +1,9 @@
 -- Walks from change to change, on and back, up to one at which the offset changes.
 use Rattle.tz_info.proofs.{
   ChangeLaws.one_change,
-  SegmentLaws.{come_at_time, segment_most},
   Words.{Alternate as AlternateRule, Change, IsBegin, IsChange, IsFirstChange, IsLastChange, IsNearestOffsetChange, IsOffsetChange, IsValid, KeepsOffset},
-  Words.{LocalType, SFits, Some, TypeAt, Zone, false, length, linear, pos, segment_of, true, w64, ℤ, ◌-ℤ◌, ◌<ℤ◌, ◌≡◌, ◌≤ℤ◌},
-  ZoneChanges.{last_too, time_of, to_rule},
+  Words.{Some, TypeAt, Zone, false, linear, pos, true, ℤ, ◌-ℤ◌, ◌<ℤ◌, ◌≡◌, ◌≤ℤ◌},
+  ZoneChanges.{begun, last_too, to_rule},
 }
 use Rattle.tz_info.specs.declared.rule.transition_rule.TransitionRule.TheVariants.{Alternate}
 
@@ -13,16 +12,11 @@ kept_one : (z : Zone) (c d : Change) → IsOffsetChange (TypeAt z) d → IsChang
 kept_one z c d h is same kept = let one = one_change z d c h.is is same in grind linear
 
 -- ---- a rule whose two types have one offset
--- all transitions have come at a second with a type from `begin` on
-has_begun : (z : Zone) (begin u : ℤ) (t : LocalType) → IsValid z → IsBegin z begin → SFits w64 u → TypeAt z u t → begin ≤ℤ u
-    → segment_of z u ≡ length z.transitions
-has_begun z _ u t valid h fits k from = grind (linear, time_of, come_at_time, segment_most)
-
 pub rule_keeps : (z : Zone) (a : AlternateRule) (begin : ℤ) → IsValid z → z.rule ≡ Some (Alternate a) → IsBegin z begin → a.std.offset ≡ a.dst.offset
     → KeepsOffset (TypeAt z) (λ u. begin <ℤ u)
 rule_keeps z a _ valid rule h same d is later =
     let change = is.is in
-    let all = has_begun z _ _ _ valid h change.fits_before change.before (omega linear) in
+    let all = (begun z _ _ _ valid h change.fits_before change.before).0 (omega linear) in
     let before = to_rule z a _ _ rule valid all change.before in
     let after = to_rule z a _ _ rule valid (last_too z _ valid all) change.after in
     grind linear

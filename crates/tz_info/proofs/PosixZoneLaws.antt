@@ -16,18 +16,12 @@ abbrev pub IsOfText : Bool → Option TransitionRule → Type 0
 IsOfText extended (Some rule) = (bytes : List ℕ) × IsTzText extended bytes rule
 IsOfText extended None = Unit {0}
 
-in_text : (extended : Bool) (bytes : List ℕ) (r : Option TransitionRule) (rest : List ℕ) → Spells (footer_text extended) bytes r rest → IsOfText extended r
-unfolding footer_text
-in_text extended bytes r rest h = grind (arith, text_ends)
-
 pub in_footer : (extended : Bool) (footer : Option (List ℕ)) (bytes : List ℕ) (r : Option TransitionRule) (rest : List ℕ)
     → Spells (optional_footer extended footer) bytes r rest → IsOfText extended r
-unfolding optional_footer footer
-in_footer extended footer bytes r rest h = grind (arith, in_text)
-
-rule_fits : (extended : Bool) (r : Option TransitionRule) → IsOfText extended r → IsRuleOrNone r
-rule_fits extended r h = grind (arith, text_rule_fits)
+unfolding optional_footer footer footer_text
+in_footer extended footer bytes r rest h = grind (arith, text_ends)
 
 pub file_rule_fits : (bytes : List ℕ) (zone : Zone) → IsTzFile bytes zone → IsRuleOrNone zone.rule
 unfolding tz_file contents
-file_rule_fits bytes zone (p, _, _, (_, _, _, (_, _, _, (r, _, k, (value, _))))) = rw value (rule_fits p.extended r (in_footer p.extended p.footer _ r _ k))
+file_rule_fits bytes zone (p, _, _, (_, _, _, (_, _, _, (r, _, k, (value, _))))) =
+    let rule = in_footer p.extended p.footer _ r _ k in rw value (grind (arith, text_rule_fits))

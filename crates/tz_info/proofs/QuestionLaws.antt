@@ -8,11 +8,11 @@ use Rattle.tz_info.proofs.{
   WallSegments.{leap_time_of, near_of, rule_begun},
   Words.{All-contains, AllPairs-cons, Alternate as AlternateRule, AreUtOffsets, Bool, Contains, Contains-append_right, IsAskedAt, IsAskedAtEach},
   Words.{IsAskedAtLeapTime, IsAskedFor, IsAskedFrom, IsAskedSince, IsByRuleFor, IsLeapTime, IsNear, IsSecondFrom, IsStart, IsValid, IsWide, IsWindow},
-  Words.{LocalType, None, Option, Some, Transition, TransitionRule, Zone, [], arith, false, get_or, inl, inr, length, linear, not, offsets, offsets_of, refl},
+  Words.{LocalType, None, Some, Transition, TransitionRule, Zone, [], arith, false, get_or, inl, inr, length, linear, not, offsets, offsets_of, refl},
   Words.{rule_offsets, sym, true, type_when, ℕ, ℤ, ⊎_elim, ◌+◌, ◌-ℤ◌, ◌<ℤ◌, ◌<◌, ◌↔◌, ◌∙◌, ◌∷◌, ◌≡◌, ◌≢◌, ◌≤ℤ◌, ◌⊎◌},
   ZoneLaws.same_passed,
 }
-use Rattle.tz_info.specs.{Questions.{IsByRule}, declared.rule.transition_rule.TransitionRule.TheVariants.{Alternate, Fixed}}
+use Rattle.tz_info.specs.{declared.rule.transition_rule.TransitionRule.TheVariants.{Alternate, Fixed}}
 
 -- ---- from which second on the rule is asked
 -- a zone asks its rule from `start` on
@@ -56,9 +56,6 @@ module _ (z : Zone) (rule : TransitionRule) (start l : ℤ) (valid : IsValid z) 
     count = k.count;
   }
 
-in_one : (a u : ℤ) → Contains (a ∷ []) u → u ≡ a
-in_one a u h = grind linear
-
 pub in_two : (a b u : ℤ) → Contains (a ∷ b ∷ []) u → (u ≡ a) ⊎ (u ≡ b)
 in_two a b u h = grind linear
 
@@ -75,7 +72,7 @@ asked_more _ c p q r (inl (k, e)) others = record {
   seconds = c ∷ others.seconds;
   once = AllPairs-cons (λ u v. u ≢ v) c others.seconds (λ i d h g. ((others.each _).0 (Contains-get_or others.seconds i d h)).1 (sym g)) others.once;
   each = λ u. (
-    (grind (linear, in_one)),
+    (grind linear),
     (λ i. ⊎_elim (λ g. (0, omega arith, sym g)) (λ other. Contains-append_right (c ∷ []) others.seconds u ((others.each u).1 (i, other))) (equal_known u c)),
   );
   count = omega arith;
@@ -84,13 +81,6 @@ asked_more asks c p q r (inr (none, e)) others = grind arith
 
 one_second : (asks : ℤ → Type 0) (c : ℤ) (p q : ℕ) → ((u : ℤ) → asks u → u ≡ c) → IsAskedIf asks c p q → IsAskedAtEach asks p q
 one_second asks c p q only k = asked_more _ c p q q k (nowhere (λ u. asks u × (u ≢ c)) q q (grind linear) refl)
-
--- two, the one asked after the other
-two_seconds : (asks : ℤ → Type 0) (c d : ℤ) (p q r : ℕ) → c ≢ d → ((u : ℤ) → asks u → (u ≡ c) ⊎ (u ≡ d)) → IsAskedIf asks c p q
-    → IsAskedIf asks d q r → IsAskedAtEach asks p r
-two_seconds asks c d p q r other both j k = asked_more _ c p q r j (one_second (λ u. asks u × (u ≢ c)) d q r
-    (grind linear)
-    (grind linear))
 
 -- ---- those of a rule
 asked_since : (rule : TransitionRule) (from l o : ℤ) (p q : ℕ) → Contains (rule_offsets (Some rule)) o → IsAskedSince from (l -ℤ o) p q
@@ -113,7 +103,10 @@ module _ (a : AlternateRule) (from l : ℤ) (dst : Bool) where
   pub asked_in_turn : (p q r : ℕ) → a.std.offset ≢ a.dst.offset → IsAskedSince from (l -ℤ (type_when a dst).offset) p q
       → IsAskedSince from (l -ℤ (type_when a (not dst)).offset) q r → IsAskedFrom (Alternate a) from l p r
   asked_in_turn p q r other h k =
-      two_seconds _ _ _ p q r (grind arith) either (asked_since _ _ l _ p q (of_rule _) h) (asked_since _ _ l _ q r (of_rule _) k)
+      let c = l -ℤ (type_when a dst).offset in let d = l -ℤ (type_when a (not dst)).offset in let apart : c ≢ d = grind arith in
+      let asked = asked_since (Alternate a) from l (type_when a (not dst)).offset q r (of_rule (not dst)) k in
+      asked_more _ c p q r (asked_since _ _ l _ p q (of_rule _) h)
+      (one_second (λ u. IsSecondFrom (Alternate a) from l u × (u ≢ c)) d q r (grind (linear, either)) (grind linear))
 
   -- both come too early
   pub asked_neither : (p : ℕ) → (l -ℤ a.std.offset) <ℤ from → (l -ℤ a.dst.offset) <ℤ from → IsAskedFrom (Alternate a) from l p p
@@ -139,14 +132,10 @@ asked_for_window z l low _ n d p q valid w h later e = nowhere _ p q (λ u k.
 pub asked_at_time : (z : Zone) (u x : ℤ) (p q : ℕ) → (0 < length z.transitions → IsLeapTime z.leaps u x) → IsAskedAtLeapTime z x p q → IsAskedAt z u p q
 asked_at_time z u x p q h k = grind (linear, same_passed)
 
-some_or_none : (o : Option TransitionRule) → ((rule : TransitionRule) × (o ≡ Some rule)) ⊎ (o ≡ None)
-some_or_none (Some rule) = inl (rule, refl)
-some_or_none None = inr refl
-
 pub asked_without : (z : Zone) (u : ℤ) (p q : ℕ) → length z.transitions ≡ 0 → ((rule : TransitionRule) → z.rule ≡ Some rule → q ≡ p + 1)
     → (z.rule ≡ None → q ≡ p) → IsAskedAt z u p q
 asked_without z u p q e asked unasked =
-    asked_at_time z u u p q (λ h. absurd (omega arith)) (elim (some_or_none z.rule) [
-      | inl k ↦ inl (k.0, k.1, rw (no_items _ e), asked k.0 k.1)
-      | inr n ↦ inr (inl (n, unasked n))
-    ])
+    asked_at_time z u u p q (λ h. absurd (omega arith)) ((elim z.rule as (λ r. z.rule ≡ r → IsAskedAtLeapTime z u p q) [
+      | Some rule ↦ λ is. inl (rule, is, rw (no_items _ e), asked rule is)
+      | None ↦ λ n. inr (inl (n, unasked n))
+    ]) refl)

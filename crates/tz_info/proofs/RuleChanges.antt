@@ -4,7 +4,7 @@ use Rattle.std.specs.{Ordering.int_eq, Set.is_member}
 use Rattle.tz_info.proofs.{
   ChangeSearch.{decided, nearest_moved},
   KindLaws.kind_found,
-  Neighbours.{IsNear, ends_near, not_earlier, not_later, place, second_high, second_low, starts_near},
+  Neighbours.{IsNear, ends_near, in_year, not_earlier, not_later, place, starts_near},
   RuleLaws.{alternate_once, rule_time, rule_year},
   Words.{Alternate, AlternateAt, Bool, Change, Contains, DayTime, IsAlternateRule, IsChange, IsDstAt, IsEarlierOf, IsInSomeYear, IsLaterOf, IsNearest},
   Words.{IsOfYear, IsOneOf, IsRuleDay, IsRuleTime, IsRuleYear, IsYearOf, LocalType, Option, Precedes, arith, by_lt_z, days_at_least, end_in, false, floor_div},
@@ -39,11 +39,9 @@ start_again : (y k : ℤ) → year_start (y +ℤ pos 400 *ℤ k) ≡ year_start 
 unfolding year_start
 start_again y k = omega (arith, floors)
 
-weekday_again : (day k : ℤ) → weekday_of (day +ℤ pos 146_097 *ℤ k) ≡ weekday_of day
-weekday_again day k = grind arith
-
 kind_again : (y k : ℤ) → kind_place (y +ℤ pos 400 *ℤ k) ≡ kind_place y
-kind_again y k = grind (arith, leap_again, start_again, weekday_again)
+kind_again y k =
+    let weekday : weekday_of (year_start y +ℤ pos 146_097 *ℤ k) ≡ weekday_of (year_start y) = grind arith in grind (arith, leap_again, start_again)
 
 abbrev cycle : ℤ
 cycle = pos 12_622_780_800
@@ -133,7 +131,7 @@ change_near a year d rule is before = elim (decided _ (is_member int_eq (moments
     (is_member-Decides Decides-int_eq (moments_near a year) d.at)) [
       | inl found ↦ found
       | inr none ↦
-          let high = second_high _ _ before in
+          let (low, high) = in_year _ _ before in
           let below : d.at <ℤ new_year (year +ℤ pos 1) = by_lt_z d.at (new_year (year +ℤ pos 1)) (λ l. l) (λ m. absurd (none (6, omega arith, omega linear))) in
           let here : IsYearOf d.at year = omega (arith, floors) in
           let first = avoids _ year d.at (λ e. none (0, omega arith, e)) (λ e. none (2, omega arith, e)) (λ e. none (4, omega arith, e)) in
@@ -188,7 +186,7 @@ nearest_of_year w a year after last from until found rule later earlier =
     nearest_moved w _ _ _ _ _
     (λ d is k.
     let at = change_near a _ d rule is k.of_year in
-    let low = second_low _ _ k.of_year in let high = second_high _ _ k.of_year in
+    let (low, high) = in_year _ _ k.of_year in
     let l = (later (d.at -ℤ pos 1)).1 (omega linear, low) in (
       is,
       record {

@@ -2,7 +2,7 @@
 use Rattle.tz_info.proofs.{
   Words.{DayForm, IsDayOf, IsRuleDay, LiesIn, ap, arith, closed_day, closed_day_is, date_lies, day_number, days_at_least, days_at_most, days_in_year, floors},
   Words.{is_leap, julian_is, leap_at_most, months_all, months_step, number_after, pos, rule_day, starts_rise, sym, weekday_at, weekday_below, weekday_is},
-  Words.{weekday_place, year_start, year_step, ℕ, ℤ, ◌+ℤ◌, ◌+◌, ◌<ℤ◌, ◌<◌, ◌∙◌, ◌≡◌, ◌≤ℤ◌, ◌≤◌},
+  Words.{weekday_place, year_start, year_step, ℕ, ℤ, ◌+ℤ◌, ◌+◌, ◌<ℤ◌, ◌∙◌, ◌≡◌, ◌≤ℤ◌},
 }
 use Rattle.tz_info.specs.declared.rule.day.DayForm.TheVariants.{Julian0, Julian1, MonthWeekday}
 
@@ -34,17 +34,13 @@ weekday_lies year month week weekday fits =
     rw (number_after year month place) at (date_lies year month (place + 1) (weekday_is year month week weekday fits.0 fits.1 fits.2 fits.3 fits.4).date)
 
 -- the rule's day lies in its year, or is the day after it
-closed_within : (form : DayForm) (year : ℤ) → IsRuleDay form
-    → (year_start year ≤ℤ closed_day form year) × (closed_day form year ≤ℤ (year_start year +ℤ pos 365))
-unfolding closed_day
-closed_within (Julian1 n) year fits = grind (arith, leap_at_most, floors)
-closed_within (Julian0 n) year fits = omega (arith, floors)
-closed_within (MonthWeekday month week weekday) year fits =
-    let lies = weekday_lies year _ _ _ fits in
-    let next = year_step year in grind (arith, days_at_most, floors)
-
 pub day_within : (form : DayForm) (year : ℤ) → IsRuleDay form → (year_start year ≤ℤ rule_day form year) × (rule_day form year ≤ℤ (year_start year +ℤ pos 365))
-day_within _ _ fits = rw (rule_day_closed _ _ fits) (closed_within _ _ fits)
+unfolding closed_day
+day_within (Julian1 n) year fits = rw (rule_day_closed _ year fits) (grind (arith, leap_at_most, floors))
+day_within (Julian0 n) year fits = rw (rule_day_closed _ year fits) (omega (arith, floors))
+day_within (MonthWeekday month week weekday) year fits =
+    let lies = weekday_lies year _ _ _ fits in
+    let next = year_step year in rw (rule_day_closed _ year fits) (grind (arith, days_at_most, floors))
 
 -- a later year begins at least a year later
 later_start : (a b : ℤ) → a <ℤ b → (year_start a +ℤ pos (days_in_year a)) ≤ℤ year_start b
@@ -52,15 +48,13 @@ later_start a b h =
     let step = year_step a in grind (arith, starts_rise)
 
 -- the rule's day comes later in a later year
-closed_rises : (form : DayForm) (a b : ℤ) → IsRuleDay form → a <ℤ b → closed_day form a <ℤ closed_day form b
+pub day_rises : (form : DayForm) (a b : ℤ) → IsRuleDay form → a <ℤ b → rule_day form a <ℤ rule_day form b
 unfolding closed_day
-closed_rises (Julian1 n) a b fits h =
-    let next = later_start a b h in grind (arith, floors)
-closed_rises (Julian0 n) a b fits h = let next = later_start a b h in let least = days_at_least a in omega (arith, floors)
-closed_rises (MonthWeekday month week weekday) a b fits h =
+day_rises (Julian1 n) a b fits h =
+    let next = later_start a b h in rw (rule_day_closed _ a fits, rule_day_closed _ b fits) (grind (arith, floors))
+day_rises (Julian0 n) a b fits h =
+    let next = later_start a b h in let least = days_at_least a in rw (rule_day_closed _ a fits, rule_day_closed _ b fits) (omega (arith, floors))
+day_rises (MonthWeekday month week weekday) a b fits h =
     let next = later_start a b h in let step = year_step a in
     let here = weekday_lies a _ _ _ fits in let there = weekday_lies b _ _ _ fits in
-    omega (arith, floors)
-
-pub day_rises : (form : DayForm) (a b : ℤ) → IsRuleDay form → a <ℤ b → rule_day form a <ℤ rule_day form b
-day_rises _ a b fits h = grind (arith, rule_day_closed, closed_rises)
+    rw (rule_day_closed _ a fits, rule_day_closed _ b fits) (omega (arith, floors))

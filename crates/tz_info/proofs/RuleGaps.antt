@@ -15,14 +15,9 @@ use Rattle.tz_info.specs.declared.rule.transition_rule.TransitionRule.TheVariant
 
 -- ---- the moment between two seconds
 -- at v it is daylight saving time as `dst` says and at the earlier second u not, and so up to the moment
-record Turns (start end u v moment : ℤ) (dst : Bool) : Type 0 where
-  pub later : u <ℤ moment
-  pub most : moment ≤ℤ v
-  pub before : (w : ℤ) → u ≤ℤ w → w <ℤ moment → is_dst_by_one start end w ≡ not dst
-  pub here : is_dst_by_one start end moment ≡ dst
-
 turns : (start end u v : ℤ) (dst : Bool) → u <ℤ v → is_dst_by_one start end u ≡ not dst
-    → is_dst_by_one start end v ≡ not (not dst) → Turns start end u v (cond dst start end) dst
+    → is_dst_by_one start end v ≡ not (not dst) → let moment = cond dst start end in (u <ℤ moment) × (moment ≤ℤ v)
+    × ((w : ℤ) → u ≤ℤ w → w <ℤ moment → is_dst_by_one start end w ≡ not dst) × (is_dst_by_one start end moment ≡ dst)
 turns _ end u v dst h a b = grind linear
 
 -- ---- the types there
@@ -58,18 +53,17 @@ gap_at a s from l dst rule wide is h never =
     let at_u = other_at a s _ l dst h near_u never in let at_v = other_at a s _ l _ h near_v never in
     by_lt_z u v
     (λ less.
-    let t = turns _ _ u v dst less at_u at_v in
+    let (later, most, before, here) = turns _ _ u v dst less at_u at_v in
     let moment = cond dst s.turns.start s.turns.end in
-    let most = t.most in
     let near : (w : ℤ) → u ≤ℤ w → w ≤ℤ v → IsNear w = λ w h k. omega (linear, near_v) in
     let lesser : (w : ℤ) → u ≤ℤ w → w <ℤ moment → AlternateAt a w (type_when a (not dst)) =
-    λ w k m. at a s w _ h.season (near w k (omega linear)) (omega linear) (t.before w k m) in
+    λ w k m. at a s w _ h.season (near w k (omega linear)) (omega linear) (before w k m) in
     record {
       near = near _ (omega linear) most;
       near_before = near _ (omega linear) (omega linear);
       since = omega linear;
       before = lesser (moment -ℤ pos 1) (omega linear) (omega linear);
-      after = at a s _ dst h.season (near _ (omega linear) most) (omega linear) t.here;
+      after = at a s _ dst h.season (near _ (omega linear) most) (omega linear) here;
       more = omega linear;
       less = λ w f since_w k is. by_lt_z w u
           (λ b.
@@ -88,31 +82,18 @@ pub season_in : (z : Zone) (rule : TransitionRule) (from l : ℤ) (s : Option Se
 season_in z _ _ l None is start h = h
 season_in z rule from l (Some s) is start h = (from, start, rw is h)
 
--- a local time that a zone never shows, after the second from which its rule answers
-module _ (z : Zone) (a : AlternateRule) (l from : ℤ) (valid : IsValid z) (rule : z.rule ≡ Some (Alternate a))
-    (start : IsStart z.transitions z.leaps (length z.transitions) from) (never : IsNever z l) where
-  -- by the rule no near second shows the local time
-  never_from : IsNeverFrom a from l
-  never_from u t near since k shown =
-      never u t
-      (record { fits = omega linear; type = from_rule z a u t rule valid ((rule_begun z u _ valid near start).1 since) k; shown = shown })
-
-  -- the rule's gap is the zone's, if clocks show less before the rule begins
-  gap_by_rule : (low high : ℤ) (c : Change) → IsWindowOf z l l low high → IsTableLess z l → IsRuleGap a from l c → HasGap (TypeAt z) l c.before c.after c.at
-  gap_by_rule low _ c reach all g =
-      let since = g.since in
-      let count : table_count z ≡ length z.transitions = rw rule in
-      let by : (u : ℤ) (t : LocalType) → IsNear u → from ≤ℤ u → AlternateAt a u t → TypeAt z u t =
-      λ u t near h k. from_rule z a u t rule valid ((rule_begun z u _ valid near start).1 h) k in
-      let less : AreLess z l (c.at -ℤ pos 1) = λ u near before t k. by_lt_z u from
-      (λ h. let m = (not_begun z _ _ u valid start near).1 h in all u t near (omega arith) k)
-      (λ h. g.less u t h (omega linear) (to_rule z a u t rule valid ((rule_begun z u _ valid near start).1 h) k)) in
-      gap_found z l low _ _ _ _ never reach g.near less (by c.at c.after g.near (omega linear) g.after) g.more
-      (by (c.at -ℤ pos 1) c.before g.near_before since g.before)
-
--- so is that of a season of the zone
+-- the gap of a season is the zone's, if clocks show less before the rule begins, and the zone never shows the local time
 pub gap_by_season : (z : Zone) (a : AlternateRule) (l low high : ℤ) (s : Season) (c : Change) → IsValid z → z.rule ≡ Some (Alternate a) → IsSeasonIn z l s
     → IsNever z l → IsWindowOf z l l low high → IsTableLess z l
     → ((from : ℤ) → IsSeasonFor a from l s → IsNeverFrom a from l → IsRuleGap a from l c) → HasGap (TypeAt z) l c.before c.after c.at
 gap_by_season z a l low _ s c valid rule (from, start, season) never reach all made =
-    gap_by_rule z a l _ valid rule start never low _ c reach all (made from (rw rule at season) (never_from z a l _ valid rule start never))
+    let by : (u : ℤ) (t : LocalType) → IsNear u → from ≤ℤ u → AlternateAt a u t → TypeAt z u t =
+    λ u t near h k. from_rule z a u t rule valid ((rule_begun z u _ valid near start).1 h) k in
+    let g = made from (rw rule at season) (λ u t near h k shown. never u t (record { fits = omega linear; type = by u t near h k; shown = shown })) in
+    let since = g.since in
+    let count : table_count z ≡ length z.transitions = rw rule in
+    let less : AreLess z l (c.at -ℤ pos 1) = λ u near before t k. by_lt_z u from
+    (λ h. let m = (not_begun z _ _ u valid start near).1 h in all u t near (omega arith) k)
+    (λ h. g.less u t h (omega linear) (to_rule z a u t rule valid ((rule_begun z u _ valid near start).1 h) k)) in
+    gap_found z l low _ _ _ _ never reach g.near less (by c.at c.after g.near (omega linear) g.after) g.more
+    (by (c.at -ℤ pos 1) c.before g.near_before since g.before)

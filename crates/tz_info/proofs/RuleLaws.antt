@@ -1,7 +1,8 @@
 -- A rule has one type at a second, or is refused there, and never both.
 use Rattle.tz_info.proofs.{
   Neighbours.{dst_by_three, ends_near, starts_near},
-  Words.{Alternate as AlternateRule, AlternateAt, Bool, IsAlternateRefused, IsDstAt, IsRule, IsRuleRefused, IsRuleTime, IsRuleYear, IsYearOf, LiesIn},
+  Words.{Agrees, Alternate as AlternateRule, AlternateAt, Bool, IsAlternateRefused, IsDstAt, IsRule, IsRuleRefused, IsRuleTime, IsRuleYear, IsTrue},
+  Words.{IsUnixTime, IsUnixTimeRefused, IsYearOf, LeapSecond, LiesIn, List, Some, Transition, slice_get, ◌↔◌},
   Words.{LocalType, MatchOption, RuleAt, TransitionRule, arith, end_in, floor_div, floors, lies_in, linear, neg_ℤ, one_year, pos, refl, rule_type, start_in},
   Words.{starts_rise, type_when, year_of, year_start, ℤ, ◌+ℤ◌, ◌≡◌, ◌⊎◌},
 }
@@ -60,6 +61,22 @@ year_found u day year at_day at_year within = let lies = lies_in day in grind (l
 pub alternate_at : (a : AlternateRule) (u day year : ℤ) (dst : Bool) → day ≡ floor_div u 86_400 → LiesIn day year → IsRuleYear year
     → IsDstAt (start_in a) (end_in a) year u dst → AlternateAt a u (type_when a dst)
 alternate_at a u day year dst at_day lies inside when = grind arith
+
+-- ---- whether a rule agrees with the last transition
+pub differs_without_time : (types : List LocalType) (leaps : List LeapSecond) (rule : TransitionRule) (last : Transition)
+    → IsUnixTimeRefused leaps last.unix_leap_time → Agrees types leaps rule last → ⊥
+differs_without_time types leaps rule last out h = grind linear
+
+-- a rule, and what it must agree with
+module _ (types : List LocalType) (leaps : List LeapSecond) (rule : TransitionRule) (last : Transition) (u : ℤ)
+    (of_last : IsUnixTime leaps last.unix_leap_time u) where
+  -- whether the rule agrees is whether its type there and the listed one are the same
+  pub agrees_if_same : (s t : LocalType) (same : Bool) → RuleAt rule u s → slice_get types last.type_index ≡ Some t → IsTrue same ↔ (s ≡ t)
+      → IsTrue same ↔ Agrees types leaps rule last
+  agrees_if_same s t same of_rule listed e = grind (linear, rule_once)
+
+  pub differs_without_rule : IsRuleRefused rule u → Agrees types leaps rule last → ⊥
+  differs_without_rule refused h = grind (linear, rule_not_refused)
 
 -- at each second a rule has one type, or none
 pub ruleset rule_types = (rule_decided, rule_not_refused, rule_once, rule_time, rule_year)

@@ -45,17 +45,14 @@ module _ (a : Alternate) (begin t l : ℤ) (s : LocalType) (rule : IsAlternateRu
 
   -- the last change
   module _ (c : Change) (last : IsNearestChange false (AlternateAt a) (IsAhead false t) c) where
-    -- a second of the rule has the type before it or the type after it
-    before_or_after : (u : ℤ) (r : LocalType) → AlternateAt a u r → (r ≡ c.before) ⊎ (r ≡ c.after)
-    before_or_after u r there = grind (linear, two_types)
-
     -- since the change clocks show at most what they show at the second, and before it at most what they showed just before it
     at_most : (m u : ℤ) (r : LocalType) → u ≤ℤ t → Shows (RuleAt (AlternateRule a)) m u r → (m ≤ℤ (t +ℤ s.offset)) ⊎ (m ≤ℤ ((c.at -ℤ pos 1) +ℤ c.before.offset))
     at_most m u r come shows =
         let since : (v : ℤ) (x : LocalType) → c.at ≤ℤ v → v ≤ℤ t → AlternateAt a v x → x ≡ s = λ v x from until there.
         unchanged a rule v t x s (λ d change i. let k = last.nearest d change i.1 in let j = i.0 in omega (linear, from)) there here until in
+        let there : AlternateAt a u r = shows.type in let old_or_new : (r ≡ c.before) ⊎ (r ≡ c.after) = grind (linear, two_types) in
         by_lt_z u c.at
-        (λ earlier. elim (before_or_after u r shows.type) [
+        (λ earlier. elim old_or_new [
           | inl old ↦ inr (shows_less m u _ r _ shows old (omega (linear, earlier)))
           | inr new ↦ inl (shows_less m u t r s shows (new ∙ since _ c.after (omega linear) last.inside last.is.after) come)
         ])

@@ -76,13 +76,10 @@ pub digits-halved : (n : ℕ) → 0 < n → digits n ≡ digits (n / 2) + 1
 digits-halved zero h = omega arith
 digits-halved (suc n) h = grind (arith, digits-half)
 
-digits-four : digits 4 ≡ 3
-unfolding digits
-digits-four = refl
-
 -- a search among four items or more may take three looks
 pub digits-three : (n : ℕ) → 4 ≤ n → 3 ≤ digits n
-digits-three n h = grind (linear, digits-more, digits-four)
+unfolding digits
+digits-three n h = let four : digits 4 ≡ 3 = refl in let more = digits-more 4 n h in omega arith
 
 -- how many binary digits the number of items that are left has
 pub ruleset halving = (digits-halved, digits-three, digits-more, digits-less)

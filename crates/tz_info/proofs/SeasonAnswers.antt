@@ -3,7 +3,7 @@ use Rattle.offset_core.specs.declared.local_result.LocalResult.TheVariants.{None
 use Rattle.tz_info.proofs.{
   Candidates.{asked_both, asked_one, one_second, std_or_dst},
   Words.{Alternate as AlternateRule, Bool, IsAmidFrom, IsAskedLast, IsSeason, IsSeasonFor, IsWallAnswer, LocalResult, LocalType, Season},
-  Words.{Shows, TypeFrom, arith, int_le, int_lt, linear, not, true, type_when, ℤ, ◌-ℤ◌, ◌<ℤ◌, ◌≡◌, ◌≢◌, ◌≤ℤ◌, ◌⊎◌},
+  Words.{Shows, TypeFrom, arith, int_le, int_lt, linear, not, true, type_when, ℤ, ◌-ℤ◌, ◌<ℤ◌, ◌≡◌, ◌≢◌, ◌≤ℤ◌},
 }
 use Rattle.tz_info.specs.declared.rule.transition_rule.TransitionRule.TheVariants.{Alternate}
 
@@ -35,11 +35,6 @@ pub found_none : (a : AlternateRule) (from l : ℤ) → (l -ℤ a.std.offset) <�
 found_none a from l first last = grind (linear, std_or_dst)
 
 module _ (a : AlternateRule) (from l : ℤ) (dst : Bool) where
-  -- the second is that of the one type or of the other one
-  either : (u : ℤ) (t : LocalType) → Shows (TypeFrom (Alternate a) from) l u t
-      → (u ≡ l -ℤ (type_when a dst).offset) ⊎ (u ≡ l -ℤ (type_when a (not dst)).offset)
-  either u t s = let o = std_or_dst a t from l u s in grind linear
-
   pub found_one : (one : LocalResult LocalType) → a.std.offset ≡ a.dst.offset
       → IsAskedLast (TypeFrom (Alternate a) from) l (type_when a dst).offset None one → IsWallAnswer (Shows (TypeFrom (Alternate a) from) l) one
   found_one one same asked = asked_one _ l _ _ (λ u t s. let e = one_second a from l same u t s in grind arith) asked
@@ -47,4 +42,4 @@ module _ (a : AlternateRule) (from l : ℤ) (dst : Bool) where
   pub found_both : (one both : LocalResult LocalType) → dst ≡ int_lt a.std.offset a.dst.offset → a.std.offset ≢ a.dst.offset
       → IsAskedLast (TypeFrom (Alternate a) from) l (type_when a dst).offset None one
       → IsAskedLast (TypeFrom (Alternate a) from) l (type_when a (not dst)).offset one both → IsWallAnswer (Shows (TypeFrom (Alternate a) from) l) both
-  found_both _ _ is other first last = asked_both _ l _ _ _ _ (grind arith) either first last
+  found_both _ _ is other first last = asked_both _ l _ _ _ _ (grind arith) (λ u t s. let o = std_or_dst a t from l u s in grind linear) first last

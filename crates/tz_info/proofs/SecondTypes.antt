@@ -13,9 +13,6 @@ use Rattle.tz_info.proofs.{
 second_true : (u : ℤ) → SFits w64 u → is_second u ≡ true
 second_true u fits = grind arith
 
-second_false : (u : ℤ) → (SFits w64 u → ⊥) → is_second u ≡ false
-second_false u out = grind arith
-
 all_true : (cs : List ℤ) (u : ℤ) (n : ℕ) → ((k : ℕ) → k < n → SFits w64 (u +ℤ get_or cs k (pos 0))) → all_fit cs u n ≡ true
 all_true cs u zero h = refl
 all_true cs u (suc n) h = rw (second_true _ (h n (omega arith)), all_true cs u n (grind arith))
@@ -27,20 +24,17 @@ all_false cs u (suc n) k l out = elim (fits_or_not (u +ℤ get_or cs n (pos 0)))
     | inl below ↦ all_false cs u n k below out
     | inr above ↦ grind linear
   ])
-  | inr none ↦ rw (second_false _ none)
+  | inr none ↦ let off : is_second (u +ℤ get_or cs n (pos 0)) ≡ false = grind arith in rw off
 ]
 
 -- ---- a zone's type, or why it has none
-itself : (P : Type 0) (o : Option LocalType) (t : LocalType) → o ≡ Some t → MatchOption o P (λ s. o ≡ Some s)
-itself P o t h = grind linear
-
 moved : (P R : Type 0) (Q S : LocalType → Type 0) (o : Option LocalType) → (P → R) → ((t : LocalType) → Q t → S t) → MatchOption o P Q → MatchOption o R S
 moved P R Q S o h k l = grind linear
 
 or_told : (rule : Option TransitionRule) (z : Zone) (u : ℤ) (i : ℕ) → i < length z.types → IsRuleOrNone rule
     → MatchOption (rule_type_or rule u (slice_get z.types i)) (IsRefusedBy rule u) (λ t. RuleOrElse rule u (HasType z i t) t)
 or_told (Some rule) z u i h limits = rule_told _ u limits
-or_told None z u i h limits = let t = inside_listed _ i h in itself ⊥ _ t.0 t.1
+or_told None z u i h limits = let t = inside_listed _ i h in rw t.1 refl
 
 -- `types` gives the type of each second, or none
 abbrev pub AreTypes : InForce → (ℤ → Option LocalType) → Type 0

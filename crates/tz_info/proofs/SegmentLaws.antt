@@ -2,7 +2,7 @@
 use Rattle.tz_info.proofs.{
   LeapOrder.leap_sums_rise,
   PassedTransitions.no_items,
-  Prefixes.last_taken,
+  Prefixes.{any, last_taken},
   TableSearch.{Between, search_found},
   Words.{AreLeapSeconds, AreRising, HasType, IsLeapTime, IsValid, List, LocalType, RuleOrType, Transition, TypeIn, Zone, [], ap, arith, begin_of},
   Words.{by_lt_z, correction_at, get_or, index_of, least_time, length, length-take, linear, passed, pos, refl, segment_of, suc, sym, take, zero, ℕ},
@@ -43,9 +43,6 @@ segment_here z u r = segment_at z u _ r refl
 pub segment_most : (z : Zone) (u : ℤ) → AreRising z.transitions → segment_of z u ≤ length z.transitions
 segment_most z u r = (segment_here z u r).within
 
-any : Transition
-any = record { unix_leap_time = least_time; type_index = 0 }
-
 -- a greater number splits them later
 splits_rise : (ts : List Transition) (x y : ℤ) (m n : ℕ) → x ≤ℤ y → Between ts x m m → Between ts y n n → m ≤ n
 splits_rise ts x y m n h a b = grind (linear, b.above n any)
@@ -68,17 +65,14 @@ begin_next ts i d h = grind (arith, begin_suc)
 pub index_next : (ts : List Transition) (i : ℕ) (d : Transition) → i < length ts → index_of ts (i + 1) ≡ (get_or ts i d).type_index
 index_next ts i d h = grind (arith, last_taken)
 
-begun_before : (ts : List Transition) (x : ℤ) (i : ℕ) → least_time ≤ℤ x → Between ts x i i → begin_of ts i ≤ℤ x
-begun_before ts x zero h b = grind linear
-begun_before ts x (suc i) h b = grind (linear, begin_suc ts i any)
-
 -- a leap time is in segment i if it comes from the segment's begin on, and before the next transition
 pub record IsWithin (ts : List Transition) (i : ℕ) (x : ℤ) : Type 0 where
   pub since : begin_of ts i ≤ℤ x
   pub until : (d : Transition) → i < length ts → x <ℤ (get_or ts i d).unix_leap_time
 
 pub within_of : (ts : List Transition) (i : ℕ) (x : ℤ) → least_time ≤ℤ x → Between ts x i i → IsWithin ts i x
-within_of ts i x h b = grind (linear, begun_before)
+within_of ts zero x h b = grind linear
+within_of ts (suc i) x h b = grind (linear, begin_suc ts i any)
 
 come_by : (ts : List Transition) (x : ℤ) (i : ℕ) → AreRising ts → i ≤ length ts → begin_of ts i ≤ℤ x → (k : ℕ) (d : Transition) → k < i
     → (get_or ts k d).unix_leap_time ≤ℤ x

@@ -3,7 +3,7 @@ use Rattle.std.specs.Prelude.{if◌then◌else◌}
 use Rattle.tz_info.proofs.{
   ExtremeLaws.{at_least_least, at_most_greatest},
   Words.{AreEndsWithin, AreShownWithin, AreWithin, Bool, HaveOneTypeFrom, IsEndWithin, IsFirstAtOrAfter, IsGreatest, IsLeast, IsNeverWithin, IsNextRun},
-  Words.{IsWindowOf, IsWithinRun, LocalType, None, Option, Precedes, SFits, ShownSeconds, ShowsWithin, Some, TypeAt, Zone, arith, linear, offsets, pos, refl},
+  Words.{IsWindowOf, IsWithinRun, LocalType, Option, Precedes, SFits, ShownSeconds, ShowsWithin, TypeAt, Zone, arith, linear, offsets, pos},
   Words.{subst, unsigned_abs, w64, ℤ, ◌+ℤ◌, ◌-ℤ◌, ◌<ℤ◌, ◌<◌, ◌≡◌, ◌≤ℤ◌},
   ZoneLaws.type_once,
 }
@@ -50,19 +50,12 @@ one_end z u v s t here there h k = let same : u ≡ v = omega linear in (same, t
 
 pub one_answer : (z : Zone) (from until : ℤ) (a b : Option ShownSeconds) → AreShownWithin (TypeAt z) from until a
     → AreShownWithin (TypeAt z) from until b → a ≡ b
-one_answer z _ _ None None h k = refl
-one_answer z from until None (Some b) h k = grind linear
-one_answer z from until (Some a) None h k = grind linear
-one_answer z from until (Some a) (Some b) h k =
-    grind (arith, one_end)
+one_answer z from until a b h k = grind (arith, one_end)
 
 -- ---- if one type is in force near the stretch
-abbrev pub IsAllOf : Zone → ℤ → ℤ → LocalType → Type 0
-IsAllOf z low high t = (u : ℤ) → low ≤ℤ u → u <ℤ high → TypeAt z u t
-
 pub ordinary : (z : Zone) (from until greatest least : ℤ) (t : LocalType) (s : ShownSeconds) → SFits w64 (from -ℤ t.offset)
     → SFits w64 ((until -ℤ t.offset) -ℤ pos 1) → IsGreatest (offsets z.types z.rule) greatest → IsLeast (offsets z.types z.rule) least
-    → IsAllOf z (from -ℤ greatest) (until -ℤ least) t → AreEndsWithin (TypeAt z) from until s
+    → HaveOneTypeFrom (TypeAt z) (from -ℤ greatest) (until -ℤ least) t → AreEndsWithin (TypeAt z) from until s
     → (s.first.at ≡ from -ℤ t.offset) × ((s.last.at +ℤ pos 1) ≡ until -ℤ t.offset)
 ordinary z from until _ _ t s fits fits_last g l all h =
     let first = by_type _ _ h.first.shown in

@@ -9,13 +9,13 @@ use Rattle.tz_info.proofs.{
   SegmentLaws.{come_at_time, come_by_time, segment_most, segments_rise},
   Words.{Alternate as AlternateRule, AreLeapSeconds, Change, HasNoChange, IfSome, IsAlternateRefused, IsBeginBy, IsChange, IsEndBy, IsFirst, IsFromLast},
   Words.{IsInSpan, IsLast, IsLeapTime, IsOutOfForce, IsRefusedBy, IsRuleOrNone, IsRuleTime, IsSince, IsSpan, IsSpanAt, IsTypeRefused, IsTyped, IsUnixTime},
-  Words.{IsUntil, IsValid, LeapSecond, List, LocalType, None, Option, SFits, Some, Span, Transition, TransitionRule, TypeAt, Zone, ap, arith, by_leap_time},
-  Words.{by_lt_z, by_rule, cases_lt, correction_before, floor_div, inl, inr, last_transition, length, lies_in, linear, neg_ℤ, option_map, pos, refl},
+  Words.{IsUntil, IsValid, LeapSecond, List, LocalType, None, Option, SFits, Some, Span, TransitionRule, TypeAt, Zone, ap, arith, by_leap_time},
+  Words.{by_lt_z, by_rule, cases_lt, correction_before, floor_div, inl, inr, length, lies_in, linear, neg_ℤ, option_map, pos, refl},
   Words.{segment_of, sym, w64, ℤ, ◌-ℤ◌, ◌-◌, ◌<ℤ◌, ◌<◌, ◌∙◌, ◌≡◌, ◌≤ℤ◌, ◌⊎◌},
   ZoneChanges.{out_before, out_from, refused_on, time_of, to_rule},
   ZoneLaws.{inside_listed, type_decided, type_once},
 }
-use Rattle.tz_info.specs.declared.rule.transition_rule.TransitionRule.TheVariants.{Alternate, Fixed}
+use Rattle.tz_info.specs.declared.rule.transition_rule.TransitionRule.TheVariants.{Alternate}
 
 -- ---- between two seconds that have a type each has one
 -- before 1970 no entry has come
@@ -29,15 +29,12 @@ early_unix es x u valid h is =
     (grind linear) in
     omega linear
 
-last_of : (ts : List Transition) → 0 < length ts → (t : Transition) × (last_transition ts ≡ Some t)
-last_of ts h = inside_listed ts _ (omega arith)
-
 -- a second after all transitions of a zone with a rule
 module _ (z : Zone) (a : AlternateRule) (v : ℤ) (valid : IsValid z) (rule : z.rule ≡ Some (Alternate a)) (all : segment_of z v ≡ length z.transitions) where
   -- before the years of a rule of two types its zone's last transition has not come
   not_before : (y : ℤ) → 0 < length z.transitions → IsLeapTime z.leaps v y → v <ℤ neg_ℤ (pos 67_768_100_504_812_800) → ⊥
   not_before y some l h =
-      let last = last_of _ some in
+      let last = inside_listed z.transitions (length z.transitions - 1) (omega arith) in
       let agrees = rw (rule, last.1) at valid.agrees in
       let within : IsRuleTime agrees.unix_time = rule_second a _ _ agrees.of_rule in
       let count = come_at_time z v y l in
@@ -78,14 +75,13 @@ all_come z v x _ l last = grind (arith, come_at_time, segment_most)
 module _ (z : Zone) (a b v : ℤ) (s t : LocalType) (valid : IsValid z) (low : a ≤ℤ v) (high : v ≤ℤ b) (h : TypeAt z a s) (k : TypeAt z b t) where
   rule_between : (rule : Option TransitionRule) (x : ℤ) → z.rule ≡ rule → (0 < length z.transitions → IsLeapTime z.leaps v x) → IsFromLast z x
       → IsRefusedBy rule v → ⊥
-  rule_between None x is l last refused = refused
-  rule_between (Some (Fixed f)) x is l last refused = refused
   rule_between (Some (Alternate r)) x is l last refused =
       let all = all_come z v x valid l last in
       elim (out_of_years v refused) [
         | inl early ↦ not_before_second z r v valid is all a x s l low h early
         | inr late ↦ not_after_second z r v valid is all b t high k late
       ]
+  rule_between _ x is l last refused = refused
 
   pub typed_between : IsRuleOrNone z.rule → Typed (TypeAt z) v
   typed_between limits = elim (type_decided z v valid limits) [
@@ -142,8 +138,8 @@ module _ (z : Zone) (u : ℤ) (t : LocalType) (valid : IsValid z) (limits : IsRu
   high_of None None next k = grind linear
   high_of None (Some x) next k = record {
     high = x -ℤ pos 1;
-    typed = k.typed;
-    before = by_lt_z u x (λ l. l) (λ m. absurd (k.after (typed_between z _ u x _ t valid (omega linear) m k.typed.1 h limits)));
+    typed = k.1;
+    before = by_lt_z u x (λ l. l) (λ m. absurd (k.2 (typed_between z _ u x _ t valid (omega linear) m k.1.1 h limits)));
     earlier = grind linear;
     ends = grind linear;
   }
@@ -187,21 +183,10 @@ no_change_within z s d h i j is =
     is.differ (type_once z _ _ _ is.before (grind linear)
     ∙ type_once z _ _ _ (h.each d.at j) is.after)
 
--- two spans of one type, with a second in each
-module _ (z : Zone) (a b : Span) (u x : ℤ) (same : a.local_time_type ≡ b.local_time_type) (h : IsSpan (TypeAt z) a) (k : IsSpan (TypeAt z) b)
-    (i : IsInSpan a u) (j : IsInSpan b u) where
-  -- an end of one of two spans that share a second, and have one type, lies outside the other
-  begin_outside : a.from ≡ Some x → IsSince b.from (x -ℤ pos 1) → ⊥
-  begin_outside is since = grind linear
-
-  end_outside : a.until ≡ Some x → IsUntil b.until x → ⊥
-  end_outside is until = grind linear
-
 same_begin : (p q : Option ℤ) → ((x : ℤ) → p ≡ Some x → IsSince q (x -ℤ pos 1) → ⊥) → ((x : ℤ) → q ≡ Some x → IsSince p (x -ℤ pos 1) → ⊥) → p ≡ q
 same_begin None q h k = grind linear
 same_begin (Some x) None h k = grind linear
-same_begin (Some x) (Some y) h k = ap Some (by_lt_z y x (λ l. absurd (h x refl (omega linear)))
-    (λ m. by_lt_z x y (λ l. absurd (k y refl (omega linear))) (grind linear)))
+same_begin (Some x) (Some y) h k = let a = h x refl in let b = k y refl in grind linear
 
 same_end : (p q : Option ℤ) → ((x : ℤ) → p ≡ Some x → IsUntil q x → ⊥) → ((x : ℤ) → q ≡ Some x → IsUntil p x → ⊥) → p ≡ q
 same_end None q h k = grind linear
@@ -211,8 +196,8 @@ same_end (Some x) (Some y) h k = ap Some (by_lt_z x y (grind linear) (λ m. by_l
 pub span_once : (z : Zone) (a b : Span) (u : ℤ) → IsSpan (TypeAt z) a → IsSpan (TypeAt z) b → IsInSpan a u → IsInSpan b u → a ≡ b
 span_once z a b u h k i j =
     let same = type_once z u _ _ (h.each u i) (k.each u j) in
-    let from = same_begin _ _ (λ x. begin_outside z a b u x same h k i j) (grind (linear, begin_outside)) in
-    grind (linear, same_end, end_outside)
+    let from = same_begin a.from b.from (λ x is since. grind linear) (λ x is since. grind linear) in
+    let until = same_end a.until b.until (λ x is until. grind linear) (λ x is until. grind linear) in grind linear
 
 -- ---- at an end of a span clocks change, if the zone has a type beyond it
 pub begin_changes : (z : Zone) (s : Span) (u : ℤ) (t : LocalType) → IsSpan (TypeAt z) s → s.from ≡ Some u → TypeAt z (u -ℤ pos 1) t

@@ -15,12 +15,7 @@ use Rattle.tz_info.proofs.{
   Words.{◌-ℤ◌, ◌<ℤ◌, ◌<◌, ◌↔◌, ◌∙◌, ◌≡◌, ◌≤ℤ◌, ◌≤◌},
   ZoneChanges.time_of,
 }
-use Rattle.tz_info.specs.{
-  Counts.RoseByPieces,
-  Looks.RoseByWallClock,
-  Steps.Entries.{AreEntries, Entries, as_listed, most_looks},
-  declared.zone.made.shown.Shown.TheVariants.{Less, Once, Skipped},
-}
+use Rattle.tz_info.specs.{Steps.Entries.{AreEntries, Entries, as_listed}, declared.zone.made.shown.Shown.TheVariants.{Less, Once, Skipped}}
 
 -- ---- the table's seconds
 index_of_none : (k : ℕ) → index_of [] k ≡ 0

@@ -1,6 +1,7 @@
 -- The end of a search in transitions whose times rise.
 use Rattle.tz_info.proofs.{
-  Words.{AreOrdered, AreRising, List, Stands, Transition, arith, filter_first, get_or, get_or_default, length, linear, map, passed, pos, take},
+  Prefixes.any,
+  Words.{AreOrdered, AreRising, List, Stands, Transition, arith, filter_first, get_or, get_or_default, length, linear, map, passed, take},
   Words.{times_ordered, ℕ, ℤ, ◌+◌, ◌-◌, ◌<ℤ◌, ◌<◌, ◌≡◌, ◌≤ℤ◌, ◌≤◌},
 }
 use Rattle.tz_info.specs.Steps.Entries.{entry_time}
@@ -20,9 +21,7 @@ search_found xs v low high h b = grind (arith, filter_first)
 
 -- transitions whose times rise come in order
 pub in_order : (xs : List Transition) → AreRising xs → AreOrdered (map (λ (t : Transition). t.unix_leap_time) xs)
-in_order xs rising = times_ordered (λ (t : Transition). t.unix_leap_time) xs none (λ i j h l. let r = rising i j none h l in omega linear) where
-  none : Transition
-  none = record { unix_leap_time = pos 0; type_index = 0 }
+in_order xs rising = times_ordered (λ (t : Transition). t.unix_leap_time) xs any (λ i j h l. let r = rising i j any h l in omega linear)
 
 -- the transitions up to that place are valid, so their times rise
 pub record StandUntil (types : ℕ) (xs : List Transition) (n : ℕ) : Type 0 where

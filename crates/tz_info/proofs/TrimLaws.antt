@@ -1,11 +1,11 @@
 -- White space at both ends of bytes.
-use Rattle.std.proofs.lemmas.{Bool.{cases_Bool}}
+use Rattle.std.proofs.lemmas.{Bool.{cases_Bool}, List.{Folds.list_all_at, get_or_past}}
 use Rattle.std.specs.List.{prefix_len}
-use Rattle.tz_base.proofs.ForCallers.{run_splits}
-use Rattle.tz_base.specs.Fronts.{AllOf, run_of}
+use Rattle.tz_base.proofs.{ForCallers.run_splits, RunLaws.all_of}
+use Rattle.tz_base.specs.{Fronts.{AllOf, run_of}, Steps.TextTests.{all_decided}}
 use Rattle.tz_info.proofs.{
   Words.{IsAsciiWhitespaceBelow, IsAsciiWhitespaceFrom, IsTrimAscii, IsTrimAsciiStart, List, [], after_run, ap, append-nil, arith, drop, false, inl, inr},
-  Words.{is_ascii_whitespace, length, length-append, length-take, list_all, refl, slice_index, suc, sym, take, trimmed, true, without_end, zero, ℕ, ◌++◌},
+  Words.{is_ascii_whitespace, length, length-append, length-take, list_all, refl, slice_index, suc, take, trimmed, true, without_end, zero, ℕ, ◌++◌},
   Words.{◌+◌, ◌-◌, ◌<◌, ◌∙◌, ◌∷◌, ◌≡◌, ◌≤◌},
 }
 
@@ -18,10 +18,6 @@ HasNoSpace [] = Unit {0}
 HasNoSpace (b ∷ bs) = (is_ascii_whitespace b ≡ false) × HasNoSpace bs
 
 -- ---- what is trimmed
-all_space : (bytes : List ℕ) → list_all is_ascii_whitespace bytes ≡ true → IsSpace bytes
-all_space [] e = tt
-all_space (b ∷ bs) e = grind (arith, all_space bs)
-
 space_all : (bytes : List ℕ) → IsSpace bytes → list_all is_ascii_whitespace bytes ≡ true
 space_all [] h = refl
 space_all (b ∷ bs) h = rw (h.0, space_all bs h.1) refl
@@ -29,7 +25,7 @@ space_all (b ∷ bs) h = rw (h.0, space_all bs h.1) refl
 end_takes : (bytes : List ℕ) → (after : List ℕ) × (bytes ≡ without_end bytes ++ after) × IsSpace after
 end_takes [] = ([], refl, tt)
 end_takes (b ∷ bs) = elim (cases_Bool (list_all is_ascii_whitespace (b ∷ bs))) [
-  | inl e ↦ rw e (b ∷ bs, refl, all_space (b ∷ bs) e)
+  | inl e ↦ rw e (b ∷ bs, refl, all_of is_ascii_whitespace (b ∷ bs) ((all_decided is_ascii_whitespace (b ∷ bs)).0 e))
   | inr e ↦ let r = end_takes bs in rw e (r.0, ap (λ s. b ∷ s) r.1, r.2)
 ]
 
@@ -66,30 +62,16 @@ front_drop zero (b ∷ bs) l w e = rw (e (omega arith))
 front_drop (suc n) [] l w e = absurd (omega arith)
 front_drop (suc n) (b ∷ bs) l w e = rw (w 0 (omega arith)) (front_drop n bs (omega arith) (λ i h. w (suc i) (omega arith)) (λ h. e (omega arith)))
 
-all_from : (s : List ℕ) → IsAsciiWhitespaceFrom s 0 → list_all is_ascii_whitespace s ≡ true
-all_from [] w = refl
-all_from (b ∷ bs) w = rw (w 0 (omega arith) (omega arith), all_from bs (λ i h k. w (suc i) (omega arith) (omega arith))) refl
-
-not_all : (s : List ℕ) (n : ℕ) → n < length s → is_ascii_whitespace (slice_index s n) ≡ false → list_all is_ascii_whitespace s ≡ false
-not_all [] n l e = absurd (omega arith)
-not_all (b ∷ bs) zero l e = rw e refl
-not_all (b ∷ bs) (suc n) l e = let h = not_all bs n (omega arith) e in grind arith
-
 back_take : (n : ℕ) (s : List ℕ) → n ≤ length s → IsAsciiWhitespaceFrom s n
     → ((m : ℕ) → n ≡ suc m → is_ascii_whitespace (slice_index s m) ≡ false) → take n s ≡ without_end s
 back_take zero [] l w e = refl
-back_take zero (b ∷ bs) l w e = rw (all_from (b ∷ bs) w) refl
+back_take zero (b ∷ bs) l w e = rw ((all_decided is_ascii_whitespace (b ∷ bs)).1 (λ i h. w i (omega arith) h)) refl
 back_take (suc n) [] l w e = absurd (omega arith)
-back_take (suc n) (b ∷ bs) l w e = rw (not_all (b ∷ bs) n (omega arith) (e n refl))
+back_take (suc n) (b ∷ bs) l w e = rw (list_all_at is_ascii_whitespace (b ∷ bs) n 0 (omega arith) (e n refl))
     (ap (λ s. b ∷ s) (back_take n bs (omega arith) (λ i h k. w (suc i) (omega arith) (omega arith)) (λ m h. e (suc m) (omega arith))))
 
--- no white space follows the end
-after_end : (s : List ℕ) → slice_index s (length s) ≡ 0
-after_end [] = refl
-after_end (_ ∷ bs) = after_end bs
-
 within : (m : ℕ) (s : List ℕ) → IsAsciiWhitespaceBelow s m → m ≤ length s
-within m s below = let b = after_end s in grind arith
+within m s below = let b = get_or_past s (length s) 0 (omega arith) in grind arith
 
 pub trimmed_is : (s r : List ℕ) → IsTrimAscii s r → r ≡ trimmed s
 unfolding trimmed

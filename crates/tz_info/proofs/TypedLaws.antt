@@ -8,12 +8,12 @@ use Rattle.tz_info.proofs.{
   SpanLaws.{all_come, out_of_years},
   Words.{Alternate as AlternateRule, AreLeapSeconds, IsBegin, IsFirstTyped, IsFromLast, IsLastTimed, IsLastTyped, IsLeapTime, IsLeapTimeRefused, IsRefusedBy},
   Words.{IsRuleOrNone, IsTyped, SFits, by_lt_z, cases_lt, ints, segment_of, w64},
-  Words.{IsTypeRefused, IsValid, LeapSecond, List, None, Option, Some, TransitionRule, Zone, arith, by_leap_time, by_rule, inl, inr, least_time, length},
+  Words.{IsTypeRefused, IsValid, LeapSecond, List, Option, Some, TransitionRule, Zone, arith, by_leap_time, by_rule, inl, inr, least_time, length},
   Words.{linear, neg_ℤ, pos, refl, ℤ, ◌-ℤ◌, ◌<ℤ◌, ◌<◌, ◌≡◌, ◌≤ℤ◌},
   ZoneChanges.{refused_on, time_of, to_rule},
   ZoneLaws.{type_decided},
 }
-use Rattle.tz_info.specs.{Steps.Starts.IsLastWithLeapTime, declared.rule.transition_rule.TransitionRule.TheVariants.{Alternate, Fixed}}
+use Rattle.tz_info.specs.{Steps.Starts.IsLastWithLeapTime, declared.rule.transition_rule.TransitionRule.TheVariants.{Alternate}}
 
 -- before 1970 each second has a leap time
 early_time : (es : List LeapSecond) (u : ℤ) → AreLeapSeconds es → u <ℤ pos 0 → IsLeapTimeRefused es u → ⊥
@@ -35,8 +35,6 @@ module _ (z : Zone) (valid : IsValid z) (limits : IsRuleOrNone z.rule) where
   -- if the first second of 64 bits has no type, the first one that has is that of the rule's years
   first_by : (rule : Option TransitionRule) (x : ℤ) → z.rule ≡ rule → (0 < length z.transitions → IsLeapTime z.leaps least_time x) → IsFromLast z x
       → IsRefusedBy rule least_time → IsFirstTyped z (neg_ℤ (pos 67_768_100_504_812_800))
-  first_by None _ _ _ _ refused = absurd refused
-  first_by (Some (Fixed _)) _ _ _ _ refused = absurd refused
   first_by (Some (Alternate a)) x is l last refused = record {
     fits = omega arith;
     typed = elim (type_decided z (neg_ℤ (pos 67_768_100_504_812_800)) valid limits) [ inl typed ↦ typed | inr refused ↦ absurd (in_years refused) ];
@@ -52,6 +50,7 @@ module _ (z : Zone) (valid : IsValid z) (limits : IsRuleOrNone z.rule) where
     in_years (by_leap_time some r) = early_time z.leaps _ valid.leaps (omega arith) r
     in_years (by_rule y m n r) =
         elim (out_of_years (neg_ℤ (pos 67_768_100_504_812_800)) (rw is at r)) [ inl early ↦ omega arith | inr late ↦ omega arith ]
+  first_by _ _ _ _ _ refused = absurd refused
 
   pub first_typed : IsTypeRefused z least_time → IsFirstTyped z (neg_ℤ (pos 67_768_100_504_812_800))
   first_typed (by_leap_time some refused) = absurd (early_time _ _ valid.leaps (omega arith) refused)

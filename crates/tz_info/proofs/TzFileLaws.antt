@@ -4,8 +4,8 @@ use Rattle.tz_info.proofs.{
   FilePieceLaws.{file_ends, has_pieces},
   ListFaults.{has_list_fault, list_fault_low, list_fault_once, list_fault_or_valid},
   ListLaws.each_keeps,
-  Words.{Bool, Err, Error, FilePieces, HasPieces, IfErr, IfOk, In_file, IsErrAnd, IsFaultAt, IsFileFault, IsOutOfMemory, IsTzFile, IsValid, IsZoneFault, List},
-  Words.{ListFault, MatchResult, No_memory, Not_spelled, Not_valid, Ok, Option, Result, Spells, TimeZone, TransitionRule, Zone, [], ap, apart, arith, drop},
+  Words.{Err, Error, FilePieces, HasPieces, IfErr, IfOk, In_file, IsErrAnd, IsFaultAt, IsFileFault, IsOutOfMemory, IsTzFile, IsValid, IsZoneFault, List},
+  Words.{ListFault, MatchResult, No_memory, Not_spelled, Not_valid, Ok, Result, Spells, TimeZone, Zone, [], ap, apart, arith, drop},
   Words.{either, error_number, fault_low as low, fault_once as one_fault, file, inl, inr, lawful, length-take, linear, read, refl, sym, take, take-append-drop},
   Words.{value_once, ℕ, ◌∙◌, ◌≡◌, ◌≤◌, ◌⊎◌},
 }
@@ -19,20 +19,12 @@ use Rattle.tz_info.specs.{
 }
 
 -- ---- what pieces say takes no bytes
-footer_keeps : (extended : Bool) (footer : Option (List ℕ)) (bytes : List ℕ) (r : Option TransitionRule) (rest : List ℕ)
-    → Spells (optional_footer extended footer) bytes r rest → bytes ≡ rest
-unfolding optional_footer
-footer_keeps extended footer bytes r rest h = grind linear
-
-contents_keep : (p : FilePieces) (bytes : List ℕ) (z : Zone) (rest : List ℕ) → Spells (contents p) bytes z rest → bytes ≡ rest
-unfolding contents indicators type_at pair_at
-contents_keep p bytes z rest (types, a, h, (_, b, (_, c, i, (_, d)), (r, e, k, (_, same)))) =
-    each_keeps (type_at p) (λ k bytes x rest h. h.2) _ bytes types a h ∙ each_keeps (pair_at p) (λ k bytes x rest h. h.2) _ a _ c i ∙ d
-    ∙ footer_keeps p.extended p.footer b r e k ∙ same
-
 zone_ends : (bytes : List ℕ) (z : Zone) (rest : List ℕ) → Spells tz_file bytes z rest → rest ≡ []
-unfolding tz_file
-zone_ends bytes z rest (p, after, h, k) = sym (contents_keep p after z rest k) ∙ (file_ends bytes p after h).5
+unfolding tz_file contents indicators type_at pair_at optional_footer
+zone_ends bytes z rest (p, after, h, (types, a, t, (_, b, (_, c, i, (_, d)), (r, e, k, (_, same))))) =
+    let ends : b ≡ e = grind linear in
+    sym (each_keeps (type_at p) (λ k bytes x rest h. h.2) _ after types a t ∙ each_keeps (pair_at p) (λ k bytes x rest h. h.2) _ a _ c i ∙ d
+    ∙ ends ∙ same) ∙ (file_ends bytes p after h).5
 
 -- no bytes spell two zones, or have two pieces
 pub one_zone : (bytes : List ℕ) (y z : Zone) → IsTzFile bytes y → IsTzFile bytes z → y ≡ z

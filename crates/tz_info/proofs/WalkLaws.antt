@@ -6,7 +6,7 @@ use Rattle.tz_info.proofs.{
   ExtremeLaws.{at_least_least, at_most_greatest},
   SegmentLaws.{between_of, later_segment, segment_at, segment_here, segment_is, segments_rise, type_from, within_of},
   TableSearch.Between,
-  WallSegments.{leap_time_of, near_of, offset_in_table, rule_begun, type_of_table},
+  WallSegments.{leap_time_of, near_of, rule_begun, type_in_table, type_of_table},
   Words.{AreUtOffsets, Bool, Counts, IsNear, IsShownIn, IsStart, IsTried, IsValid, IsWallAnswer, IsWide, IsWindow, List, LocalResult, LocalType, None, Option},
   Words.{RoseByWalk, RoseWithin, RuleAt, Shows, Some, Transition, TransitionRule, TypeAt, TypeFrom, Zone, [], arith, begin_of, cases_lt, come_between, digits},
   Words.{digits-le, filter, get_or, get_or_default, index_of, inl, inr, length, linear, reads_more, segment_of, suc, sym, table_count, true, zero, ℕ, ℤ},
@@ -17,16 +17,12 @@ use Rattle.tz_info.proofs.{
 pub ruleset room = digits-le
 
 -- ---- one segment more
--- the next transition comes at `until`, or there is no next one
-abbrev pub IsNextAt : Zone → ℕ → Option ℤ → Type 0
-IsNextAt z i until = ((d : Transition) × (i < length z.transitions) × (until ≡ Some (get_or z.transitions i d).unix_leap_time))
-    ⊎ ((i ≡ length z.transitions) × (until ≡ None))
-
--- one segment more of the table was tried, of whose seconds at most one shows the local time
+-- one segment more of the table was tried, up to the next transition if there is one, of whose seconds at most one shows the local time
 pub tried_segment : (z : Zone) (l : ℤ) (i : ℕ) {since : ℤ} {until : Option ℤ} {before after : LocalResult LocalType} → IsValid z → i ≤ length z.transitions
     → i < table_count z → since ≡ begin_of z.transitions i
-    → IsNextAt z i until → IsTried z l (index_of z.transitions i) since until before after → IsWallAnswer (IsShownIn z l i) before
-    → IsWallAnswer (IsShownIn z l (i + 1)) after
+    → ((d : Transition) × (i < length z.transitions) × (until ≡ Some (get_or z.transitions i d).unix_leap_time))
+    ⊎ ((i ≡ length z.transitions) × (until ≡ None)) → IsTried z l (index_of z.transitions i) since until before after
+    → IsWallAnswer (IsShownIn z l i) before → IsWallAnswer (IsShownIn z l (i + 1)) after
 tried_segment z l i valid inside own begin next k s =
     let rising = valid.transitions.rising in
     let c = l -ℤ k.type.offset in
@@ -34,7 +30,7 @@ tried_segment z l i valid inside own begin next k s =
     (λ m. inl (grind arith))
     (λ m.
     let e : segment_of z u ≡ i = omega arith in
-    let o = offset_in_table z i u f _ valid own k.candidate.listed e h.shows.type in grind linear)
+    let a = type_in_table z i u f rising own (record { type = h.shows.type; segment = e }) in let listed = k.candidate.listed in grind linear)
     (cases_lt (segment_of z u) i) in
     ⊎_elim
     (λ h.
@@ -98,11 +94,6 @@ window_least p (x ∷ xs) zero (suc b) h all =
 window_least p (x ∷ xs) (suc a) (suc b) h all =
     grind (arith, window_least p xs a b (omega arith) (λ k d l m. all (suc k) d (omega arith) (omega arith)))
 
--- the transitions walked through lie in the window
-pub walked_most : (ts : List Transition) (low high : ℤ) (first place : ℕ) → Between ts low first first → place ≤ length ts
-    → ((k : ℕ) (d : Transition) → first ≤ k → k < place → (get_or ts k d).unix_leap_time ≤ℤ high) → place ≤ first + length (come_between ts low high)
-walked_most ts low _ _ _ b w inside = grind (arith, window_least)
-
 -- the walk has come to that place: the transitions from the first on lie in the window, and one search and a look at each of them were counted
 pub record Walked (z : Zone) (high : ℤ) (first place : ℕ) (a b : Counts) : Type 0 where
   pub inside : (k : ℕ) (d : Transition) → first ≤ k → k < place → (get_or z.transitions k d).unix_leap_time ≤ℤ high
@@ -116,11 +107,8 @@ pub walked_more : {z : Zone} {high : ℤ} {first place : ℕ} {x : Transition} {
     → x ≡ get_or z.transitions place x → x.unix_leap_time ≤ℤ high → c ≡ reads_more b 1 → Walked z high first (place + 1) a c
 walked_more within w item le cost = grind (linear, get_or_default)
 
-pub one_look : (b c : Counts) → c ≡ reads_more b 1 → RoseWithin b c 1 2
-one_look b c cost = grind linear
-
 pub rose_by_walk : (z : Zone) (l low high : ℤ) (first place n : ℕ) (a b c : Counts) → IsWindow z l low high → Between z.transitions low first first
     → place ≤ length z.transitions → Walked z high first place a b → n ≤ 1 → RoseWithin b c n 2 → RoseByWalk z l a c
 rose_by_walk z l low high first place n a b c window split within w one r =
-    let walked = walked_most _ low _ _ _ split within w.inside in
+    let inside = w.inside in let walked : place ≤ first + length (come_between z.transitions low high) = grind (arith, window_least) in
     record { window = length (come_between z.transitions low high); counted = grind linear; most = grind linear; least = grind arith }

@@ -39,12 +39,8 @@ start_by_pushed ps p l h = grind (linear, get_or_push, get_or_append_left, lengt
 pub start_by_push : (ps : List Piece) (p : Piece) (l : ℤ) → StartBy ps l → p.start ≤ℤ l → StartBy (ps ++ (p ∷ [])) l
 start_by_push ps p l h s = All-push (λ (q : Piece). q.start ≤ℤ l) ps p h s
 
--- how the answers of both are joined
-abbrev Join : Type 0
-Join = Shown → Shown → Shown
-
 -- the first i pieces of xs and the first j of ys are merged
-pub record Merging (join : Join) (bx : Shown) (xs : List Piece) (by : Shown) (ys : List Piece) (out : List Piece) (i j : ℕ) : Type 0 where
+pub record Merging (join : Shown → Shown → Shown) (bx : Shown) (xs : List Piece) (by : Shown) (ys out : List Piece) (i j : ℕ) : Type 0 where
   pub in_x : i ≤ length xs
   pub in_y : j ≤ length ys
   pub ordered : AreInOrder out
@@ -54,7 +50,8 @@ pub record Merging (join : Join) (bx : Shown) (xs : List Piece) (by : Shown) (ys
   pub started : (l : ℤ) → StartBy out l → StartBy (take i xs) l × StartBy (take j ys) l
   pub answers : (l : ℤ) → answer_at (join bx by) out l ≡ join (answer_at bx (take i xs) l) (answer_at by (take j ys) l)
 
-module _ {join : Join} {bx : Shown} {xs : List Piece} {by : Shown} {ys out : List Piece} {i j : ℕ} (m : Merging join bx xs by ys out i j) where
+module _ {join : Shown → Shown → Shown} {bx : Shown} {xs : List Piece} {by : Shown} {ys out : List Piece} {i j : ℕ}
+    (m : Merging join bx xs by ys out i j) where
   -- so are those of ys and those of xs
   merging_turned : Merging (λ a b. join b a) by ys bx xs out j i
   merging_turned = grind linear

@@ -14,7 +14,7 @@ use Rattle.tz_info.proofs.{
   Words.{◌≡◌, ◌≤ℤ◌, ◌≤◌, ◌⊎◌},
   ZoneLaws.leap_time_decided,
 }
-use Rattle.tz_info.specs.{Steps.Pieces.opening, declared.zone.made.shown.Shown.TheVariants.{Less, Once, Skipped}}
+use Rattle.tz_info.specs.declared.zone.made.shown.Shown.TheVariants.{Less, Once, Skipped}
 
 -- ---- one segment between transitions
 
@@ -38,12 +38,6 @@ type_of_table z k u x t own time b has = elim (own_segment z.rule k _ own) [
   | inr h ↦ rw h.1 (type_in_from z u x t time (rw h.1 at b) (rw h.0 (rw h.1 at has)))
 ]
 
--- a second of the segment k, which has the type t
-module _ (z : Zone) (k : ℕ) (u : ℤ) (f t : LocalType) (valid : IsValid z) (own : k < table_count z) (has : HasType z (index_of z.transitions k) t)
-    (e : segment_of z u ≡ k) (h : TypeAt z u f) where
-  pub offset_in_table : f.offset ≡ t.offset
-  offset_in_table = let a = type_in_table z k u f valid.transitions.rising own (record { type = h; segment = e }) in cc
-
 pub leap_time_of : (z : Zone) (u : ℤ) → IsValid z → IsNear u → (x : ℤ) × IsLeapTime z.leaps u x
 leap_time_of z u valid near = ⊎_elim (λ x. x) (λ r. absurd (leap_times_answer _ u valid.leaps near.0 near.1 r)) (leap_time_decided _ u)
 
@@ -62,20 +56,18 @@ module _ (z : Zone) (k : ℕ) (s u : ℤ) (valid : IsValid z) (start : IsStart z
 
 -- ---- two neighbouring sets of segments between entries
 
-wall_together : (a b : Shown) → shown_indexes (together a b) ≡ joined (shown_indexes a) (shown_indexes b)
-wall_together a b = grind arith
-
 pub shown_joined : (z : Zone) (ts : List Transition) (low middle high : ℕ) (l : ℤ) (a b : Shown) → AreRising ts → low ≤ middle → middle ≤ high
     → IsShownAmong z ts low middle l a → IsShownAmong z ts middle high l b → IsShownAmong z ts low high l (together a b)
-shown_joined z ts low middle high l a b rising h k x y = record {
-  wall = rw (wall_together a b) (joined_answer (ListedAmong z ts low middle l) (ListedAmong z ts middle high l) _ _ _ (record {
-    first = grind arith;
-    last = grind arith;
-    all = λ u i m. ⊎_elim (λ b. inl (grind arith)) (λ b. inr (grind arith)) (cases_lt (place_at ts u) middle);
-    order = grind (linear, places_rise);
-  }) x.wall y.wall);
-  side = grind arith;
-}
+shown_joined z ts low middle high l a b rising h k x y =
+    let e : shown_indexes (together a b) ≡ joined (shown_indexes a) (shown_indexes b) = grind arith in record {
+      wall = rw e (joined_answer (ListedAmong z ts low middle l) (ListedAmong z ts middle high l) _ _ _ (record {
+        first = grind arith;
+        last = grind arith;
+        all = λ u i m. ⊎_elim (λ b. inl (grind arith)) (λ b. inr (grind arith)) (cases_lt (place_at ts u) middle);
+        order = grind (linear, places_rise);
+      }) x.wall y.wall);
+      side = grind arith;
+    }
 
 pub pieces_joined : {z : Zone} {ts : List Transition} {low middle high : ℕ} {bx by : Shown} {xs ys out : List Piece} → AreRising ts → low < middle
     → middle < high → ArePieces z ts low middle bx xs → ArePieces z ts middle high by ys → IsMerged bx xs by ys out
@@ -96,9 +88,6 @@ near_wide l wide = grind linear
 
 abbrev pub piece : ℤ → Shown → Piece
 piece start answer = record { start = start; answer = answer }
-
-opening_none : (k : ℕ) → 0 < k → opening k ≡ 0
-opening_none k h = grind linear
 
 -- a segment of a table
 module _ {z : Zone} {ts : List Transition} {top k : ℕ} {s : Segment} (table : IsTable z ts top) (own : k < top) (is : IsSegment z.types ts k s) where
@@ -158,7 +147,7 @@ module _ {z : Zone} {ts : List Transition} {top k : ℕ} {s : Segment} (table : 
   pub last_pieces : 0 < k → k ≡ length ts → ArePieces z ts k (suc k) (Skipped k) (piece (cut_of ts k s.offset) (Once s.index) ∷ [])
   last_pieces later n = record {
     ordered = search arith;
-    most = grind (arith, opening_none);
+    most = grind arith;
     some = grind arith;
     answers = λ l wide. grind (linear, le_false, le_true, shown_inside l wide, shown_before l wide);
   }
@@ -170,7 +159,7 @@ module _ {z : Zone} {ts : List Transition} {top k : ℕ} {s : Segment} (table : 
       let rise = begins_rise ts _ table.rising later n in
       record {
         ordered = grind linear;
-        most = grind (arith, opening_none);
+        most = grind arith;
         some = grind arith;
         answers = λ l wide. by_lt_z l (cut_of ts k s.offset)
             (λ before. grind (linear, le_false, shown_before l wide))

@@ -12,9 +12,6 @@ use Rattle.tz_info.specs.{
 }
 
 -- ---- the same seconds, all as much later
-before_later : (u k : ℤ) → (u +ℤ k) -ℤ pos 1 ≡ (u -ℤ pos 1) +ℤ k
-before_later u k = omega linear
-
 le_later : (x y k : ℤ) → int_le (x +ℤ k) (y +ℤ k) ≡ int_le x y
 le_later x y k = grind arith
 
@@ -40,7 +37,8 @@ near_moved y u k = simp (le_later, lt_later)
 
 flip_moved : (y : YearsNear) (u k : ℤ) → flips_at (all_moved y k) (u +ℤ k) ≡ flips_at y u
 unfolding all_moved
-flip_moved y u k = rw (before_later u k, le_later u _ k, lt_later _ u k, near_moved y u k, near_moved y _ k)
+flip_moved y u k =
+    let before : (u +ℤ k) -ℤ pos 1 ≡ (u -ℤ pos 1) +ℤ k = omega linear in rw (before, le_later u _ k, lt_later _ u k, near_moved y u k, near_moved y _ k)
 
 has_moved : (y : YearsNear) (k : ℤ) → has_flip (all_moved y k) ≡ has_flip y
 unfolding all_moved moved
@@ -74,9 +72,6 @@ leaps_alike : (x y : ℤ) → leap_place x ≡ leap_place y → LeapsAlike x y
 leaps_alike x y e =
     let a = solo_at _ _ _ _ (leaps_solo x) in let b = solo_at _ _ _ _ (leaps_solo y) in
     record { before = cc; here = cc; after = cc; later = cc }
-
-leap_places : (x y : ℤ) → year_key x ≡ year_key y → (leap_place x ≡ leap_place y) × (weekday_of (year_start x) ≡ weekday_of (year_start y))
-leap_places x y e = grind arith
 
 -- the one year's days are those of the other one, whole weeks later
 weeks : (s t : ℤ) → weekday_of s ≡ weekday_of t → (q : ℤ) × (t ≡ s +ℤ pos 7 *ℤ q)
@@ -129,20 +124,17 @@ module _ (x y q : ℤ) (leaps : LeapsAlike x y) (start : year_start y ≡ year_s
 -- they change alike
 pub changing_alike : (starts ends : List ℤ) (calm : Bool) (x y : ℤ) → year_key x ≡ year_key y → is_changing starts ends calm y ≡ is_changing starts ends calm x
 changing_alike _ _ _ x y e =
-    let (places, weekday) = leap_places x y e in
+    let places : leap_place x ≡ leap_place y = grind arith in let weekday : weekday_of (year_start x) ≡ weekday_of (year_start y) = grind arith in
     let leaps = leaps_alike x y places in
     let (q, start) = weeks _ _ weekday in
     by_calm x y q leaps start _ _ _
 
 -- the year of each key has that key
-abbrev is_same : ℕ → ℕ → ℤ → Bool
-is_same a b year = eqb a b && int_le (pos 2000) year && int_le year (pos 2299)
-
-same_is : (a b : ℕ) (year : ℤ) → is_same a b year ≡ true → (a ≡ b) × (pos 2000 ≤ℤ year) × (year ≤ℤ pos 2299)
+same_is : (a b : ℕ) (year : ℤ) → (eqb a b && int_le (pos 2000) year && int_le year (pos 2299)) ≡ true → (a ≡ b) × (pos 2000 ≤ℤ year) × (year ≤ℤ pos 2299)
 same_is a b year h = grind (arith, eqb-true)
 
 abbrev fits_key : ℕ → Bool
-fits_key k = let year = get_or key_years k (pos 0) in is_same (year_key year) k year
+fits_key k = let year = get_or key_years k (pos 0) in eqb (year_key year) k && int_le (pos 2000) year && int_le year (pos 2299)
 
 each_key : all_below 35 fits_key ≡ true
 unfolding key_years year_start

@@ -63,10 +63,10 @@ module _ (z : Zone) (a : AlternateRule) (u : ℤ) (t : LocalType) (rule : z.rule
       let b = segment_at z u _ valid.transitions.rising e in
       (type_in_from z u x.0 t x.1 (grind linear) (rw rule k)).type
 
--- `begin` comes no later than a second with a type at which all have come
-pub begun : (z : Zone) (begin u : ℤ) (t : LocalType) → IsValid z → IsBegin z begin → SFits w64 u → TypeAt z u t → segment_of z u ≡ length z.transitions
-    → begin ≤ℤ u
-begun z _ u t valid h fits k e = grind (linear, come_at_time)
+-- `begin` comes no later than a second with a type if and only if all have come then
+pub begun : (z : Zone) (begin u : ℤ) (t : LocalType) → IsValid z → IsBegin z begin → SFits w64 u → TypeAt z u t
+    → (begin ≤ℤ u) ↔ (segment_of z u ≡ length z.transitions)
+begun z _ u t valid h fits k = grind (linear, time_of, come_at_time, segment_most)
 
 pub begins : (z : Zone) (begin u : ℤ) → IsValid z → IsBegin z begin → IsRuleTime u → begin ≤ℤ u → segment_of z u ≡ length z.transitions
 begins z _ u valid h within from =
@@ -77,7 +77,7 @@ by_rule : (z : Zone) (a : AlternateRule) (begin : ℤ) (d : Change) → IsValid 
     → (IsChange (TypeAt z) d × (segment_of z (d.at -ℤ pos 1) ≡ length z.transitions)) ↔ (IsChange (AlternateAt a) d × (begin <ℤ d.at))
 by_rule z a begin d valid rule h = (
   λ k.
-      let is = k.0 in let b = begun z _ _ _ valid h is.fits_before is.before k.1 in grind (arith, to_rule, last_too),
+      let is = k.0 in let b = (begun z _ _ _ valid h is.fits_before is.before).1 k.1 in grind (arith, to_rule, last_too),
   λ k.
       let is = k.0 in let e = begins z _ (d.at -ℤ pos 1) valid h (rule_second a (d.at -ℤ pos 1) _ is.before) (omega linear) in
       let before = from_rule z a _ _ rule valid e is.before in
@@ -95,7 +95,7 @@ rule_found z a w s begin _ valid rule h =
 pub none_begun : (z : Zone) (within : ℤ → Type 0) (begin : ℤ) → IsValid z → IsBegin z begin → ((u : ℤ) → SFits w64 u → within u → u ≤ℤ begin)
     → HasNoChange (TypeAt z) (IsChangeByRule z within)
 none_begun z _ _ valid h most d is inside =
-    let b = begun z _ _ _ valid h is.fits_before is.before inside.by_rule in grind arith
+    let b = (begun z _ _ _ valid h is.fits_before is.before).1 inside.by_rule in grind arith
 
 -- ---- the table's changes come before the rule's
 -- of the seconds that `within` takes those at which the changes of the table come, or of the rule: first those that come first in that direction

@@ -10,7 +10,6 @@ pub mod Turns
 pub mod Seasons
 pub mod Answers
 pub mod Segments
-pub mod Validity
 pub mod Walk
 pub mod Shown
 pub mod WallPieces
@@ -23,7 +22,6 @@ pub mod Prepared
 pub mod Spelled
 pub mod RuleSeconds
 pub mod FileLists
-pub mod Places
 pub mod Gaps
 pub mod Folds
 pub mod Changes

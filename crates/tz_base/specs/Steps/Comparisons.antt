@@ -2,7 +2,7 @@
 use Rattle.std.specs.Prelude.{ℕ, ℤ, ◌≡◌, ◌≢◌, ◌≤◌, ◌≤ℤ◌, ◌<ℤ◌, ◌⊎◌, ◌==◌, nat_le, int_le, int_lt, not, ◌&&◌, ◌||◌}
 use Rattle.std.specs.Bool.{Decides}
 use Rattle.std.proofs.Common.{arith}
-use Rattle.std.proofs.lemmas.{Bool.Decides.{nat_tests, Decides-and, Decides-eqb, Decides-like, Decides-not, Decides-or}, Int.{ints}}
+use Rattle.std.proofs.lemmas.{Bool.{leb-true, le-leb}, Bool.Decides.{Decides-and, Decides-eqb, Decides-like, Decides-not, Decides-or}, Int.{ints}}
 use Rattle.tz_base.specs.Tests.{Test}
 
 abbrev pub equal : (n m : ℕ) → Test (n ≡ m)
@@ -11,11 +11,8 @@ equal n m = record { passes = n == m; decides = Decides-eqb n m }
 abbrev pub unlike : (n m : ℕ) → Test (n ≢ m)
 unlike n m = record { passes = not (n == m); decides = Decides-not _ (Decides-eqb n m) }
 
-pub is_at_most : (n m : ℕ) → Decides (nat_le n m) (n ≤ m)
-is_at_most n m = (λ t. grind (arith, nat_tests), λ le. grind (arith, nat_tests))
-
 abbrev pub at_most : (n m : ℕ) → Test (n ≤ m)
-at_most n m = record { passes = nat_le n m; decides = is_at_most n m }
+at_most n m = record { passes = nat_le n m; decides = (leb-true n m, le-leb n m) }
 
 pub is_no_greater : (n m : ℤ) → Decides (int_le n m) (n ≤ℤ m)
 is_no_greater n m = (λ t. grind (arith, ints), λ le. grind (arith, ints))
@@ -40,11 +37,8 @@ abbrev pub alike : {P Q : Type 0} → (P → Q) → (Q → P) → Test P → Tes
 alike to from p = record { passes = p.passes; decides = Decides-like _ to from p.decides }
 
 abbrev pub never_both : {P Q : Type 0} → Test P → Test Q → Test (P → ¬ Q)
-never_both p q = record {
-  passes = not (p.passes && q.passes);
-  decides =
-      Decides-like _ (λ n x y. n (x, y)) (λ f (x, y). f x y) (Decides-not _ (Decides-and _ _ p.decides q.decides));
-}
+never_both p q =
+    alike (λ n x y. n (x, y)) (λ f (x, y). f x y) (record { passes = not (both p q).passes; decides = Decides-not _ (both p q).decides })
 
 abbrev pub three : {P Q R : Type 0} → Test P → Test Q → Test R → Test (P × Q × R)
 three p q r = alike (λ (a, (b, c)). (a, b, c)) (λ (a, b, c). (a, (b, c))) (both p (both q r))

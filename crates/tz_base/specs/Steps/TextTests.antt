@@ -1,23 +1,18 @@
 -- Tests of texts: whether they are UTF-8, and whether they are names.
-use Rattle.std.proofs.Common.{ℕ, zero, suc, ◌≡◌, ◌<◌, Bool, true, List, [], ◌∷◌, Option, Some, None, length, slice_index, get_or, arith, refl}
-use Rattle.std.proofs.lemmas.Str.{IsUtf8-from_is_utf8, is_utf8-from_IsUtf8}
+use Rattle.std.proofs.Common.{ℕ, ◌≡◌, ◌<◌, Bool, true, List, Option, Some, None, length, slice_index, refl}
+use Rattle.std.proofs.lemmas.{Bool.Decides.{Decides-by_and, Decides-like}, List.{get_or_default}, Str.{IsUtf8-from_is_utf8, is_utf8-from_IsUtf8}}
 use Rattle.std.specs.{Bool.{Decides}, List.{list_all}, Str.{IsUtf8, is_utf8}}
 use Rattle.tz_base.specs.{Names.{IsName, IsNameOrNone, is_name_byte}, Steps.Comparisons.{at_most, three}, Tests.{Test}}
 
 abbrev pub utf8_test : (bytes : List ℕ) → Test (IsUtf8 bytes)
 utf8_test bytes = record { passes = is_utf8 bytes; decides = (IsUtf8-from_is_utf8 bytes, is_utf8-from_IsUtf8 bytes) }
 
-pub all_are : (p : ℕ → Bool) (xs : List ℕ) → list_all p xs ≡ true → (i : ℕ) → i < length xs → p (get_or xs i 0) ≡ true
-all_are p [] h i l = absurd (omega arith)
-all_are p (x ∷ xs) h zero l = grind arith
-all_are p (x ∷ xs) h (suc i) l = let k : list_all p xs ≡ true = grind arith in all_are p xs k i (omega arith)
-
-pub are_all : (p : ℕ → Bool) (xs : List ℕ) → ((i : ℕ) → i < length xs → p (get_or xs i 0) ≡ true) → list_all p xs ≡ true
-are_all p [] h = refl
-are_all p (x ∷ xs) h = let a = h 0 (omega arith) in let b = are_all p xs (λ i l. h (suc i) (omega arith)) in rw a (rw b refl)
+pub all_decided : (p : ℕ → Bool) (xs : List ℕ) → Decides (list_all p xs) ((i : ℕ) → i < length xs → p (slice_index xs i) ≡ true)
+all_decided p xs = Decides-like _ (λ a i l. a i 0 l) (λ f i d l. rw (get_or_default xs i d 0 l) (f i l))
+    (Decides-by_and p (λ b. p b ≡ true) (list_all p) (λ b. (λ h. h, λ h. h)) refl (λ _ _. refl) xs)
 
 abbrev pub each_test : (p : ℕ → Bool) (xs : List ℕ) → Test ((i : ℕ) → i < length xs → p (slice_index xs i) ≡ true)
-each_test p xs = record { passes = list_all p xs; decides = (all_are p xs, are_all p xs) }
+each_test p xs = record { passes = list_all p xs; decides = all_decided p xs }
 
 abbrev pub name_test : (text : List ℕ) → Test (IsName text)
 name_test text = three (at_most 3 (length text)) (at_most (length text) 7) (each_test is_name_byte text)

@@ -1,14 +1,14 @@
 -- What a rule says of a second: the type in force, and the seconds on both sides at which clocks change.
-use Rattle.std.specs.Prelude.{◌≡◌, Bool, true, false, ℤ, Option, option_map}
+use Rattle.std.specs.Prelude.{◌≡◌, Bool, true, false, ℤ, Option, option_map, not}
 use Rattle.{
   tz_base.specs.{LocalTypes.{LocalType}, declared.change.Change.{Change}},
   tz_info.specs.{Changes.{IsNearest}, Moments.{AlternateAt, type_when}, Rules.{Alternate}},
-  tz_info.specs.{Steps.{Changes.{IsAhead, IsChangeAt}, Gaps.{moment_change}}, declared.rule.{beside.Beside.{Beside}, moments.Moment.{Moment}}},
+  tz_info.specs.{Steps.{Changes.{IsAhead, IsChangeAt}}, declared.rule.{beside.Beside.{Beside}, moments.Moment.{Moment}}},
 }
 
 -- the change at the moment that was found, if one was
 abbrev pub change_found : Alternate → Option Moment → Option Change
-change_found a found = option_map (moment_change a) found
+change_found a found = option_map (λ (m : Moment). record { at = m.at; before = type_when a (not m.to_dst); after = type_when a m.to_dst }) found
 
 -- the first change in that direction at a second that `within` accepts, if there is one
 abbrev pub IsNearestMomentOf : Bool → Alternate → (ℤ → Type 0) → Option Moment → Type 0

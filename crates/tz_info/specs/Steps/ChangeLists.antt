@@ -12,7 +12,6 @@ use Rattle.tz_base.specs.{
 use Rattle.tz_info.specs.{
   Leaps.{corrections, correction_at, least_time, passed_count},
   Moments.{start_in, end_in, type_when},
-  Rules.{Alternate as AlternateRule},
   Steps.Turns.{is_in_three},
   Transitions.{passed},
   Zones.{Zone, index_at},
@@ -37,13 +36,11 @@ is_rule_year year = int_le (neg_ℤ (pos 2_147_483_646)) year && int_le year (po
 abbrev pub is_dst_by_three : (ℤ → ℤ) → (ℤ → ℤ) → ℤ → ℤ → Bool
 is_dst_by_three starts ends year u = if int_le (starts year) (ends year) then is_in_three starts ends year u else not (is_in_three ends starts year u)
 
--- the rule's type at the second u of the year
-abbrev pub alternate_type : AlternateRule → ℤ → ℤ → Option LocalType
-alternate_type a year u = if is_rule_year year then Some (type_when a (is_dst_by_three (start_in a) (end_in a) year u)) else None
-
+-- the rule's type at the second u
 abbrev pub rule_type : TransitionRule → ℤ → Option LocalType
 rule_type (Fixed fixed) u = Some fixed
-rule_type (Alternate a) u = alternate_type a (year_of (floor_div u 86_400)) u
+rule_type (Alternate a) u =
+    let year = year_of (floor_div u 86_400) in if is_rule_year year then Some (type_when a (is_dst_by_three (start_in a) (end_in a) year u)) else None
 
 -- the rule's type, or what holds without a rule
 abbrev pub rule_type_or : Option TransitionRule → ℤ → Option LocalType → Option LocalType

@@ -1,11 +1,11 @@
 -- What the readers of a TZif file hand from one to the next, and what they return.
-use Rattle.std.specs.Prelude.{ℕ, ◌≡◌, ◌⊎◌, ◌*◌, ◌+◌, ◌-◌, ◌++◌, Result, Ok, Err, List, length, option_map}
+use Rattle.std.specs.Prelude.{ℕ, ◌≡◌, ◌⊎◌, ◌*◌, ◌+◌, ◌-◌, ◌++◌, Result, Ok, Err, List, length, MatchOption, Option, option_map}
 use Rattle.tz_base.specs.{Grammar.{Grammar, read, from_fault}, declared.error.Error.{Error, TheVariants.{OutOfMemory}}}
 use Rattle.tz_info.specs.{
   Zones.{Zone},
   FileBlocks.{parts_of},
   FilePieces.{FilePieces, HasPieces, from_times, from_type_indexes, from_types, from_leap_seconds, from_ut_local},
-  FilePlaces.{IsFilePlace},
+  FilePlaces.{HoldsOfNone, IsFilePlace, IsFirstBelow},
   TzFiles.{IsFileFault},
   declared.file.{pieces.Pieces.{Pieces}, place.FromParts.{FromParts}, reader.Lists.{Lists}},
 }
@@ -53,3 +53,7 @@ IsReadInMemory g bytes view (Err e) left = (e ≡ OutOfMemory) ⊎ ((read g byte
 abbrev pub IsFaultAt : List ℕ → Error → List ℕ → Type 0
 IsFaultAt bytes e left =
     (IsFileFault bytes e × IsFilePlace bytes (length bytes - length left)) ⊎ ((e ≡ OutOfMemory) × ((p : FilePieces) × HasPieces bytes p))
+
+-- the first of the numbers below n of which P holds, or nothing if it holds of none
+abbrev pub Finds : (ℕ → Type 0) → ℕ → Option ℕ → Type 0
+Finds P n found = MatchOption found (HoldsOfNone P n) (IsFirstBelow P n)

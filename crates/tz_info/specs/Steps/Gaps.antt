@@ -1,9 +1,8 @@
 -- The way to the first second at which clocks show more than a local time that they never show.
-use Rattle.std.specs.Prelude.{◌≡◌, not, ℤ, pos, ◌+ℤ◌, ◌-ℤ◌, ◌≤ℤ◌, ◌<ℤ◌}
+use Rattle.std.specs.Prelude.{◌≡◌, ℤ, pos, ◌+ℤ◌, ◌-ℤ◌, ◌≤ℤ◌, ◌<ℤ◌}
 use Rattle.{
   tz_base.specs.{LocalTypes.{LocalType}, declared.change.Change.{Change}},
-  tz_info.specs.{Leaps.{IsNear}, Moments.{AlternateAt, type_when}, Rules.{Alternate}, Steps.Runs.{IsWindowOf}, Zones.{Zone, TypeAt}},
-  tz_info.specs.declared.rule.moments.Moment.{Moment},
+  tz_info.specs.{Leaps.{IsNear}, Moments.{AlternateAt}, Rules.{Alternate}, Steps.Runs.{IsWindowOf}, Zones.{Zone, TypeAt}},
 }
 
 -- clocks show less at each near second up to s
@@ -27,7 +26,3 @@ pub record IsRuleGap (a : Alternate) (from local : ℤ) (c : Change) : Type 0 wh
   pub after : AlternateAt a c.at c.after
   pub more : local <ℤ (c.at +ℤ c.after.offset)
   pub less : (u : ℤ) (t : LocalType) → from ≤ℤ u → u <ℤ c.at → AlternateAt a u t → (u +ℤ t.offset) <ℤ local
-
--- the change at that moment
-abbrev pub moment_change : Alternate → Moment → Change
-moment_change a m = record { at = m.at; before = type_when a (not m.to_dst); after = type_when a m.to_dst }

@@ -55,13 +55,10 @@ abbrev pub opening : ℕ → ℕ
 opening zero = 1
 opening (suc low) = 0
 
-abbrev pub closing : ℕ → ℕ → ℕ
-closing n high = if nat_lt n high then 1 else 0
-
 -- the pieces answer for the segments from `low` on and before `high`
 pub record ArePieces (z : Zone) (entries : List Transition) (low high : ℕ) (before : Shown) (pieces : List Piece) : Type 0 where
   pub ordered : AreInOrder pieces
-  pub most : length pieces + opening low + closing (length entries) high + 2 * low ≤ 2 * high
+  pub most : length pieces + opening low + (if nat_lt (length entries) high then 1 else 0) + 2 * low ≤ 2 * high
   pub some : low ≡ 0 → 0 < length pieces
   pub answers : (local : ℤ) → IsWide local → IsShownAmong z entries low high local (answer_at before pieces local)
 
@@ -78,23 +75,18 @@ pub record IsSegment (types : List LocalType) (entries : List Transition) (place
 abbrev pub cut_of : List Transition → ℕ → ℤ → ℤ
 cut_of entries place offset = saturate_signed w64 (begin_of entries place +ℤ offset)
 
--- one segment ends and the next starts: from the first of the two cuts up to the last neither shows the local time, as in a gap
-pub record IsGap (place : ℕ) (end start : ℤ) (index : ℕ) (first last : Piece) : Type 0 where
-  pub order : end ≤ℤ start
-  pub none : first ≡ record { start = end; answer = Skipped place }
-  pub next : last ≡ record { start = start; answer = Once index }
+-- one segment ends and the next starts: from the first of the two cuts up to the last both have that answer
+pub record IsAmidCuts (low high : ℤ) (amid : Shown) (index : ℕ) (first last : Piece) : Type 0 where
+  pub order : low ≤ℤ high
+  pub here : first ≡ record { start = low; answer = amid }
+  pub next : last ≡ record { start = high; answer = Once index }
 
--- or both do, as in a fold
-pub record IsFold (end start : ℤ) (index_before index : ℕ) (first last : Piece) : Type 0 where
-  pub order : start ≤ℤ end
-  pub both : first ≡ record { start = start; answer = Several index_before index }
-  pub next : last ≡ record { start = end; answer = Once index }
-
--- the two pieces that begin when the segment at that place starts and the one before it ends
+-- the two pieces that begin when the segment at that place starts and the one before it ends: amid them neither shows the local
+-- time, as in a gap, or both do, as in a fold
 abbrev pub ArePiecesAt : List Transition → ℕ → Segment → Segment → Piece → Piece → Type 0
 ArePiecesAt entries place before segment first last =
-    IsGap place (cut_of entries place before.offset) (cut_of entries place segment.offset) segment.index first last
-    ⊎ IsFold (cut_of entries place before.offset) (cut_of entries place segment.offset) before.index segment.index first last
+    IsAmidCuts (cut_of entries place before.offset) (cut_of entries place segment.offset) (Skipped place) segment.index first last
+    ⊎ IsAmidCuts (cut_of entries place segment.offset) (cut_of entries place before.offset) (Several before.index segment.index) segment.index first last
 
 -- `cut` is a local time at which the segment before that place ends, or the one at that place starts
 pub record IsCutAt (types : List LocalType) (entries : List Transition) (place : ℕ) (cut : ℤ) : Type 0 where

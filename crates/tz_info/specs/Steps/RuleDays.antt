@@ -64,12 +64,6 @@ common_months = grind arith
 common_place : (year : ℤ) (n month day : ℕ) → IsCommonDate n month day → days_of_months (is_leap year) (month - 1) + (day - 1) ≡ julian_place (is_leap year) n
 common_place year n month day h = grind (arith, nat_tests, common_months, months_rise, before_march, months_step, from_march)
 
-common_date : (n : ℕ) → 1 ≤ n → n ≤ 365 → (month : ℕ) × (day : ℕ) × IsCommonDate n month day
-common_date n low high =
-    let none = common_months.0 in
-    let p = place_is 11 false 1 (n - 1) refl (omega arith) (omega (arith, none, common_months.2)) in
-    (_, _, (p.month.0, p.month.1, p.day.0, p.day.1, omega (arith, p.place, none, p.day.0)))
-
 pub julian_is : (year : ℤ) (n month day : ℕ) → IsCommonDate n month day → year_start year +ℤ pos (julian_place (is_leap year) n) ≡ day_number year month day
 unfolding day_number
 julian_is year n month day h = grind (arith, common_place)
@@ -80,7 +74,11 @@ first_of_year year = omega (arith, floors)
 
 pub closed_day_is : (form : DayForm) (year : ℤ) → IsRuleDay form → IsDayOf form year (closed_day form year)
 unfolding closed_day
-closed_day_is (Julian1 n) year fits = let date = common_date n fits.0 fits.1 in (date.0, date.1, date.2, julian_is year n date.0 date.1 date.2)
+closed_day_is (Julian1 n) year fits =
+    let none = common_months.0 in
+    let p = place_is 11 false 1 (n - 1) refl (omega arith) (omega (arith, none, common_months.2)) in
+    let date : IsCommonDate n _ _ = (p.month.0, p.month.1, p.day.0, p.day.1, omega (arith, p.place, none, p.day.0)) in
+    (_, _, date, julian_is year n _ _ date)
 closed_day_is (Julian0 n) year fits = rw (first_of_year year) refl
 closed_day_is (MonthWeekday month week weekday) year fits = (
   _,

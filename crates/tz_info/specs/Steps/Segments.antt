@@ -1,5 +1,5 @@
 -- Segments: from one transition to the next one type is in force. Segment i comes after the first i transitions.
-use Rattle.std.specs.Prelude.{ℕ, suc, length, List, map, take, ℤ, ◌+ℤ◌, Option, Some, None}
+use Rattle.std.specs.Prelude.{ℕ, suc, ◌<◌, ◌-◌, length, List, map, slice_index_or, take, ℤ, ◌+ℤ◌, ◌<ℤ◌, Option, Some, None}
 use Rattle.tz_info.specs.{
   Leaps.{correction_at, least_time},
   Lists.{last_else},
@@ -27,3 +27,8 @@ begin_of transitions i = last_else least_time (map (λ t. t.unix_leap_time) (tak
 -- the index of the type in segment i
 abbrev pub index_of : List Transition → ℕ → ℕ
 index_of transitions i = last_else 0 (map (λ t. t.type_index) (take i transitions))
+
+-- the transition at that place refers to one of that many types, and comes later than the one before it
+pub record Stands (types : ℕ) (transitions : List Transition) (place : ℕ) : Type 0 where
+  pub index : (d : Transition) → (slice_index_or transitions place d).type_index < types
+  pub later : (d : Transition) → 0 < place → (slice_index_or transitions (place - 1) d).unix_leap_time <ℤ (slice_index_or transitions place d).unix_leap_time

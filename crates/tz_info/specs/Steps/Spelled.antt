@@ -1,9 +1,9 @@
 -- What the reader of a TZ string hands from one function to the next: the rule of it, and its limits.
 use Rattle.offset_core.specs.Offset.{IsWithinDay}
 use Rattle.std.specs.{Prelude.{ℕ, ℤ, ◌≡◌, ◌+◌, Bool, false, List, Result, Ok, Err, Some}, Char.{is_ascii_whitespace}, List.{prefix_len}}
-use Rattle.tz_base.specs.{Fronts.{◌>>=◌}, Grammar.{read}, LocalTypes.{LocalType}, declared.{error.Error.{Error}, parse_error.ParseError.{ParseError}}}
+use Rattle.tz_base.specs.{Fronts.{◌>>=◌}, Grammar.{read}, declared.{error.Error.{Error}, parse_error.ParseError.{ParseError}}}
 use Rattle.tz_info.specs.{
-  Rules.{Alternate, IsWithinWeek},
+  Rules.{IsWithinWeek},
   Trims.{trimmed},
   TzGrammar.{text, text_fault_position},
   declared.rule.{day.{DayForm.{DayForm}, DayTime.{DayTime}}, reader.text.Spelled.{Spelled}, transition_rule.TransitionRule.{TransitionRule}},
@@ -11,17 +11,14 @@ use Rattle.tz_info.specs.{
 use Rattle.tz_info.specs.declared.rule.reader.text.Spelled.TheVariants as spelled
 use Rattle.tz_info.specs.declared.rule.transition_rule.TransitionRule.TheVariants as rules
 
--- a day with its time, and the rule of two types and two such days
+-- a day with its time
 abbrev pub day_time_of : DayForm × ℤ → DayTime
 day_time_of d = record { day = d.0; time = d.1 }
-
-abbrev pub alternate_of : LocalType → LocalType → DayForm × ℤ → DayForm × ℤ → Alternate
-alternate_of std dst start end = record { std = std; dst = dst; start = day_time_of start; end = day_time_of end }
 
 -- the rule that was spelled
 abbrev pub rule_of : Spelled → TransitionRule
 rule_of (spelled.Fixed t) = rules.Fixed t
-rule_of (spelled.Alternate std dst start end) = rules.Alternate (alternate_of std dst start end)
+rule_of (spelled.Alternate std dst start end) = rules.Alternate (record { std = std; dst = dst; start = day_time_of start; end = day_time_of end })
 
 -- and the limits that its offsets and times were read within
 abbrev pub IsSpelled : Spelled → Type 0

@@ -15,12 +15,6 @@ pub record IsFirstTyped (z : Zone) (u : ℤ) : Type 0 where
   pub typed : IsTyped z u
   pub before : ¬ (IsTyped z (u -ℤ pos 1))
 
--- it has none, and one just before it
-pub record IsAfterTyped (z : Zone) (u : ℤ) : Type 0 where
-  pub fits : FitsSigned w64 u
-  pub typed : IsTyped z (u -ℤ pos 1)
-  pub after : ¬ (IsTyped z u)
-
 -- it has one, and none at a later second; that is far from now
 pub record IsLastTyped (z : Zone) (u : ℤ) : Type 0 where
   pub typed : IsTyped z u
@@ -38,9 +32,9 @@ pub record IsLastTimed (z : Zone) (u : ℤ) : Type 0 where
 abbrev pub IsTypedFrom : Zone → Option ℤ → Type 0
 IsTypedFrom z from = MatchOption from (IsTyped z least_time) (IsFirstTyped z)
 
--- the second after the last one that has a type, or nothing if the last one of 64 bits has one
+-- the second after the last one that has a type, at which it has none, or nothing if the last one of 64 bits has one
 abbrev pub IsTypedUntil : Zone → Option ℤ → Type 0
-IsTypedUntil z until = MatchOption until (IsTyped z (pos 9_223_372_036_854_775_807)) (IsAfterTyped z)
+IsTypedUntil z until = MatchOption until (IsTyped z (pos 9_223_372_036_854_775_807)) (λ u. FitsSigned w64 u × IsTyped z (u -ℤ pos 1) × ¬ (IsTyped z u))
 
 -- the second of the change that begins a span, or without one the first second that has a type
 abbrev pub IsBeginBy : Zone → Option Change → Option ℤ → Type 0

@@ -3,7 +3,7 @@
 ghost use Rattle.std.specs.Prelude.{◌≡◌, ◌↔◌, ◌<◌, IsTrue};
 ghost use Rattle.{
   tz_info.specs.{FileContents.{leap_at, time_at}, FilePlaces.{IsListPlace, IsNotLater, IsOtherIndex, IsOtherLeap}},
-  tz_info.specs.Steps.{FileLists.{pieces_of, EndFile, HasLengths}, Places.{Finds}},
+  tz_info.specs.Steps.FileLists.{pieces_of, EndFile, Finds, HasLengths},
 };
 
 use crate::file::contents::leap_second_of;

@@ -2,7 +2,7 @@
 
 ghost use Rattle.std.specs.Prelude.{◌↔◌, ◌<◌, ◌≤ℤ◌, ◌+ℤ◌, length, map, pos, All, IfSome, IsTrue, MatchResult};
 ghost use Rattle.{
-  tz_info.specs.{Leaps.{AreLeapSeconds, IsFirstLeap, IsNextLeap, IsOneStep}, Steps.Validity.{Stands}},
+  tz_info.specs.{Leaps.{AreLeapSeconds, IsFirstLeap, IsNextLeap, IsOneStep}, Steps.Segments.{Stands}},
   tz_info.specs.{Transitions.{AreTransitions}, Zones.{last_transition, Agrees, IsValid, ListFault, Zone}},
 };
 
@@ -69,7 +69,7 @@ fn rule_agrees<T: AsTransition>(
 }
 
 // Whether at the Unix time of the last transition the rule has that transition's type.
-#[tactic(auto, using(crate::proofs::Validity::differs_without_rule, crate::proofs::Validity::differs_without_time))]
+#[tactic(auto, using(crate::proofs::RuleLaws::differs_without_rule, crate::proofs::RuleLaws::differs_without_time))]
 fn agrees(
     types: &[LocalTimeType],
     leaps: &[LeapSecond],

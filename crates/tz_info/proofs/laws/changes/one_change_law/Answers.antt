@@ -1,4 +1,4 @@
-use Rattle.tz_info.proofs.ChangeLaws.{front_is_first, one_change, one_list_of_changes, one_nearest}
+use Rattle.tz_info.proofs.{ChangeLaws.{at_front, not_before, one_change, one_list_of_changes, one_nearest}, Words.linear}
 use Rattle.tz_info.proofs.laws.changes.one_change_law.Goals as goal
 
 pub returns : goal.returns
@@ -7,5 +7,7 @@ returns c = record {
   next = λ z s. one_nearest _ z _;
   previous = λ z s. one_nearest _ z _;
   lists = one_list_of_changes;
-  first = front_is_first;
+  first = λ z _ until c cs h.
+      let here = (h.each c).0 (at_front c cs) in
+      record { is = here.0; inside = grind linear; nearest = λ d is inside. let m = not_before c d cs h.rising in let e = h.each d in grind linear };
 }

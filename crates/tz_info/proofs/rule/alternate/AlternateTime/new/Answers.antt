@@ -1,4 +1,4 @@
-use Rattle.tz_info.proofs.{KindLaws.{by_margin, within_years}, Neighbours.near_years, Words.{arith, ints, margin_of, rules, to_z-of_z}}
+use Rattle.tz_info.proofs.{KindLaws.within_years, Neighbours.near_years, Words.{arith, ints, margin_of, rules, to_z-of_z}}
 use Rattle.tz_info.proofs.rule.alternate.AlternateTime.new.Goals as goal
 
 pub changing_keys-changing-requires : goal.changing_keys-changing-requires
@@ -8,7 +8,7 @@ changing_keys-changing-requires c = record {
       (near_years _ c.args.std.offset c.in-Some.ensures.1 c.in-Some.ensures.0 (search rules)) (search rules);
   ends = within_years _ _ _ c.in-Some-at.ensures.1
       (near_years _ c.args.dst.offset c.in-Some-at.ensures.1 c.in-Some-at.ensures.0 (search rules)) (search rules);
-  calm = grind (arith, to_z-of_z, by_margin);
+  calm = grind (arith, to_z-of_z);
 }
 
 pub invariant_of-result : goal.invariant_of-result

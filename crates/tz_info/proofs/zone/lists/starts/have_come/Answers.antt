@@ -1,4 +1,4 @@
-use Rattle.tz_info.proofs.{LeapStarts.come_here, Words.{and_parts, arith, length, to_z-of_z, ◌≤◌}}
+use Rattle.tz_info.proofs.{LeapEntries.times_rise, Words.{and_parts, arith, length, linear, to_z-of_z, ◌-◌, ◌≤◌}}
 use Rattle.tz_info.proofs.zone.lists.starts.have_come.Goals as goal
 
 pub returns : goal.returns
@@ -6,4 +6,8 @@ returns c =
     let fx = c.ranges.leap_time in
     let within : c.args.count ≤ length c.args.leaps.now = omega arith in λ t.
     let (since, until) = and_parts _ _ t in
-    come_here _ _ _ c.requires within (simp to_z-of_z at (c.is_since.ensures since)) (simp to_z-of_z at (c.is_until.ensures until))
+    let last = simp to_z-of_z at (c.is_since.ensures since) in let next = simp to_z-of_z at (c.is_until.ensures until) in record {
+      within = within;
+      before = λ k d l. let r = times_rise _ d c.requires k (c.args.count - 1) in let t = last d in grind linear;
+      after = λ k d a l t. let r = times_rise _ d c.requires c.args.count k in let u = next d in grind linear;
+    }

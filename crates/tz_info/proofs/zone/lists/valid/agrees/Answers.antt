@@ -1,4 +1,4 @@
-use Rattle.tz_info.proofs.{Words.{SFits, refl, rules, slice_get_read, to_z-of_z, w64}, Validity.agrees_if_same}
+use Rattle.tz_info.proofs.{RuleLaws.agrees_if_same, Words.{SFits, refl, rules, slice_get_read, to_z-of_z, w64}}
 use Rattle.tz_info.proofs.zone.lists.valid.agrees.Goals as goal
 
 pub returns-in-Ok-find_local_time_type : goal.returns-in-Ok-find_local_time_type

@@ -12,5 +12,5 @@ returns c =
     elim c.if-end-start.branch [
       | goal.then-end-start w ↦ grind linear
       | goal.else-end-start w ↦ rw (c.small-earlier.ensures, c.small-later.ensures, w.first-is) (simp fits
-          (inr (rw (← ends, ← starts) (record { order = omega linear; both = refl; next = refl }))))
+          (inr (rw (← ends, ← starts) (record { order = omega linear; here = refl; next = refl }))))
     ]

@@ -3,7 +3,7 @@ use Rattle.tz_info.proofs.{
   QuestionLaws.asked_for_window,
   SegmentLaws.{begin_next, between_passed, index_next},
   TableSearch.Between,
-  WalkLaws.{none_before, none_after, one_look, rose_by_walk, tried_segment, walked_more},
+  WalkLaws.{none_before, none_after, rose_by_walk, tried_segment, walked_more},
   WallSegments.all_segments,
   Words.{IsShownIn, IsWallAnswer, IsWindow, SFits, ap, arith, digits-le, length, linear, map_of, rules, sym, w32, ◌+◌, ◌∙◌, ◌≡◌},
   zone.time_zone.TimeZone.walked_answer.Goals.{After-passed_count-first, After-try_until-answer},
@@ -71,11 +71,11 @@ returns-then-high-next c =
     let (window, split) = begun at.After-passed_count-first in
     let valid = rw c.self.view_is at c.self.invariant.valid in
     let walked = simp fits at c.loop-place.invariant.walked in
-    let time = ap (λ t. t.unix_leap_time) c.transition-next.ensures.item in
+    let time = ap (λ t. t.unix_leap_time) c.transition-next.ensures.item in let cost = c.transition-next.ensures.cost in
     record {
       found = none_after c.loop-place.place valid window c.transition-next.result (omega arith) (omega linear) _
           (tried at.After-try_until-answer);
-      cost = rose_by_walk _ _ _ _ _ _ 1 _ _ _ window split (omega arith) walked (omega arith) (one_look _ _ c.transition-next.ensures.cost);
+      cost = rose_by_walk _ _ _ _ _ _ 1 _ _ _ window split (omega arith) walked (omega arith) (grind linear);
       counted = asked_for_window _ _ _ c.leap_time_near-high.result c.loop-place.place c.transition-next.result _ _
           valid window (omega arith) (omega linear)
           (grind (linear, fits));
