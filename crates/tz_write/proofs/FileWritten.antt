@@ -12,13 +12,13 @@ use Rattle.tz_info.{
   proofs.Words.{All-push, FilePieces, FitsSigned, IsTzFile, cases_lt, designation_of, drop-drop, drop_front, exact_cut, is_not_zero, leap_at},
   proofs.Words.{length-drop, length-take, nil_from_length, record_at, take-append-drop, take-suc, take_all, take_more, transition_at, values_below, w32, w64},
   proofs.Words.◌-◌,
-  specs.declared.file.header.{Counts.Counts, Header.Header, Place.{TheVariants.{First, Second}, Place}, Version.{TheVariants.{One, Three, Two}, Version}},
-  specs.declared.zone.lists.{leap_second.LeapSecond.LeapSecond, transition.Transition.Transition},
+  specs.declared.file.header.{Counts.Counts, Header.Header, Place.{TheVariants.{First, Second}, Place}, Version.{TheVariants.{Three, Two}, Version}},
+  specs.declared.zone.lists.transition.Transition.Transition,
   specs.{FileContents.{designation, indicators, local_type, mark, type_at, typed}, FileHeaders.CountsAgree, FilePieces.later_pieces},
   specs.{Footers.{footer, footer_text, newline, optional_footer, utf8}, TzFiles.{contents, tz_file}},
 }
 use Rattle.tz_write.{
-  proofs.Words.{[], All, AllOf, Bool, HasNoZero, HasPieces, HasPlace, HasTimeOf64Bits, HavePlaces, IsEntry, IsNamedIn, IsRuleOrNone, IsType},
+  proofs.Words.{[], All, AllOf, Bool, HasNoZero, HasPieces, HasPlace, HavePlaces, IsNamedIn, IsRuleOrNone, IsType},
   proofs.Words.{IsTzText, List, LocalType, None, Option, Parts, Room, Some, Spells, StandsAt, append-nil, drop, ints, name_of, name_or_none, nat_tests},
   proofs.Words.{TransitionRule, Zone, after_first_block, ap, arith, be_u32, block, both_ways, counts_bytes, counts_test, false, file, place_of, zero},
   proofs.Words.{file_bytes, first_half, first_version, flat_map, get_or, header, header_bytes, index_bytes, inl, inr, laid_file, later_version, leap_bytes},
@@ -81,20 +81,6 @@ module _ {X : Type 0} where
   each_all P g bytes (suc n) xs rest each (ys, mid, h, (x, after, k, (value, _))) =
       let all = each_all P g bytes n ys mid each h in (rw value (All-push P ys x all.0 (each n mid x after k)), grind (arith, length-append))
 
--- ---- transitions and leap seconds
-transition_is : (p : FilePieces) (ts : List Transition) → All HasTimeOf64Bits ts → p.time_size ≡ 8 → p.parts.times ≡ flat_map time_bytes ts
-    → p.parts.type_indexes ≡ flat_map index_bytes ts → (k : ℕ) (d : Transition) → k < length ts → transition_at p k ≡ get_or ts k d
-unfolding signed_bytes
-transition_is p ts h size times indexes k d l =
-    grind (arith, record_is 8 time_bytes (λ _. refl) ts k d l, h k d l, get_or-map, flat_map_single {X = Transition} (λ t. t.type_index) ts, signed_64)
-
-leap_is : (p : FilePieces) (leaps : List LeapSecond) → All IsEntry leaps → p.time_size ≡ 8 → p.parts.leap_seconds ≡ flat_map leap_bytes leaps
-    → (k : ℕ) (d : LeapSecond) → k < length leaps → leap_at p k ≡ get_or leaps k d
-unfolding leap_bytes signed_bytes
-leap_is p leaps h size part k d l =
-    let time = signed_64 _ (h k d l).time in let correction = signed_32 _ (h k d l).correction in
-    rw (size, part, record_is 12 leap_bytes (λ _. refl) leaps k d l) (grind arith)
-
 -- ---- types
 no_zero_is : (text : List ℕ) → HasNoZero text ↔ AllOf is_not_zero text
 no_zero_is [] = grind arith
@@ -127,14 +113,6 @@ type_spelled d t p h =
         (place ∷ [], [], (refl, refl), (_, [], (_, text_spelled d place _ stands, refl), grind (arith, ints, signed_32))),
       ),
     )
-
-types_are : (p : FilePieces) (types : List LocalType) (bytes : List ℕ) → All (HasPlace p.parts.designations) types → All IsType types
-    → p.parts.types ≡ flat_map (type_bytes p.parts.designations) types → (k : ℕ) (d : LocalType) → k < length types
-    → Spells (type_at p k) bytes (get_or types k d) bytes
-unfolding type_at type_bytes signed_bytes
-types_are p types bytes places h part k d l =
-    let is = record_is 6 (type_bytes p.parts.designations) (λ _. refl) types k d l in
-    rw (part, is) ([], type_spelled p.parts.designations (get_or types k d) (places k d l) (h k d l), refl)
 
 -- ---- items appended one after another
 -- the pieces of the items are appended, and each is sound
@@ -183,9 +161,8 @@ header_is place extended c rest fit agree = (
 
 -- ---- footers
 -- letters, digits and signs of ASCII, and no colon in front
-record IsPlain (text : List ℕ) : Type 0 where
-  bytes : AreTextBytes text
-  no_colon : get_or text 0 0 ≢ 58
+abbrev IsPlain : List ℕ → Type 0
+IsPlain text = AreTextBytes text × (get_or text 0 0 ≢ 58)
 
 ascii : (text : List ℕ) → AreTextBytes text → IsAscii (text ++ 10 ∷ [])
 ascii [] h = IsAscii-cons 10 [] (omega arith) IsAscii-nil
@@ -200,10 +177,10 @@ footer_is : (extended : Bool) (text : List ℕ) (rule : Option TransitionRule) �
     → Spells (footer extended) (footer_bytes text) rule (footer_bytes text)
 unfolding footer utf8 newline footer_text
 footer_is extended text rule p says =
-    let utf8 = IsUtf8-from_ascii (footer_bytes text) (IsAscii-cons 10 (text ++ 10 ∷ []) (omega arith) (ascii text p.bytes)) in
-    let trims = trim_whole (10 ∷ []) text (10 ∷ []) (refl, tt) (no_space text p.bytes) (refl, tt) in
+    let utf8 = IsUtf8-from_ascii (footer_bytes text) (IsAscii-cons 10 (text ++ 10 ∷ []) (omega arith) (ascii text p.0)) in
+    let trims = trim_whole (10 ∷ []) text (10 ∷ []) (refl, tt) (no_space text p.0) (refl, tt) in
     let run : IsRun is_not_zero text text [] =
-    record { whole = sym (append-nil text); each = (no_zero_is text).0 (no_zeros text p.bytes); longest = tt } in
+    record { whole = sym (append-nil text); each = (no_zero_is text).0 (no_zeros text p.0); longest = tt } in
     let says : Spells (footer_text extended) text rule [] = (tt, text, inr (grind arith, ([], (text, [], run, inl (refl, (refl, refl))), refl)), grind arith) in
     let last : get_or (footer_bytes text) (length (footer_bytes text) - 1) 0 ≡ 10 =
     grind (arith, length-append, get_or-append_seam (10 ∷ text) 10 [] 0) in
@@ -250,14 +227,18 @@ module _ (extended : Bool) (text d : List ℕ) (z : Zone) (size : length d ≤ 2
   file_pieces = (_, _, first_header extended text d z, (least_parts, second_half extended text d z, grind arith, grind (arith, second_is)))
 
   file_says : IsPlain text → SaysRule extended text z.rule → IsTzFile (file_bytes extended text d z) z
-  unfolding tz_file contents indicators optional_footer
+  unfolding tz_file contents indicators optional_footer leap_bytes signed_bytes type_at type_bytes
   file_says plain says =
       let p = pieces_of extended text d z in
       let same : p.extended ≡ extended = grind arith in
-      let every = each_are (type_at p) [] z.types (types_are p z.types [] places sound.types refl) (length z.types) (omega arith) in
+      let every = each_are (type_at p) [] z.types (λ k t l. rw (record_is 6 (type_bytes d) (λ _. refl) z.types k t l)
+      ([], type_spelled d (get_or z.types k t) (places k t l) (sound.types k t l), refl)) (length z.types) (omega arith) in
       let types = rw (take_all (length z.types) z.types (omega arith)) at every in
-      let transitions = values_are (transition_at p) z.transitions (transition_is p z.transitions sound.times refl refl refl) in
-      let leaps = values_are (leap_at p) z.leaps (leap_is p z.leaps sound.leaps refl refl) in
+      let transitions = values_are (transition_at p) z.transitions (λ k d l.
+      let indexes = flat_map_single (λ (t : Transition). t.type_index) z.transitions in
+      grind (arith, record_is 8 time_bytes (λ _. refl) z.transitions k d l, sound.times k d l, get_or-map, signed_64)) in
+      let leaps = values_are (leap_at p) z.leaps (λ k d l. let entry = sound.leaps k d l in
+      rw (record_is 12 leap_bytes (λ _. refl) z.leaps k d l) (grind (arith, signed_64 _ entry.time, signed_32 _ entry.correction))) in
       let footer = footer_is extended text z.rule plain says in (
         p,
         [],
@@ -312,8 +293,7 @@ last_bytes time_size c p (_, _, (_, (i, _), (_, (t, _), (_, _, (_, _, (_, _, (_,
 
 after_fits : (v : Version) (c : Counts) (parts : Parts) (p : FilePieces) → Values (after_first_block v c parts) p → CountsFit c → CountsFit p.counts
 unfolding after_first_block first_version later_version
-after_fits One c parts p (_, _, value) fit = rw value fit
-after_fits v c parts p (h, head, (_, _, (_, _, value))) fit = rw value (header_fits _ h head)
+after_fits v c parts p h fit = grind (arith, header_fits)
 
 -- ---- names
 text_stands : (d : List ℕ) (place : ℕ) (text rest : List ℕ) → Spells designation (drop place d) text rest → StandsAt d place text
@@ -389,9 +369,6 @@ module _ (z : Zone) (some : 0 < length z.types) (fits : IsRuleOrNone z.rule) (so
   file_some h =
       let laid = laid_of z.types some (λ i d l. (sound.types i d l).name) h.room.designations h.room.names in
       (_, written_is _ (text_of_rule z.rule) (is_extended z.rule) h.room.counts laid (grind (arith, text_is)))
-
-pub one_file : (z : Zone) (a b : List ℕ) → IsWrittenFile z a → IsWrittenFile z b → a ≡ b
-one_file z a b h k = grind arith
 
 pub can_be_written : (z : Zone) (room : Room) → IsRoomOf z room → IsSpellableOrNone z.rule → IsWritable z
 can_be_written z room h text =

@@ -125,10 +125,6 @@ module _ (bytes text : List ℕ) where
   put_in : (other : List ℕ) → Ends text other → In (added bytes text) other
   put_in other h = (stands_in _ other (end_stands put_stands h)).1
 
-  -- what a text that is there ends with is there too
-  end_in : (other : List ℕ) → Ends text other → In bytes text → In bytes other
-  end_in other h l = (stands_in bytes other (end_stands (in_stands bytes text l) h)).1
-
   kept : (other : List ℕ) → In bytes other → In (with_text bytes text) other × (place_of other (with_text bytes text) ≤ place_of other bytes)
   unfolding with_text
   kept other h = grind (arith, place_kept, length-append)
@@ -242,10 +238,6 @@ module _ (last others : List ℕ) where
     unfolding before_last
     before_passed = let step = pass in grind arith
 
--- ---- a 0 byte is in designations that have bytes
-abbrev Filled : List ℕ → Type 0
-Filled bytes = (bytes ≡ []) ⊎ In bytes []
-
 -- ---- texts
 at_size : {bytes text : List ℕ} {place : ℕ} (s : StandsAt bytes place text) → length bytes ≡ place + length text + 1 + length s.after
 at_size s = grind (arith, length-append)
@@ -255,10 +247,6 @@ stands_of s = record { before = s.before; after = s.after; whole = s.whole }
 
 no_text : {bytes text : List ℕ} → Stands bytes text → Stands bytes []
 no_text {text = text} s = end_stands s (ends_nothing text)
-
--- the text at the place of a text
-text_found : (bytes text : List ℕ) → HasNoZero text → In bytes text → text_at bytes (place_of text bytes) ≡ text
-text_found bytes text none h = let s = has_text text bytes none h in grind (arith, nat_tests, drop-append_seam, front_is)
 
 -- ---- designations that have the names
 module _ (others : List ℕ) where
@@ -308,7 +296,7 @@ module _ (others : List ℕ) (m : LocalType) (sm : Served others m) where
 
   -- t is another one, and the designations are those in front of the last name
   module _ (t : LocalType) (st : Served others t) (where_t : Where t) (bytes : List ℕ) (r : Room (name_of m) sm.stands.before bytes 3)
-      (filled : Filled bytes) where
+      (filled : (bytes ≡ []) ⊎ In bytes []) where
     at_the_end : Out bytes (name_of m) → Out bytes (name_of t) → Ends (name_of m) (name_of t) → HasPlace (with_text bytes (name_of m)) t
     unfolding with_text
     at_the_end out away e =
@@ -321,7 +309,7 @@ module _ (others : List ℕ) (m : LocalType) (sm : Served others m) where
         → HasPlace (with_text bytes (name_of m)) t
     laid_place inside =
         let in_front = kept bytes (name_of m) (name_of t) in let e = ends_or_not (name_of m) (name_of t) in
-        let end = end_in bytes (name_of m) (name_of t) in
+        let end = λ (e : Ends (name_of m) (name_of t)) (l : In bytes (name_of m)). (stands_in bytes _ (end_stands (in_stands bytes _ l) e)).1 in
         let out = at_the_end in grind (arith, cases_lt, nil_from_length, ends_nothing)
 
   -- ---- all types, of which m has the greatest key
@@ -335,7 +323,7 @@ module _ (others : List ℕ) (m : LocalType) (sm : Served others m) where
         let given : All (Given (name_of m) sm.stands.before) types = λ i d l. let st = s i d l in let where_t = places i d l in grind arith in
         let p = before_passed _ _ types given in
         laid_place _ (s i d l) (places i d l) _ p.room
-        (before_keeps Filled (λ d text h. grind (arith, nat_tests, put_in, ends_nothing)) _ types (inl refl))
+        (before_keeps (λ d. (d ≡ []) ⊎ In d []) (λ d text h. grind (arith, nat_tests, put_in, ends_nothing)) _ types (inl refl))
         (p.inside (omega arith) i d l)
 
     -- the texts are in what is laid in order
@@ -372,9 +360,8 @@ have_places_decided bytes types =
     Decides-by_and _ (HasPlace bytes) (list_all (has_place bytes)) (λ t. grind (arith, nat_tests)) refl (λ _ _. refl) types
 
 -- each type has its place, and the designations are no longer than those in order
-record ArePlaced (types : List LocalType) (d : List ℕ) : Type 0 where
-  places : HavePlaces d types
-  short : length d ≤ length (laid [] types)
+abbrev ArePlaced : List LocalType → List ℕ → Type 0
+ArePlaced types d = HavePlaces d types × (length d ≤ length (laid [] types))
 
 otherwise_placed : (types : List LocalType) (texts d : List ℕ) → placed_otherwise types texts ≡ Some d → ArePlaced types d
 unfolding placed_with are_placed
@@ -400,17 +387,16 @@ next_text types texts place l = rw (drop_more texts place 0 l) refl
 -- none is placed with a text as the last
 none_with : (types : List LocalType) (texts : List ℕ) (place : ℕ) → placed_otherwise types texts ≡ None → place < length texts
     → placed_with types (text_at texts place) ≡ None
-none_with types [] place e l = grind arith
-none_with types (b ∷ bs) zero e l = grind arith
 none_with types (b ∷ bs) (suc place) e l = grind (arith, none_with types bs place)
+none_with types texts place e l = grind arith
 
 none_placed : (types : List LocalType) (last : List ℕ) → (length last ≡ 0) ⊎ (3 ≤ length last) → laid_names types ≡ None → HasNoZero last
     → In (laid [] types) last → ArePlaced types (laid last types) → ⊥
 unfolding laid_names placed_with are_placed
 none_placed types last size e whole found p =
-    let text = text_found _ last whole found in let none = none_with types (laid [] types) (place_of last (laid [] types)) in
+    let s = has_text last _ whole found in let none = none_with types (laid [] types) (place_of last (laid [] types)) in
     let every = have_places_decided (laid last types) types in
-    grind (arith, nat_tests, nil_from_length)
+    grind (arith, nat_tests, nil_from_length, drop-append_seam, front_is)
 
 pub none_laid : (types : List LocalType) (others : List ℕ) → 0 < length types → AreNames types → AreNamesIn others types → laid_names types ≡ None → ⊥
 none_laid [] others some named names none = grind arith
@@ -423,7 +409,7 @@ none_laid (t ∷ ts) others some named names none =
     let m = get_or types place t in let sm = s place t inside in
     let found = in_order_in _ m sm types s above place t inside in
     none_placed types (name_of m) sm.size.1 none sm.stands.ends found
-    (record { places = places_with _ m sm types s above; short = short_with _ m sm types s above found })
+    (places_with _ m sm types s above, short_with _ m sm types s above found)
 
 -- the designations that are laid
 abbrev pub AreLaid : List LocalType → List ℕ → Type 0
@@ -431,14 +417,12 @@ AreLaid types d = HavePlaces d types × (laid_names types ≡ Some d) × AreShor
 
 -- there are types, and each has a name
 module _ (types : List LocalType) (some : 0 < length types) (names : AreNames types) where
-  shortest : (bytes : List ℕ) → ArePlaced types bytes → AreShortest bytes types
-  shortest bytes h =
-      let named : AreNamesIn bytes types = λ i d l. let p = h.places i d l in
-      record { place = _; stands = has_text _ bytes (no_zero _ (names i d l)) p.stands; named = p.named } in
-      grind (arith, in_order_short)
-
   pub laid_is : (d : List ℕ) → laid_names types ≡ Some d → AreLaid types d
-  laid_is d e = let placed = laid_placed types d e in (placed.places, e, shortest d placed)
+  laid_is d e =
+      let placed = laid_placed types d e in
+      let named : AreNamesIn d types = λ i o l. let p = placed.0 i o l in
+      record { place = _; stands = has_text _ d (no_zero _ (names i o l)) p.stands; named = p.named } in
+      (placed.0, e, grind (arith, in_order_short))
 
   -- some designations are laid, if any have the names
   pub laid_of : (bytes : List ℕ) → AreNamesIn bytes types → AreLaid types (name_or_none (laid_names types))

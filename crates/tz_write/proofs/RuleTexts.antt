@@ -2,7 +2,7 @@
 use Rattle.std.proofs.{Common.{Decides, decimal, int_eq}, lemmas.Bool.{Decides.Decides-int_eq, le-ltb}}
 use Rattle.tz_base.{proofs.RunLaws.all_of, specs.{Grammar.{Grammar, Number, Run, Then}, Names.IsName}}
 use Rattle.tz_info.{
-  proofs.Words.{Alternate, IsAlternateRule, IsRuleDay, IsTzText, IsWithinDay, ints, is_letter, is_not_greater, neg_ℤ},
+  proofs.Words.{IsRuleDay, IsTzText, IsWithinDay, ints, is_letter, is_not_greater, neg_ℤ},
   proofs.Words.{nil_from_length, pos, trimmed, unsigned_abs, zone_of_rule, ◌+ℤ◌, ◌<ℤ◌},
   proofs.TrimLaws.{IsSpace, trim_is, trim_whole},
   proofs.ForCallers.offset_fits,
@@ -16,11 +16,11 @@ use Rattle.tz_write.{
   proofs.Words.{[], AllOf, AreInPairs, Bool, IsRule, IsRuleOrNone, List, LocalType, None, NoneFirst, Option, Some, Spells, TransitionRule, Without, Zone, ap},
   proofs.Words.{append-nil, append_assoc, arith, both_ways, colon, comma, cond, false, greater, inl, inr, is_digit, is_name_byte, length, length-append},
   proofs.Words.{less, list_all, name_of, name_or_none, nat_tests, not, refl, slash, spelled_rule, true, ℕ, ℤ, ◌%◌, ◌&&◌, ◌*◌, ◌++◌, ◌/◌, ◌<◌, ◌==◌, ◌↔◌, ◌∙◌},
-  proofs.Words.{◌∷◌, ◌≡◌, ◌≤◌, ◌⊎◌},
+  proofs.Words.{◌∷◌, ◌≡◌, ◌≤◌},
   specs.Steps.TextPieces.{has_plain_times, spelled_clock, spelled_date, spelled_day, spelled_days, spelled_dst_offset, spelled_minutes, spelled_name},
   specs.Steps.TextPieces.{spelled_offset, spelled_signed, spelled_time},
   specs.Steps.LaidFiles.footer_text,
-  specs.WrittenTexts.{AreTimesOf, CanBeSpelled, HasZoneText, IsNoPosixZone, IsOfText, IsPlainTime, IsTextTime, IsWrittenText, IsWrittenZone},
+  specs.WrittenTexts.{AreTimesOf, CanBeSpelled, HasZoneText, IsOfText, IsPlainTime, IsTextTime, IsWrittenText, IsWrittenZone},
 }
 use Rattle.tz_info.specs.TzGrammar as tz
 use Rattle.tz_info.specs.declared.rule.transition_rule.TransitionRule.TheVariants as rules
@@ -246,16 +246,9 @@ rule_named extended bytes rule h = (rule_read extended bytes rule h).named
 dst_ends_name : (std dst : ℤ) (rest : List ℕ) → IsWithinDay dst → NoneFirst is_letter (spelled_dst_offset std dst ++ (comma ∷ rest))
 dst_ends_name std dst rest h = grind (arith, nat_tests, offset_begins, by_hour (λ s. NoneFirst is_letter (s ++ (comma ∷ rest))))
 
-days_write : (extended : Bool) (a : Alternate) → IsAlternateRule a → IsTextTime extended a.start.time → IsTextTime extended a.end.time
-    → Writes (tz.days extended) (spelled_day a.start ++ (comma ∷ spelled_day a.end)) (a.start, a.end) []
-unfolding tz.days
-days_write extended a h start end =
-    writes_then (day_writes _ (grind (arith, nat_tests)) extended a.start h.start_day start)
-    (writes_byte refl (writes_last (day_writes [] (tt, tt, tt) extended a.end h.end_day end) (refl, refl)))
-
 rule_writes : (extended : Bool) (rule : TransitionRule) → IsRule rule → CanBeSpelled rule → AreTimesOf extended rule
     → Writes (tz.text extended) (spelled_rule rule) rule []
-unfolding tz.text tz.rule tz.fixed tz.alternate tz.named tz.end
+unfolding tz.text tz.rule tz.fixed tz.alternate tz.named tz.days tz.end
 rule_writes extended (rules.Fixed t) fits ((name, h), w) times =
     rw h.named (writes_here (writes_then (name_writes name (spelled_offset t.offset ++ []) h.allowed (grind (arith, nat_tests, offset_begins)))
     (writes_last (offset_writes [] (tt, tt, tt) t.offset w) (grind arith))))
@@ -270,7 +263,9 @@ rule_writes extended (rules.Alternate a) fits ((m, s), (n, d)) (start, end) =
     (writes_here
     (writes_then (name_writes n _ d.allowed (grind (arith, append_assoc, dst_ends_name)))
     (rw (← append_assoc (spelled_dst_offset std dst) (comma ∷ []) _) (writes_then (dst_offset_writes std dst _ fits.within.dst_offset)
-    (writes_last (days_write _ a fits start end) (tt, [], inl (refl, (refl, refl)), grind arith))))))))))
+    (writes_last (writes_then (day_writes _ (grind (arith, nat_tests)) extended a.start fits.start_day start)
+    (writes_byte refl (writes_last (day_writes [] (tt, tt, tt) extended a.end fits.end_day end) (refl, refl))))
+    (tt, [], inl (refl, (refl, refl)), grind arith))))))))))
 
 -- ---- rules
 -- it begins with a letter or `<`
@@ -282,16 +277,13 @@ text_once rule s t d e p q = grind arith
 
 -- a rule that a zone can have
 module _ (rule : TransitionRule) (fits : IsRule rule) where
-  pub times_extended : AreTimesOf true rule
-  times_extended = grind (arith, ints, nat_tests)
-
   -- some text spells it
   module _ (named : CanBeSpelled rule) where
     pub rule_spelled : (extended : Bool) → AreTimesOf extended rule → IsTzText extended (spelled_rule rule) rule
     rule_spelled extended times = grind (arith, append-nil, rule_writes)
 
     pub text_are : AreTextBytes (spelled_rule rule) × AreInPairs (spelled_rule rule)
-    text_are = grind (arith, append-nil, rule_writes true rule fits named times_extended)
+    text_are = grind (arith, append-nil, rule_writes true rule fits named (grind (arith, ints, nat_tests)))
 
     -- the text has extensions if one without doesn't have room for the times
     pub written : (plain : Bool) → ((plain ≡ true) ↔ AreTimesOf false rule) → IsWrittenText rule (spelled_rule rule) (not plain)
@@ -322,10 +314,6 @@ module _ (after : List ℕ) (space : IsSpace after) where
   pairs_before [] h = tt
   pairs_before (b ∷ bs) h = grind (arith, nat_tests, pairs_before bs)
 
--- nothing at both ends, or a longer text
-trimmed_or_longer : (before text after : List ℕ) → (before ++ (text ++ after) ≡ text) ⊎ (length text < length (before ++ (text ++ after)))
-trimmed_or_longer before text after = let nothing = append-nil text in grind (arith, length-append, nil_from_length)
-
 pub written_zone : (types : List LocalType) (rule : Option TransitionRule) → IsRuleOrNone rule → HasZoneText types rule
     → IsWrittenZone (zone_of_rule types rule) (footer_text rule)
 written_zone types None fits h = grind arith
@@ -340,15 +328,8 @@ written_zone types (Some rule) fits h =
           let s : IsTzText false (trimmed other) rule = grind arith in
           let (before, after, whole, _, space) = trim_is other in
           let best = (rule_read false _ rule s).best (pairs_before after space (trimmed other) (pairs_rest before _ (rw whole at pairs))) in
-          grind (arith, trimmed_or_longer);
+          grind (arith, length-append, nil_from_length, append-nil);
     }
-
--- ---- zones that no text gives
-pub no_zone_text : (types : List LocalType) (rule : Option TransitionRule) → ¬ (HasZoneText types rule) → IsNoPosixZone (zone_of_rule types rule)
-no_zone_text types rule none text gives = grind (arith, rule_read)
 
 pub zone_text_some : (z : Zone) → IsRuleOrNone z.rule → IsOfText z → (text : List ℕ) × IsWrittenZone z text
 zone_text_some z fits h = let text = written_zone z.types z.rule fits h.rule in (footer_text z.rule, grind arith)
-
-pub zone_text_once : (z : Zone) (s t : List ℕ) → IsWrittenZone z s → IsWrittenZone z t → s ≡ t
-zone_text_once z s t p q = grind arith

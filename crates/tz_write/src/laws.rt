@@ -27,7 +27,7 @@ pub fn one_written_text()
 
 /// A string gives a zone if and only if the zone has only its rule, which a string without
 /// extensions spells, or is UTC. One string is written for it then.
-#[tactic(auto, using(crate::proofs::RuleTexts::rule_read, crate::proofs::RuleTexts::zone_text_once, crate::proofs::RuleTexts::zone_text_some))]
+#[tactic(auto, using(crate::proofs::RuleTexts::rule_read, crate::proofs::RuleTexts::zone_text_some))]
 pub fn one_zone_text()
     ensures given { (text : List ℕ) (z : Zone) → IsPosixZone text z → IsOfText z }
     ensures some { (z : Zone) → IsRuleOrNone z.rule → IsOfText z

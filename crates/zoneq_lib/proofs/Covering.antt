@@ -1,24 +1,25 @@
 -- Every line has an answer, so that answers to a front of an input can be carried on to its end.
-use Rattle.zoneq_lib.proofs.CitedWords.{All-head, All-nil, All-tail, Answered, AnswersLast, AnswersLine, AnswersLines, AnswersQuery, Asks, BadLine, Choice, Err}
+use Rattle.zoneq_lib.proofs.CitedWords.{All-head, All-nil, All-tail, Answered, AnswersLast, AnswersLine, AnswersLines, AnswersQuery, Asks, Choice}
 use Rattle.zoneq_lib.proofs.CitedWords.{HasNoNewline, IsBadLine, IsDateOf, IsDayInRange, IsInRange, IsRuleOrNone, IsSplit, IsValid, IsYearInRange, List, None}
-use Rattle.zoneq_lib.proofs.CitedWords.{Ok, Option, Query, Reading, Result, Some, Spells, Zone, append-nil, append_assoc, arith, at_query, calendar_day}
-use Rattle.zoneq_lib.proofs.CitedWords.{data_query, days_in_month, ended_lines, false, file_rule_fits, inl, inr, integer, is_leap, length, length-append}
+use Rattle.zoneq_lib.proofs.CitedWords.{Option, Query, Reading, Some, Spells, Zone, append-nil, append_assoc, arith, at_query, calendar_day, data_query}
+use Rattle.zoneq_lib.proofs.CitedWords.{days_in_month, ended_lines, false, file_rule_fits, inl, inr, integer, is_leap, lawful, length, length-append}
 use Rattle.zoneq_lib.proofs.CitedWords.{local_time, nat_le, next, posix_zone_valid, query_line, question, refl, resolve_query, show_query, subst, sym}
 use Rattle.zoneq_lib.proofs.CitedWords.{text_fault_or_zone, true, type_decided, wall_decided, wall_query, ℕ, ℤ, [], ◌&&◌, ◌++◌, ◌<◌, ◌∷◌, ◌≡◌, ◌≢◌, ◌≤◌, ◌⊎◌}
-use Rattle.zoneq_lib.proofs.{Joining.{answers_all, from_start, join}, ScanLaws.{not_scanned, scanned}, Showing.{resolve_covered, show_covered}}
-use Rattle.zoneq_lib.specs.{Questions.{At, Data, Resolve, Show, Text, Wall, text_query}, Runs.{AnswersBefore, BeginsAnswers}, Steps.LineReading.{scan}}
+use Rattle.zoneq_lib.proofs.{Joining.{answers_all, from_start, join}, Showing.{resolve_covered, show_covered}}
+use Rattle.zoneq_lib.specs.{Questions.{At, Data, Resolve, Show, Text, Wall, text_query}, Runs.{AnswersBefore, BeginsAnswers}}
 use Rattle.std.proofs.lemmas.Bool.{cases_eq}
-use Rattle.tz_base.proofs.Decided.{either}
+use Rattle.tz_base.proofs.Decided.{apart, either}
 use Rattle.tz_info.proofs.PosixLaws.{posix_law}
 use Rattle.naive_base.{proofs.ForCallers.{date_in_years}, specs.declared.date.NaiveDate.{NaiveDate}}
 use Rattle.tz_base.specs.declared.error.Error.TheVariants as errors
 
 -- ---- each line
-pub asks_or_bad : (bytes : List ℕ) (r : Result (Query × List ℕ) BadLine) → scan query_line bytes ≡ r
-    → ((query : Query) × Asks bytes query) ⊎ IsBadLine bytes
+asks_or_bad : (bytes : List ℕ) → ((query : Query) × Asks bytes query) ⊎ IsBadLine bytes
 unfolding query_line
-asks_or_bad bytes (Ok (query, rest)) e = let asked = scanned query_line bytes query rest e in grind arith
-asks_or_bad bytes (Err fault) e = inr (λ query. not_scanned query_line bytes fault e query [])
+asks_or_bad bytes = let law = lawful query_line bytes in elim (either law) [
+  | inl asked ↦ inl (asked.0.0, grind arith)
+  | inr fault ↦ inr (λ query asks. apart law (query, []) fault.0 asks fault.1)
+]
 
 -- ---- dates and times
 date_in_range : (bytes rest : List ℕ) (day : ℤ) → Spells calendar_day bytes day rest → IsDayInRange day
@@ -77,7 +78,7 @@ query_covered (Some zone) line (Show seconds nanos) given asks =
 query_covered None line query given asks = grind arith
 
 line_covered : (z : Option Zone) (line : List ℕ) → IsGiven z → (answer : List ℕ) × AnswersLine z line answer z
-line_covered z line given = elim (asks_or_bad line _ refl) [
+line_covered z line given = elim (asks_or_bad line) [
   | inl asked ↦ let told = query_covered z line asked.0 given asked.1 in (told.0, inl (asked.0, asked.1, told.1))
   | inr bad ↦ (_, inr (bad, refl, refl))
 ]

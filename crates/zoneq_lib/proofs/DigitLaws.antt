@@ -1,6 +1,6 @@
 -- The number that digits spell, and the bytes that hex digits do.
-use Rattle.hex.{proofs.HexLemmas.{decode_of-ok}, specs.Hex.{decode_of, decode_pairs, is_hex_digit, pair_value}}
-use Rattle.std.{proofs.lemmas.Str.{IsUtf8-from_is_utf8, is_utf8-from_IsUtf8}, specs.Char.{IsNotAsciiDigit, digit_value}}
+use Rattle.hex.{proofs.HexLemmas.{decode_of-ok}, specs.Hex.{decode_of, decode_pairs, is_hex_digit}}
+use Rattle.std.{proofs.lemmas.Str.{IsUtf8-from_is_utf8, is_utf8-from_IsUtf8}, specs.Char.{IsNotAsciiDigit}}
 use Rattle.zoneq_lib.proofs.CitedWords.{All-head, All-tail, AllPass, Err, List, Number, Ok, after_run, arith, drop, drop_all, drop_more, false, get_or, int_at}
 use Rattle.zoneq_lib.proofs.CitedWords.{is_digit, length, nat_tests, nil_from_length, run_of, true, value_from, ℕ, [], ◌%◌, ◌*◌, ◌+◌, ◌-◌, ◌<◌, ◌∷◌, ◌≡◌, ◌≤◌}
 use Rattle.zoneq_lib.specs.{Hex.{bytes_of}, Steps.LineReading.{scan}, declared.bad_line.BadLine.TheVariants.{Hopeless, Unfinished}}
@@ -39,15 +39,12 @@ pub ruleset number_read = (no_bytes, no_number, number_ends, number_stops, drop_
 pub ruleset utf8_tested = (IsUtf8-from_is_utf8, is_utf8-from_IsUtf8)
 
 -- ---- the crate `hex`
-pair_read : (high low i : ℕ) → is_hex_digit high ≡ true → is_hex_digit low ≡ true → pair_value high low i ≡ Ok (digit_value high * 16 + digit_value low)
-pair_read high low i h l = grind (arith, nat_tests)
-
 pairs_read : (i : ℕ) (digits : List ℕ) → length digits % 2 ≡ 0 → AllPass is_hex_digit digits → decode_pairs i digits ≡ Ok (bytes_of digits)
 unfolding decode_pairs
 pairs_read i (high ∷ low ∷ rest) even all =
     let P = λ (c : ℕ). is_hex_digit c ≡ true in
     let others = All-tail P high (low ∷ rest) all in let a = All-head P high (low ∷ rest) all in let b = All-head P low rest others in
-    let more = pairs_read (i + 2) rest (omega (arith, even)) (All-tail P low rest others) in grind (arith, pair_read)
+    let more = pairs_read (i + 2) rest (omega (arith, even)) (All-tail P low rest others) in grind (arith, nat_tests)
 pairs_read i digits even all = grind arith
 
 -- what is decoded are the bytes that the digits spell

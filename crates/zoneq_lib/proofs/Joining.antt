@@ -1,6 +1,6 @@
 -- How the answers to the parts of an input make the answers to the whole.
 use Rattle.std.proofs.lemmas.List.{map-append, Concat.{flat_map-append}}
-use Rattle.zoneq_lib.proofs.CitedWords.{All-append, All-nil, Answered, Answers, AnswersAfter, AnswersLast, AnswersLine, AnswersLines, HasNoNewline, IsBadLine}
+use Rattle.zoneq_lib.proofs.CitedWords.{All-append, All-nil, Answered, Answers, AnswersAfter, AnswersLast, AnswersLine, AnswersLines, HasNoNewline}
 use Rattle.zoneq_lib.proofs.CitedWords.{IsKeptFor, IsSplit, List, None, Option, Zone, append-nil, append_assoc, arith, codes, ended_lines}
 use Rattle.zoneq_lib.proofs.{CitedWords.{inl, inr, refl, without_return, ℕ, [], ◌++◌, ◌∷◌, ◌≢◌}, HopelessLaws.{more_hopeless}}
 
@@ -9,11 +9,6 @@ lines_join : (z : Option Zone) (lines : List (List ℕ)) (o : List ℕ) (m : Opt
     → AnswersLines z lines o m → AnswersLines m more p a → AnswersLines z (lines ++ more) (o ++ p) a
 lines_join z [] o m more p a h k = grind arith
 lines_join z (l ∷ lines) o m more p a h k = grind (arith, lines_join h.1 lines h.2 m more p a h.4 k, append_assoc (h.0 ++ codes "\n") h.2 p)
-
--- a bad line is answered as each other
-same_answer : (z : Option Zone) (line other answer : List ℕ) (after : Option Zone) → IsBadLine line → IsBadLine other → AnswersLine z line answer after
-    → AnswersLine z other answer after
-same_answer z line other answer after bad bad' h = grind arith
 
 -- nothing is taken yet
 pub answered_none : (z : Option Zone) (b : List ℕ) → HasNoNewline b → Answered z b [] [] z b
@@ -33,7 +28,7 @@ module _ (z : Option Zone) (b bytes : List ℕ) (h : HasNoNewline bytes) where
     each = λ front none begun.
         let cut : IsSplit (front ++ (bytes ++ codes "\n")) ((front ++ bytes) ∷ []) [] =
         grind (arith, append-nil, append_assoc, All-nil, All-append (λ c. c ≢ 10) front bytes none h) in
-        let line : AnswersLine z (without_return (front ++ bytes)) answer next = grind (arith, same_answer) in
+        let line : AnswersLine z (without_return (front ++ bytes)) answer next = grind arith in
         grind (arith, append-nil);
   }
 
@@ -56,7 +51,7 @@ from_start s = s.each [] (All-nil _) (inl refl)
 last_answer : (z : Option Zone) (r front last : List ℕ) → IsKeptFor r front → AnswersLast z r last → AnswersLast z front last
 last_answer z r front last (inl same) h = grind arith
 last_answer z (c ∷ r) (d ∷ front) last (inr both) h =
-    (h.0, h.1, same_answer z (c ∷ r) (d ∷ front) h.0 h.1 (rw append-nil at (both.1.whole [])) (rw append-nil at (both.0.whole [])) h.2, h.3)
+    let kept = rw append-nil at (both.1.whole []) in let begun = rw append-nil at (both.0.whole []) in grind arith
 last_answer z r front last both h = grind arith
 
 all_answered : (input o : List ℕ) (z : Option Zone) (pieces : List (List ℕ)) (front last : List ℕ) → IsSplit input pieces front

@@ -1,42 +1,29 @@
 -- Every instant that is asked for has an answer.
 use Rattle.zoneq_lib.proofs.CitedWords.{All-cons, All-head, All-tail, Choice, IsInRange, IsResolved, IsRuleOrNone, IsValid, List, LocalType, Reading, Some}
-use Rattle.zoneq_lib.proofs.CitedWords.{Zone, Zoned, arith, behind, in_range_or_not, inl, inr, ints, of_secs, refl, ℕ, ℤ, [], ◌-ℤ◌, ◌∷◌, ◌≡◌, ◌⊎◌}
+use Rattle.zoneq_lib.proofs.CitedWords.{Zone, Zoned, arith, behind, in_range_or_not, inl, inr, ints, of_secs, refl, ℕ, ℤ, [], ◌-ℤ◌, ◌∷◌, ◌⊎◌}
 use Rattle.zoneq_lib.specs.Answers.{AnswersResolve, AnswersShow, shown_date_time}
 use Rattle.zoned_ref.proofs.ForCallers.{choice_covered, zone_has_offsets}
-use Rattle.zoned_ref.proofs.Words.{All, AreOffsetsOf, IsNarrow, IsWide, IsWithinDay, Law, Meaning, in_seconds, map_of, rule_types}
-use Rattle.zoned_time.specs.Stamps.{IsAtWhere}
+use Rattle.zoned_ref.proofs.Words.{All, AreOffsetsOf, IsNarrow, IsWide, IsWithinDay, Law, Meaning, in_seconds, rule_types}
 use Rattle.naive_base.specs.Stamp.{IsStamp}
-use Rattle.offset_core.specs.declared.local_result.LocalResult.{LocalResult, TheVariants.{Single}}
-
-within_or_not : (k : ℤ) → IsWithinDay k ⊎ (IsWithinDay k → ⊥)
-within_or_not k = grind arith
 
 all_or_not : (types : List LocalType) → All (λ t. IsWithinDay t.offset) types ⊎ (All (λ t. IsWithinDay t.offset) types → ⊥)
 all_or_not [] = grind arith
 all_or_not (t ∷ types) =
     let within = λ (s : LocalType). IsWithinDay s.offset in
-    let one = within_or_not t.offset in let all = all_or_not types in grind (arith, All-cons within t types, All-head within t types, All-tail within t types)
+    let all = all_or_not types in grind (arith, All-cons within t types, All-head within t types, All-tail within t types)
 
 narrow_or_not : (z : Zone) → IsNarrow z ⊎ (IsNarrow z → ⊥)
 narrow_or_not z = grind (arith, all_or_not z.types, all_or_not (rule_types z.rule))
 
-stamp_or_not : (r : Reading) → IsStamp r ⊎ (IsStamp r → ⊥)
-stamp_or_not r = grind (arith, in_range_or_not r.s)
-
 pub show_covered : (z : Zone) (seconds : ℤ) (nanos : ℕ) → IsValid z → IsRuleOrNone z.rule → (answer : List ℕ) × AnswersShow (Some z) seconds nanos answer
-show_covered z seconds nanos valid rule = elim (narrow_or_not z) [
-  | inl narrow ↦ elim (stamp_or_not (of_secs seconds nanos)) [
+show_covered z seconds nanos valid rule = let utc = of_secs seconds nanos in elim (narrow_or_not z) [
+  | inl narrow ↦ let stamped : IsStamp utc ⊎ (IsStamp utc → ⊥) = grind (arith, in_range_or_not utc.s) in elim stamped [
     | inl stamp ↦
         let has = zone_has_offsets z valid rule seconds (grind arith) in (_, inr (inr (narrow, stamp, (_, has.1.in_force, refl))))
     | inr none ↦ (_, inr (inl (narrow, none, refl)))
   ]
   | inr wide ↦ (_, inl (wide, refl))
 ]
-
--- no instant is given but of a timestamp
-pub no_stamp : {O D : Type 0} {m : Meaning O} (law : Law m) (p : Type 0) (r : Reading) (f : D → Zoned O) (given : LocalResult D)
-    → ((d : D) → given ≡ Single d → ⊥) → IsAtWhere law p r (map_of f given) → p → ⊥
-no_stamp law p r f given other h k = grind arith
 
 pub resolve_covered : (z : Zone) (l : Reading) (choice : Choice) → IsValid z → IsRuleOrNone z.rule → IsInRange l.s
     → (answer : List ℕ) × AnswersResolve (Some z) l choice answer

@@ -2,16 +2,14 @@
 use Rattle.zoneq_lib.proofs.CitedWords.{Answered, Answers, AnswersAtEnd, AnswersIn, AnswersLine, Appends, Bool, Consumes, Err, HasNoNewline, IfErr, IsAtEnd}
 use Rattle.zoneq_lib.proofs.CitedWords.{IsKeptFor, Keeps, List, MatchResult, None, Ok, OnOk, Option, Result, StopsAtEnd, StopsIn, StopsWith, Zone, append-nil}
 use Rattle.zoneq_lib.proofs.CitedWords.{append_assoc, arith, codes, drop, false, inl, inr, length, length-append, refl, sym, take, take-add, take-append-drop}
-use Rattle.zoneq_lib.proofs.{CitedWords.{true, without_return, ℕ, [], ◌++◌, ◌+◌, ◌<◌, ◌∷◌, ◌≡◌}, Covering.{answers_before, begins_answers}}
+use Rattle.zoneq_lib.proofs.{CitedWords.{true, without_return, ℕ, [], ◌++◌, ◌<◌, ◌∷◌, ◌≡◌}, Covering.{answers_before, begins_answers}}
 use Rattle.zoneq_lib.{proofs.Joining.{answered_join, answered_line, answered_more, answers_all, from_start}, specs.Runs.{WritesUnlessFailed}}
 use Rattle.zoneq_lib.specs.{Steps.Outcomes.{IsSentOf, Replies, StopsAt}, declared.run_error.RunError.{RunError}}
 use Rattle.std.proofs.KnownBytes.{Appends-kept, Appends-trans, Consumes-trans}
 use Rattle.zoneq_lib.specs.declared.run_error.RunError.TheVariants as errors
 
 -- a write of n more of the bytes
-pub appends_more : (a b c : Option (List ℕ)) (bytes : List ℕ) (i n : ℕ) → Appends a b (take i bytes) → Appends b c (take n (drop i bytes))
-    → Appends a c (take (i + n) bytes)
-appends_more a b c bytes i n h k = grind (arith, take-add i n bytes, append_assoc)
+pub ruleset appends_more = (take-add, append_assoc)
 
 -- an answer of which a part was written
 pub reply_stops : (f : Bool) (a c : Option (List ℕ)) (z : Option Zone) (line bytes answer : List ℕ) (after : Option Zone) (r : Result (Unit {0}) RunError)

@@ -14,12 +14,10 @@ module _ (before : Option Zone) (bytes answer : List ℕ) (after : Option Zone) 
   pub text_answered : (read : Result TimeZone Error) → IfOk read (IsPosixZone bytes) → IfErr read (λ e. IsOutOfMemory e ⊎ IsPosixFault bytes e)
       → IfErr read (λ e. IsOutOfMemory e → (z : Zone) × IsPosixZone bytes z) → Sets before read answer after → AnswersText before bytes answer after
   text_answered (Ok z) ok err there sets = grind arith
-  text_answered (Err e) ok err there sets = inr (
-    e,
-    elim err [ inl memory ↦ inl (memory, there memory) | inr fault ↦ inr (fault, λ z. text_fault_or_zone bytes e z fault) ],
-    sets.0,
-    sets.1,
-  )
+  text_answered (Err e) ok err there sets = elim err [
+    | inl memory ↦ inr (e, inl (memory, there memory), sets.0, sets.1)
+    | inr fault ↦ inr (e, inr (fault, λ z. text_fault_or_zone bytes e z fault), sets.0, sets.1)
+  ]
 
   pub file_answered : (read : Result TimeZone Error) → IfOk read (λ z. IsTzFile bytes z × IsValid z) → IfErr read (IsZoneFault bytes)
       → Sets before read answer after → AnswersFile before bytes answer after

@@ -24,7 +24,7 @@ pub fn versions()
 {}
 
 /// A zone has one file that is written, if it can be written.
-#[tactic(auto, using(crate::proofs::FileWritten::file_some, crate::proofs::FileWritten::one_file))]
+#[tactic(auto, using(crate::proofs::FileWritten::file_some))]
 pub fn one_file()
     ensures some { (z : Zone) → IsValid z → IsRuleOrNone z.rule → IsSound z → IsWritable z
         → (bytes : List ℕ) × IsWrittenFile z bytes }

@@ -1,4 +1,4 @@
-use Rattle.zoneq_lib.proofs.{CitedWords.{arith, codes, on_ok_weaker, to_z-of_z}, Showing.{no_stamp}}
+use Rattle.zoneq_lib.proofs.CitedWords.{arith, codes, on_ok_weaker, to_z-of_z}
 use Rattle.zoneq_lib.proofs.answer.tell_instant.Goals as goal
 
 pub returns-in_default : goal.returns-in_default
@@ -14,6 +14,6 @@ returns-in-Single c = grind (arith, to_z-of_z)
 pub returns-in_default-timestamp_opt : goal.returns-in_default-timestamp_opt
 returns-in_default-timestamp_opt c =
     let fits = c.ranges.seconds in
-    let none = no_stamp _ _ _ _ c.timestamp_opt.result c.in_default-timestamp_opt.not-Single (simp to_z-of_z at c.timestamp_opt.ensures) in
+    let given = simp to_z-of_z at c.timestamp_opt.ensures in let other = c.in_default-timestamp_opt.not-Single in
     rw c.in-Some.is (on_ok_weaker c.writeln-in_default-timestamp_opt.result (λ bytes. (codes "out of range", bytes, grind arith))
     c.writeln-in_default-timestamp_opt.ensures.bytes)
