@@ -1,5 +1,6 @@
 -- Answers to a column's times: by a lookup, and by what is kept of a stretch.
-use Rattle.zoned_ffi.specs.{Columns.{IsInstantOf, IsInstantTaken, IsRowNumber, second_holding}, Steps.KeptTimes.{IsKeptOf, LieWithin, IsStop}}
+use Rattle.zoned_ffi.specs.Columns.{IsInstantOf, IsInstantTaken, IsRowNumber, second_holding}
+use Rattle.zoned_ffi.specs.Steps.KeptTimes.{Ends, IsIn, IsKept, IsKeptOf, LieWithin, IsStop, stretch_at}
 use Rattle.zoned_ffi.specs.{Units.{IsCounted, IsLocal, IsWithout, uncounted}, declared.choice.Missing.{Missing}}
 use Rattle.zoned_ffi.specs.declared.column.{Question.{Question}, Stop.{Stop}, Way.TheVariants.{ToInstants}}
 use Rattle.zoned_ffi.{specs.declared.{column.Way.TheVariants.{ToLocal}, resolved.Taken.TheVariants.{GapEnd, InForce, Shifted}}, proofs.Words.{All-contains}}
@@ -7,7 +8,8 @@ use Rattle.zoned_ffi.proofs.Words.{AreKeptTimes, Choice, Fits64, IsGreatest, IsI
 use Rattle.zoned_ffi.proofs.Words.{List, LocalType, MatchOption, None, OffsetStretch, Option, Shows, Some, Taken, TypeAt, Unit, Zone, ap, arith, first_second}
 use Rattle.zoned_ffi.proofs.Words.{floor_div, floors, get_or, inl, ints, neg_ℤ, offsets, per_second, pos, refl, subst, taken_instant, ℕ, ℤ, ◌*ℤ◌, ◌+ℤ◌, ◌+◌}
 use Rattle.zoned_ffi.proofs.{Words.{◌-ℤ◌, ◌<ℤ◌, ◌≡◌, ◌≤ℤ◌, drop, ◌∙◌, ◌≤◌}, Slices.{same_after}, Resolving.{none_is, taken_once}}
-use Rattle.std.proofs.Common.{bit_or}
+use Rattle.std.proofs.{Common.{bit_or, ◌<◌}, lemmas.List.{get_or-replicate}}
+use Rattle.std.specs.Prelude.{replicate}
 use lib.Bits.{and_le_l, and_le_r, or_add_and}
 use Rattle.tz_info.proofs.{ExtremeLaws.{at_least_least, at_most_greatest}, ForCallers.{type_once}}
 
@@ -18,12 +20,22 @@ abbrev pub greatest : ℤ
 greatest = pos 9_223_372_036_854_775_807
 
 -- the times between two bounds that can be counted, also with `add` more
-pub lie_within : (from until add : ℤ) (k : Kept) → from ≤ℤ k.low → least ≤ℤ k.low → (least -ℤ add) ≤ℤ k.low → k.high ≤ℤ until → k.high ≤ℤ greatest
-    → k.high ≤ℤ (greatest -ℤ add) → k.add ≡ add → LieWithin from until add k
-lie_within from until add k a b d e f g same = record {
-  same = same;
-  each = λ x low high. (omega (arith, ints), omega (arith, ints), (λ none. omega (arith, ints)), (omega (arith, ints), λ none. omega (arith, ints)));
-}
+pub lie_within : (from until low high add : ℤ) (k : Kept) → k.low ≡ low → pos k.length ≡ high -ℤ low → k.add ≡ add → from ≤ℤ low → least ≤ℤ low
+    → (least -ℤ add) ≤ℤ low → high ≤ℤ until → high ≤ℤ greatest → high ≤ℤ (greatest -ℤ add) → LieWithin from until add k
+lie_within from until low high add k begin length same a b d e f g =
+    let end : (k.low +ℤ pos k.length) ≡ high = omega (arith, ints) in
+    record {
+      same = same;
+      ends = rw end f;
+      each = λ x (since, before).
+          (omega (arith, ints), omega (arith, ints), (λ none. omega (arith, ints)), (omega (arith, ints), λ none. omega (arith, ints)));
+    }
+
+-- one stretch at each place
+pub same_at : (q : Question) (low add : ℤ) (length i : ℕ) → i < 258 → IsKept q (record { low = low; length = length; add = add })
+    → IsKept q (stretch_at (record { lows = replicate 258 low; lengths = replicate 258 length; adds = replicate 258 add }) i)
+same_at q low add length i below kept =
+    rw (get_or-replicate 258 i low (pos 0) below, get_or-replicate 258 i length 0 below, get_or-replicate 258 i add (pos 0) below) kept
 
 -- the bits that are set in one of two numbers make as much as each
 pub or_ge_l : (a b : ℕ) → a ≤ bit_or a b
@@ -34,7 +46,7 @@ or_ge_r a b = let sum = or_add_and a b in let less = and_le_l a b in omega arith
 
 -- the stretch has one row more
 pub within_more : (times : List ℤ) (from row : ℕ) (k : Kept) → AreKeptTimes times from row k
-    → (k.low ≤ℤ get_or times row (pos 0)) × (get_or times row (pos 0) <ℤ k.high) → AreKeptTimes times from (row + 1) k
+    → IsIn k (get_or times row (pos 0)) → AreKeptTimes times from (row + 1) k
 within_more times from row k before this i since below = grind arith
 
 -- a local time so far inside a stretch that by each offset of the zone its second lies in it: only the second by the stretch's offset shows it
@@ -79,10 +91,13 @@ module _ (z : Zone) (unit : Unit) where
   pub instants_kept : (s : OffsetStretch) (from until add : ℤ) (k : Kept) → IsOffsetStretch z s
       → from ≡ s.from *ℤ pos (per_second unit) → until ≡ s.until *ℤ pos (per_second unit) → add ≡ s.offset *ℤ pos (per_second unit)
       → LieWithin from until add k → IsKeptOf z unit ToLocal k
-  instants_kept s from until add k stretch a b d within = λ x low high.
-      let at = within.each x low high in
-      let found = stretch (floor_div x (per_second unit)) (grind (arith, ints, floors)) (grind (arith, ints, floors)) in
-      grind arith
+  instants_kept s from until add k stretch a b d within = record {
+    ends = within.ends;
+    each = λ x is.
+        let at = within.each x is in
+        let found = stretch (floor_div x (per_second unit)) (grind (arith, ints, floors)) (grind (arith, ints, floors)) in
+        grind arith;
+  }
 
   -- and to local times, by a choice
   module _ (choice : Choice) where
@@ -93,18 +108,21 @@ module _ (z : Zone) (unit : Unit) where
         → f ≡ first_second *ℤ pos (per_second unit) → e ≡ pos 8_210_266_876_800 *ℤ pos (per_second unit) → add ≡ neg_ℤ (s.offset *ℤ pos (per_second unit))
         → (p +ℤ q) ≤ℤ from → f ≤ℤ from → until ≤ℤ (r +ℤ t) → until ≤ℤ e → LieWithin from until add k → IsKeptOf z unit (ToInstants choice m) k
     local_times_kept m s low high p q r t f e from until add k stretch fits_from fits_until is_low is_high ep eq er et ef ee ea a b c d within =
-        λ x since before.
-        let at = within.each x since before in
-        let local = floor_div x (per_second unit) in
-        let above = floor_low x (s.from +ℤ high) (grind (arith, ints)) in
-        let below = floor_high x (s.until +ℤ low) (grind (arith, ints)) in
-        let found = once_shown z s low high local stretch fits_from fits_until is_low is_high above below in
-        let first = floor_low x first_second (grind (arith, ints)) in
-        let end = floor_high x (pos 8_210_266_876_800) (grind (arith, ints)) in
-        let counted : IsCounted (x +ℤ k.add) = rw within.same at.3 in
-        let less : (x +ℤ neg_ℤ (s.offset *ℤ pos (per_second unit))) ≡ x -ℤ (s.offset *ℤ pos (per_second unit)) = omega (arith, ints) in
-        let taken = IsInstantTaken.by_offset found.0 (taken_once z local choice found.0 found.1) cc in
-        (counted, at.2, inl (record { in_range = (first, omega (arith, ints)); taken = taken; counted = counted }))
+        record {
+          ends = within.ends;
+          each = λ x is.
+              let at = within.each x is in
+              let local = floor_div x (per_second unit) in
+              let above = floor_low x (s.from +ℤ high) (grind (arith, ints)) in
+              let below = floor_high x (s.until +ℤ low) (grind (arith, ints)) in
+              let found = once_shown z s low high local stretch fits_from fits_until is_low is_high above below in
+              let first = floor_low x first_second (grind (arith, ints)) in
+              let end = floor_high x (pos 8_210_266_876_800) (grind (arith, ints)) in
+              let counted : IsCounted (x +ℤ k.add) = rw within.same at.3 in
+              let less : (x +ℤ neg_ℤ (s.offset *ℤ pos (per_second unit))) ≡ x -ℤ (s.offset *ℤ pos (per_second unit)) = omega (arith, ints) in
+              let taken = IsInstantTaken.by_offset found.0 (taken_once z local choice found.0 found.1) cc in
+              (counted, at.2, inl (record { in_range = (first, omega (arith, ints)); taken = taken; counted = counted }));
+        }
 
     -- the instant by what is taken
     taken_gives : (local : ℤ) (taken : Taken) → IsTakenAs z (second_holding unit local) choice taken

@@ -11,6 +11,7 @@ mod kept;
 mod pace;
 mod row;
 mod short;
+mod stretches;
 mod table;
 
 use crate::choice::{Choice, Missing};
@@ -18,10 +19,10 @@ use crate::refusal::{NO_LOCAL_TIME, OTHER_SIZE};
 use crate::unit::Unit;
 use crate::whole_second::WholeSecond;
 use block::{write_by_table, write_run};
-use kept::Kept;
 use pace::Pace;
 use short::write_short;
-use table::{STRETCHES, Table};
+use stretches::Stretches;
+use table::Table;
 use tz_info::TimeZone;
 
 /// No time: the value of a missing time in a column.
@@ -133,7 +134,7 @@ fn write_long(question: Question, times: &[i64], answers: &mut [i64], start: usi
         (λ s. (start ≤ s.row) × IsStop question.entry times.now answers.old answers.new s) }
 {
     let middle = middle_of_all(&sample(times));
-    let mut stretches = [Kept::none(question); STRETCHES];
+    let mut stretches = Stretches::none(question);
     let mut table = Table::none_around(question, middle);
     table.keep_first(question, &mut stretches, middle);
     let mut pace = Pace::new();

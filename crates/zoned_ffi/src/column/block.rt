@@ -1,11 +1,12 @@
 //! Rows that follow one another, answered together.
 
-ghost use Rattle.std.specs.Prelude.{◌≡◌, ◌≤◌, ◌<◌, ◌<ℤ◌, ◌+◌, drop, length, not, take, IsTrue, MatchOption};
-ghost use Rattle.zoned_ffi.specs.Steps.KeptTimes.{AreKept, AreKeptTimes, AreWritten, IsKept, IsStop};
+ghost use Rattle.std.specs.Prelude.{◌≡◌, ◌≤◌, ◌<◌, ◌+◌, drop, length, not, take, IsTrue, MatchOption};
+ghost use Rattle.zoned_ffi.specs.Steps.KeptTimes.{AreKept, AreKeptTimes, AreWritten, Ends, IsKept, IsStop};
 
 use crate::column::kept::Kept;
 use crate::column::pace::{NARROW, Pace, WIDE};
-use crate::column::table::{Stretches, Table};
+use crate::column::stretches::Stretches;
+use crate::column::table::Table;
 use crate::column::{Question, Stop};
 
 /// Writes the answers of the rows from `from` on and before `to` by the table, up to the first without.
@@ -32,7 +33,7 @@ pub fn write_by_table(
 {
     let mut row = from;
     while row < to {
-        row = write_pairs(question, times, answers, stretches, table, row, to);
+        row = write_kept(question, times, answers, stretches, table, row, to);
         if row < to {
             match table.answer(question, stretches, row, times[row]) {
                 Ok(found) => answers[row] = found,
@@ -108,14 +109,15 @@ fn write_together(
 // without a jump: by their distances from its beginning, or by their number if the last is far from that.
 #[inline(always)]
 fn are_in(kept: Kept, times: &[i64], from: usize, to: usize) -> bool
-    requires { (from < to) × (to ≤ length times.now) }
+    requires rows { (from < to) × (to ≤ length times.now) }
+    requires kept { Ends kept }
     ensures { IsTrue result → AreKeptTimes times.now from to kept }
 {
     let last = times[to - 1];
     if !kept.has(times[from]) || !kept.has(last) {
         return false;
     }
-    if kept.distance_to(last) < kept.length() / 2 {
+    if kept.distance_to(last) < kept.length / 2 {
         are_at_front(kept, times, from, to)
     } else {
         are_counted(kept, times, from, to)
@@ -127,20 +129,21 @@ fn are_in(kept: Kept, times: &[i64], from: usize, to: usize) -> bool
 #[inline(always)]
 fn are_at_front(kept: Kept, times: &[i64], from: usize, to: usize) -> bool
     requires rows { (from < to) × (to ≤ length times.now) }
-    requires some { kept.low <ℤ kept.high }
+    requires kept { Ends kept }
     ensures { IsTrue result → AreKeptTimes times.now from to kept }
 {
     let mut bits = 0;
     for row in from..to {
         bits |= kept.distance_to(times[row]);
     }
-    bits < kept.length()
+    bits < kept.length
 }
 
 // Whether as many of these times lie in the stretch as there are.
 #[inline(always)]
 fn are_counted(kept: Kept, times: &[i64], from: usize, to: usize) -> bool
-    requires { (from < to) × (to ≤ length times.now) }
+    requires rows { (from < to) × (to ≤ length times.now) }
+    requires kept { Ends kept }
     ensures { IsTrue result → AreKeptTimes times.now from to kept }
 {
     let mut found = 0;
@@ -177,10 +180,10 @@ fn write_sums(
     }
 }
 
-// Writes the answers of these rows by the stretches, two at once, as long as both are kept. Returns the
-// first row that is not written.
+// Writes the answers of these rows by the stretches, as long as one has the time. Returns the first row that
+// is not written. The loop has no call, so that its numbers stay in registers.
 #[inline(always)]
-fn write_pairs(
+fn write_kept(
     question: Question,
     times: &[i64],
     answers: &mut [i64],
@@ -198,17 +201,15 @@ fn write_pairs(
     ensures answered { AreWritten question.entry (take result times.now) (take result answers.new) }
     ensures rest { drop result answers.new ≡ drop result answers.old }
 {
-    let mut row = from;
-    while row + 1 < to {
-        let one = table.kept_for(question, stretches, times[row]);
-        let other = table.kept_for(question, stretches, times[row + 1]);
-        let both = one.has(times[row]) & other.has(times[row + 1]);
-        if !both {
-            return row;
+    for row in from..to {
+        let time = times[row];
+        match table
+            .kept_for(question, stretches, time)
+            .answer_to(question, time)
+        {
+            Some(found) => answers[row] = found,
+            None => return row,
         }
-        answers[row] = times[row] + one.add;
-        answers[row + 1] = times[row + 1] + other.add;
-        row += 2;
     }
-    row
+    to
 }

@@ -1,7 +1,7 @@
 //! What a column keeps of the stretches that its times lie in.
 
-ghost use Rattle.std.specs.Prelude.{◌≡◌, ◌↔◌, ◌-ℤ◌, ◌<ℤ◌, ◌≤ℤ◌, neg_ℤ, pos, ⊤, IfSome, IsTrue, MatchOption};
-ghost use Rattle.zoned_ffi.specs.{Steps.KeptTimes.{IsKept, IsKeptOf, IsWritten, LieWithin}, Units.{IsOffsetStretch}};
+ghost use Rattle.std.specs.Prelude.{◌≡◌, ◌↔◌, ◌-ℤ◌, ◌<◌, ◌≤ℤ◌, neg_ℤ, pos, ⊤, IfSome, IsTrue, MatchOption};
+ghost use Rattle.zoned_ffi.specs.{Steps.KeptTimes.{Ends, IsIn, IsKept, IsKeptOf, IsWritten, LieWithin}, Units.{IsOffsetStretch}};
 
 use crate::choice::{Choice, Missing};
 use crate::column::{Question, Way};
@@ -9,14 +9,13 @@ use crate::fields::{END, FIRST};
 use crate::unit::{GREATEST, LEAST, Unit};
 use tz_info::{OffsetStretch, TimeZone};
 
-/// The times of one stretch, from `low` on and before `high`, in their unit, and what is added to them
-/// to give the answers.
+/// The times of one stretch, in their unit, and what is added to them to give the answers.
 #[derive(Clone, Copy)]
 pub struct Kept {
     /// The first of them.
     pub low: i64,
-    /// The first after them.
-    pub high: i64,
+    /// How many they are.
+    pub length: u64,
     /// What is added.
     pub add: i64,
 }
@@ -29,35 +28,38 @@ impl Kept {
         let _ = question;
         Kept {
             low: i64::MAX,
-            high: i64::MIN,
+            length: 0,
             add: 0,
         }
     }
 
-    /// Whether the time is one of them: both comparisons without a jump between.
+    /// Whether it has no times.
+    pub fn is_empty(self) -> bool {
+        self.length == 0
+    }
+
+    /// The first time after them.
+    pub fn end(self) -> i64 {
+        self.low.wrapping_add_unsigned(self.length)
+    }
+
+    /// Whether the time is one of them.
     #[inline(always)]
     pub fn has(self, time: i64) -> bool
-        ensures { IsTrue result ↔ ((self.low ≤ℤ time) × (time <ℤ self.high)) }
+        requires { Ends self }
+        ensures { IsTrue result ↔ IsIn self time }
     {
-        (self.low <= time) & (time < self.high)
+        self.distance_to(time) < self.length
     }
 
-    /// How far the time comes after the first of them; a time before that is farther than all of them.
+    /// How far the time comes after the first of them. A time before that is farther than all of them, so one
+    /// comparison decides whether a time is one of them.
     #[inline(always)]
     pub fn distance_to(self, time: i64) -> u64
-        requires { self.low <ℤ self.high }
-        ensures { pos result <ℤ (self.high -ℤ self.low) → (self.low ≤ℤ time) × (time <ℤ self.high) }
+        requires { Ends self }
+        ensures { (result < self.length) ↔ IsIn self time }
     {
         time.wrapping_sub(self.low).cast_unsigned()
-    }
-
-    /// How far the first time after them comes after the first of them.
-    #[inline(always)]
-    pub fn length(self) -> u64
-        requires { self.low <ℤ self.high }
-        ensures { pos result ≡ self.high -ℤ self.low }
-    {
-        self.high.wrapping_sub(self.low).cast_unsigned()
     }
 
     /// The answer to the time if it is one of them.
@@ -89,13 +91,21 @@ impl Kept {
         if high <= low {
             return Kept {
                 low: 0,
-                high: 0,
+                length: 0,
                 add,
             };
         }
+        Kept::from_until(low as i64, high as i64, add)
+    }
+
+    // The times from `low` on and before `high`.
+    fn from_until(low: i64, high: i64, add: i64) -> Kept
+        ensures begin { (result.low ≡ low) × (result.add ≡ add) }
+        ensures end { low ≤ℤ high → pos result.length ≡ high -ℤ low }
+    {
         Kept {
-            low: low as i64,
-            high: high as i64,
+            low,
+            length: high.wrapping_sub(low).cast_unsigned(),
             add,
         }
     }

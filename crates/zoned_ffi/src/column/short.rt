@@ -175,7 +175,7 @@ fn is_search_due(
     if !question.keeps_stretches() {
         return false;
     }
-    let is_due = last_miss.is_search_due(row, kept.high <= time);
+    let is_due = last_miss.is_search_due(row, kept.end() <= time);
     if !is_due {
         last_miss.lookups = last_miss.lookups.wrapping_add(1);
     }

@@ -6,17 +6,10 @@ ghost use Rattle.zoned_ffi.specs.Steps.KeptTimes.{AreKept, IsKept, IsNotWritten,
 
 use crate::column::kept::{Kept, found_around, found_at, kept_around};
 use crate::column::row::{answer_by, answer_by_zone};
+use crate::column::stretches::Stretches;
 use crate::column::{NO_TIME, Question};
 
-/// The stretches that are kept. They aren't part of the table, since a struct of both would be moved when it
-/// is made.
-pub type Stretches = [Kept; STRETCHES];
-
-/// How many they are. Places 0 to 255 make a ring in the order of time, whose place 0 is kept at place 256
-/// too; the last place is that of one more stretch, from elsewhere.
-pub const STRETCHES: usize = 258;
-
-// The place at which that of place 0 is kept too.
+// Places 0 to 255 make a ring in the order of time. The place at which the stretch of place 0 is kept too.
 const PLACE_0_AGAIN: usize = 256;
 
 // The place of the one from elsewhere.
@@ -49,7 +42,8 @@ const AHEAD: usize = 8;
 const FROM_ELSEWHERE: u8 = 64;
 
 /// Which stretch a part of the axis begins with, and which stretches are kept. Only the time that a call
-/// takes depends on it: each stretch is right by itself.
+/// takes depends on it: each stretch is right by itself. The stretches aren't part of the table, since a struct
+/// of both would be moved when it is made.
 #[derive(Clone, Copy)]
 pub struct Table {
     // The place of a stretch for each part.
@@ -104,10 +98,10 @@ impl Table {
         self.from = found.from;
         self.until = found.until;
         let kept = found.kept;
-        if kept.low < kept.high {
+        if !kept.is_empty() {
             put(question, stretches, START, kept);
             self.low = kept.low;
-            self.high = kept.high;
+            self.high = kept.end();
         }
     }
 
@@ -120,7 +114,10 @@ impl Table {
     {
         let part = question.unit.part_of(time);
         let first = self.parts[index_of(part)] as usize;
-        stretches[first + (stretches[first + 1].low <= time) as usize]
+        stretches.at(
+            question,
+            first + (stretches.lows[first + 1] <= time) as usize,
+        )
     }
 
     /// What is written of the time in that row, or the number that says why nothing is.
@@ -191,7 +188,7 @@ impl Table {
             return Ok(NO_TIME);
         }
         self.from_elsewhere = self.from_elsewhere.wrapping_add(1) % FROM_ELSEWHERE;
-        let kept = stretches[ELSEWHERE];
+        let kept = stretches.at(*question, ELSEWHERE);
         if kept.has(time) {
             return answer_by(*question, kept, time);
         }
@@ -199,7 +196,7 @@ impl Table {
             return answer_by_zone(question, time);
         }
         let kept = kept_around(*question, time);
-        put_at(*question, stretches, ELSEWHERE, kept);
+        stretches.put(*question, ELSEWHERE, kept);
         answer_by(*question, kept, time)
     }
 
@@ -260,10 +257,10 @@ impl Table {
         };
         self.until = found.until;
         let kept = found.kept;
-        if kept.low < kept.high {
+        if !kept.is_empty() {
             self.last = self.last.wrapping_add(1);
             put(question, stretches, self.last, kept);
-            self.high = kept.high;
+            self.high = kept.end();
         }
     }
 
@@ -279,11 +276,11 @@ impl Table {
         };
         self.from = found.from;
         let kept = found.kept;
-        if kept.low < kept.high {
+        if !kept.is_empty() {
             self.first = self.first.wrapping_sub(1);
             put(question, stretches, self.first, kept);
             self.low = kept.low;
-            let last = question.unit.part_of(kept.high);
+            let last = question.unit.part_of(kept.end());
             self.begin = self.begin.max(last.wrapping_add(1));
         }
     }
@@ -338,22 +335,10 @@ fn put(question: Question, stretches: &mut Stretches, place: u8, kept: Kept)
     requires this { IsKept question kept }
     ensures { AreKept question.entry stretches.new }
 {
-    put_at(question, stretches, place as usize, kept);
+    stretches.put(question, place as usize, kept);
     if place == 0 {
-        put_at(question, stretches, PLACE_0_AGAIN, kept);
+        stretches.put(question, PLACE_0_AGAIN, kept);
     }
-}
-
-// Keeps the stretch at that place.
-#[inline(always)]
-fn put_at(question: Question, stretches: &mut Stretches, place: usize, kept: Kept)
-    requires place { place < 258 }
-    requires kept { AreKept question stretches.old }
-    requires this { IsKept question kept }
-    ensures { AreKept question.entry stretches.new }
-{
-    let _ = question;
-    stretches[place] = kept;
 }
 
 // The place at which the stretch of the part is noted.

@@ -1,4 +1,4 @@
-use Rattle.zoned_ffi.proofs.{Words.{All-replicate, IsKept, arith}, Columns.{stop_after}, Slices.{same_after}}
+use Rattle.zoned_ffi.proofs.{Words.{arith}, Columns.{stop_after}, Slices.{same_after}}
 use Rattle.zoned_ffi.proofs.column.write_long.Goals as goal
 
 pub loop-from-preserved-then-written-gt0 : goal.loop-from-preserved-then-written-gt0
@@ -12,6 +12,3 @@ returns-in-Some c =
 
 pub loop-from-preserved : goal.loop-from-preserved
 loop-from-preserved c = grind (arith, same_after)
-
-pub keep_first-requires : goal.keep_first-requires
-keep_first-requires c = All-replicate (IsKept c.args.question) 258 _ c.none-stretches.ensures

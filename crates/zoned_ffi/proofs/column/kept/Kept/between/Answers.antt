@@ -1,4 +1,4 @@
-use Rattle.zoned_ffi.proofs.{Words.{Fits64, FitsSigned, arith, ints, refl, rules, to_z-of_z, w128, ◌-ℤ◌}, Columns.{greatest, least, lie_within}}
+use Rattle.zoned_ffi.proofs.{Words.{Fits64, FitsSigned, arith, ints, rules, to_z-of_z, w128, ◌-ℤ◌}, Columns.{greatest, least, lie_within}}
 use Rattle.zoned_ffi.proofs.column.kept.Kept.between.Goals as goal
 
 pub returns : goal.returns
@@ -17,5 +17,7 @@ returns c =
     let less = simp to_z-of_z at c.if-high-low.false in
     let fits_low : Fits64 c.max-low.result = omega (arith, ints) in
     let fits_high : Fits64 c.min-high.result = omega (arith, ints) in
-    simp to_z-of_z (lie_within _ _ _ _ (omega (arith, ints)) (omega (arith, ints)) (omega (arith, ints))
-    (omega (arith, ints)) (omega (arith, ints)) (omega (arith, ints)) refl)
+    let begin = simp to_z-of_z at c.from_until.ensures.begin in
+    let length = (simp to_z-of_z at c.from_until.ensures.end) (omega (arith, ints)) in
+    lie_within _ _ _ _ _ _ begin.0 length begin.1 (omega (arith, ints)) (omega (arith, ints)) (omega (arith, ints))
+    (omega (arith, ints)) (omega (arith, ints)) (omega (arith, ints))
