@@ -445,7 +445,8 @@ def machine(rows):
     load = Path("/proc/loadavg").read_text().split()[0]
     versions = [f"Python {platform.python_version()}"]
     versions += [f"{each.__name__} {each.__version__}" for each in (np, pd)]
-    versions += found.replace("\t", " ").splitlines()
+    # dpkg may print the name alone of a package that isn't installed.
+    versions += [line.replace("\t", " ") for line in found.splitlines() if not line.endswith("\t")]
     return (
         f"{datetime.now():%Y-%m-%d}, {model}, a load of {load} at the start. {rows:,} rows. "
         f"{', '.join(versions)}.\n"

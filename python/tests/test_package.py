@@ -135,7 +135,8 @@ def test_the_sdist_has_no_library(project):
 
 def test_the_sdist_takes_the_library_that_is_installed(project, tmp_path):
     with tarfile.open(built(project, "sdist")) as files:
-        files.extractall(tmp_path)
+        # Python 3.12 and later ask for a filter.
+        files.extractall(tmp_path, **({"filter": "data"} if hasattr(tarfile, "data_filter") else {}))
     (folder,) = tmp_path.iterdir()
     command = [sys.executable, "setup.py", "-q", "bdist_wheel", "-d", str(tmp_path)]
     given = {"cwd": folder, "capture_output": True, "text": True}
