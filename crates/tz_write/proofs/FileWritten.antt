@@ -187,7 +187,7 @@ footer_is extended text rule p says =
     (tt, _, (utf8, refl, refl), (tt, _, (refl, refl, refl), (tt, _, (last, refl, refl), ([], rw trims says, refl))))
 
 -- ---- the first half
-least_parts : Parts
+abbrev least_parts : Parts
 least_parts =
     record { times = []; type_indexes = []; types = 0 ∷ 0 ∷ 0 ∷ 0 ∷ 0 ∷ 0 ∷ []; designations = 0 ∷ []; leap_seconds = []; standard_wall = []; ut_local = [] }
 
@@ -223,7 +223,7 @@ module _ (extended : Bool) (text d : List ℕ) (z : Zone) (size : length d ≤ 2
 
   -- ---- the whole
   file_pieces : HasPieces (file_bytes extended text d z) (pieces_of extended text d z)
-  unfolding file after_first_block least_parts block
+  unfolding file after_first_block block
   file_pieces = (_, _, first_header extended text d z, (least_parts, second_half extended text d z, grind arith, grind (arith, second_is)))
 
   file_says : IsPlain text → SaysRule extended text z.rule → IsTzFile (file_bytes extended text d z) z
