@@ -1,5 +1,5 @@
 -- What a column keeps of stretches of times, and what is asked about its times.
-use Rattle.std.specs.Prelude.{ℕ, ℤ, ◌≡◌, ◌≢◌, ◌+ℤ◌, ◌≤ℤ◌, ◌<ℤ◌, ◌≤◌, ◌<◌, pos, List, slice_index_or}
+use Rattle.std.specs.Prelude.{ℕ, ℤ, ◌≡◌, ◌≢◌, ◌+ℤ◌, ◌≤ℤ◌, ◌<ℤ◌, ◌≤◌, ◌<◌, pos, List, slice_index_or, slice_set}
 use Rattle.tz_info.specs.Zones.{Zone}
 use Rattle.zoned_ffi.specs.{Columns.{AreAnswered, IsAnswered, IsAnsweredOrNone, IsFirstWithout, IsNotAnswered}, Units.{IsCounted, no_time}}
 use Rattle.zoned_ffi.specs.declared.{column.{Question.{Question}, Stop.{Stop}, Way.{Way}, kept.Kept.{Kept}, stretches.Stretches.{Stretches}}, unit.Unit.{Unit}}
@@ -47,6 +47,14 @@ stretch_at s i = record {
   low = slice_index_or s.lows i (pos 0);
   length = slice_index_or s.lengths i 0;
   add = slice_index_or s.adds i (pos 0);
+}
+
+-- the stretches, with that one at the place
+abbrev pub with_stretch : Stretches → ℕ → Kept → Stretches
+with_stretch s i k = record {
+  lows = slice_set s.lows i k.low;
+  lengths = slice_set s.lengths i k.length;
+  adds = slice_set s.adds i k.add;
 }
 
 abbrev pub AreKept : Question → Stretches → Type 0

@@ -1,7 +1,7 @@
 //! The stretches that a long column keeps.
 
-ghost use Rattle.std.specs.Prelude.{◌<◌};
-ghost use Rattle.zoned_ffi.specs.Steps.KeptTimes.{AreKept, IsKept};
+ghost use Rattle.std.specs.Prelude.{◌<◌, ◌≡◌};
+ghost use Rattle.zoned_ffi.specs.Steps.KeptTimes.{AreKept, IsKept, stretch_at, with_stretch};
 
 use crate::column::Question;
 use crate::column::kept::Kept;
@@ -40,7 +40,8 @@ impl Stretches {
     pub fn at(&self, question: Question, place: usize) -> Kept
         requires place { place < 258 }
         requires kept { AreKept question self.now }
-        ensures { IsKept question.entry result }
+        ensures stretch { result ≡ stretch_at self.now place }
+        ensures kept { IsKept question.entry result }
     {
         let _ = question;
         Kept {
@@ -56,7 +57,8 @@ impl Stretches {
         requires place { place < 258 }
         requires kept { AreKept question self.old }
         requires this { IsKept question kept }
-        ensures { AreKept question.entry self.new }
+        ensures stretches { self.new ≡ with_stretch self.old place kept }
+        ensures kept { AreKept question.entry self.new }
     {
         let _ = question;
         self.lows[place] = kept.low;

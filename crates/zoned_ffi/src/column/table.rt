@@ -1,8 +1,8 @@
 //! What a long column keeps: stretches in the order of time, and a table that says for each part of the
 //! axis with which of them it begins.
 
-ghost use Rattle.std.specs.Prelude.{◌<◌, MatchResult};
-ghost use Rattle.zoned_ffi.specs.Steps.KeptTimes.{AreKept, IsKept, IsNotWritten, IsWritten};
+ghost use Rattle.std.specs.Prelude.{◌<◌, ◌≡◌, MatchResult};
+ghost use Rattle.zoned_ffi.specs.Steps.KeptTimes.{AreKept, IsKept, IsNotWritten, IsWritten, stretch_at};
 
 use crate::column::kept::{Kept, found_around, found_at, kept_around};
 use crate::column::row::{answer_by, answer_by_zone};
@@ -333,7 +333,8 @@ impl Table {
 fn put(question: Question, stretches: &mut Stretches, place: u8, kept: Kept)
     requires kept { AreKept question stretches.old }
     requires this { IsKept question kept }
-    ensures { AreKept question.entry stretches.new }
+    ensures stretch { stretch_at stretches.new place ≡ kept }
+    ensures kept { AreKept question.entry stretches.new }
 {
     stretches.put(question, place as usize, kept);
     if place == 0 {
