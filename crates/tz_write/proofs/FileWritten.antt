@@ -9,21 +9,20 @@ use Rattle.std.specs.Str.{IsAscii}
 use Rattle.tz_base.specs.Grammar.{At, Byte, Check, Each, Ended, Exact, Grammar, Here, IsRun, Marked, Nothing, Number, Rest, Run, Then}
 use Rattle.tz_info.{
   proofs.{FilePieceLaws.file_ends, PosixZoneLaws.in_footer, TrimLaws.trim_whole, TzFileLaws.one_pieces},
-  proofs.Words.{All-push, FilePieces, FitsSigned, IsTzFile, cases_lt, designation_of, drop-drop, drop_front, exact_cut, is_not_zero, leap_at},
-  proofs.Words.{length-drop, length-take, nil_from_length, record_at, take-append-drop, take-suc, take_all, take_more, transition_at, values_below, w32, w64},
-  proofs.Words.◌-◌,
+  proofs.Words.{All-push, FilePieces, FitsSigned, IsTzFile, cases_lt, designation_of, drop-drop, drop_front, exact_cut, is_not_zero, leap_at, length-drop},
+  proofs.Words.{length-take, nil_from_length, record_at, take-append-drop, take-suc, take_all, take_more, transition_at, values_below, w32, w64, ◌-◌},
   specs.declared.file.header.{Counts.Counts, Header.Header, Place.{TheVariants.{First, Second}, Place}, Version.{TheVariants.{Three, Two}, Version}},
   specs.declared.zone.lists.transition.Transition.Transition,
   specs.{FileContents.{designation, indicators, local_type, mark, type_at, typed}, FileHeaders.CountsAgree, FilePieces.later_pieces},
   specs.{Footers.{footer, footer_text, newline, optional_footer, utf8}, TzFiles.{contents, tz_file}},
 }
 use Rattle.tz_write.{
-  proofs.Words.{[], All, AllOf, Bool, HasNoZero, HasPieces, HasPlace, HavePlaces, IsNamedIn, IsRuleOrNone, IsType},
-  proofs.Words.{IsTzText, List, LocalType, None, Option, Parts, Room, Some, Spells, StandsAt, append-nil, drop, ints, name_of, name_or_none, nat_tests},
-  proofs.Words.{TransitionRule, Zone, after_first_block, ap, arith, be_u32, block, both_ways, counts_bytes, counts_test, false, file, place_of, zero},
-  proofs.Words.{file_bytes, first_half, first_version, flat_map, get_or, header, header_bytes, index_bytes, inl, inr, laid_file, later_version, leap_bytes},
-  proofs.Words.{length, length-append, magic, number_bytes, refl, second_half, signed, signed_bytes, six_counts, suc, sym, take, time_bytes},
-  proofs.Words.{true, type_bytes, tzif, version, ℕ, ℤ, ◌*◌, ◌++◌, ◌+◌, ◌<◌, ◌^◌, ◌↔◌, ◌∙◌, ◌∷◌, ◌≡◌, ◌≢◌, ◌≤◌, ◌⊎◌},
+  proofs.Words.{[], All, AllOf, Bool, HasNoZero, HasPieces, HasPlace, HavePlaces, IsNamedIn, IsRuleOrNone, IsType, IsTzText, List, LocalType, None, Option},
+  proofs.Words.{Parts, Room, Some, Spells, StandsAt, append-nil, drop, ints, name_of, name_or_none, nat_tests, TransitionRule, Zone, after_first_block, ap},
+  proofs.Words.{arith, be_u32, block, both_ways, counts_bytes, counts_test, false, file, place_of, zero, file_bytes, first_half, first_version, flat_map},
+  proofs.Words.{get_or, header, header_bytes, index_bytes, inl, inr, laid_file, later_version, leap_bytes, length, length-append, magic, number_bytes, refl},
+  proofs.Words.{second_half, signed, signed_bytes, six_counts, suc, sym, take, time_bytes, true, type_bytes, tzif, version, ℕ, ℤ, ◌*◌, ◌++◌, ◌+◌, ◌<◌, ◌^◌},
+  proofs.Words.{◌↔◌, ◌∷◌, ◌≡◌, ◌≢◌, ◌≤◌, ◌⊎◌},
   proofs.LaidNames.{AreLaid, has_text, laid_of, laid_size, no_zero},
   proofs.RuleTexts.{extensions, rule_named, rule_text, text_are, text_begins, text_is},
   proofs.TextBytes.{AreTextBytes, limits, no_space, no_zeros},
@@ -33,9 +32,9 @@ use Rattle.tz_write.{
 }
 
 -- a count
-number_is : (n : ℕ) (rest : List ℕ) → n < 2 ^ 32 → Spells be_u32 (number_bytes n ++ rest) n rest
+number_is : {n : ℕ} (rest : List ℕ) → n < 2 ^ 32 → Spells be_u32 (number_bytes n ++ rest) n rest
 unfolding number_bytes be_u32
-number_is n rest h = (number_bytes n, rest, (refl, refl), (sym (from_be_bytes-to_be_bytes_4 n h), refl))
+number_is {n} rest h = (number_bytes n, rest, (refl, refl), (sym (from_be_bytes-to_be_bytes_4 n h), refl))
 
 -- numbers in two's complement
 signed_32 : (z : ℤ) → FitsSigned w32 z → signed w32 (signed_bytes w32 z) ≡ z
@@ -90,29 +89,16 @@ text_spelled : (d : List ℕ) (place : ℕ) (text : List ℕ) (s : StandsAt d pl
 unfolding designation
 text_spelled d place text s =
     let at : drop place d ≡ text ++ (0 ∷ s.after) = rw (s.whole, ← s.at) (drop_front s.before (text ++ (0 ∷ s.after))) in
-    rw at (
-      tt,
-      _,
-      inr ((λ e. grind (arith, ap length e, length-append)), (refl, refl)),
-      (text, 0 ∷ s.after, record { whole = refl; each = (no_zero_is text).0 s.ends; longest = refl }, inl (s.after, refl, (refl, refl))),
-    )
+    let run : IsRun is_not_zero (text ++ (0 ∷ s.after)) text (0 ∷ s.after) = record { whole = refl; each = (no_zero_is text).0 s.ends; longest = refl } in
+    let some : text ++ (0 ∷ s.after) ≢ [] = λ e. grind (arith, ap length e, length-append) in rw at (grind arith)
 
 type_spelled : (d : List ℕ) (t : LocalType) → HasPlace d t → IsType t → Spells (local_type d) (type_bytes d t) t []
 unfolding local_type mark typed type_bytes signed_bytes
 type_spelled d t p h =
     let stands = has_text (name_of t) d (no_zero t.name h.name) p.stands in
     let same : designation_of (name_of t) ≡ t.name = grind arith in
-    let place = place_of (name_of t) d in (
-      signed_bytes w32 t.offset,
-      _,
-      (refl, refl),
-      (
-        t.dst,
-        place ∷ [],
-        grind arith,
-        (place ∷ [], [], (refl, refl), (_, [], (_, text_spelled d place _ stands, refl), grind (arith, ints, signed_32))),
-      ),
-    )
+    let place = place_of (name_of t) d ∷ [] in let named = text_spelled d _ _ stands in let offset = signed_bytes w32 t.offset in
+    (offset, _, (refl, refl), (t.dst, place, grind arith, (place, [], (refl, refl), (_, [], (_, named, refl), grind (arith, ints, signed_32)))))
 
 -- ---- items appended one after another
 -- the pieces of the items are appended, and each is sound
@@ -142,22 +128,15 @@ version_of false = Two
 
 counts_are : (c : Counts) (rest : List ℕ) → CountsFit c → Spells six_counts (counts_bytes c ++ rest) c rest
 unfolding counts_bytes number_bytes six_counts
-counts_are c rest (a, b, d, e, f, g) = (
-  _,
-  _,
-  number_is _ _ a,
-  (_, _, number_is _ _ b, (_, _, number_is _ _ d, (_, _, number_is _ _ e, (_, _, number_is _ _ f, (_, _, number_is _ _ g, (refl, refl)))))),
-)
+counts_are c rest (a, b, d, e, f, g) =
+    (_, _, number_is _ a, (_, _, number_is _ b, (_, _, number_is _ d, (_, _, number_is _ e, (_, _, number_is _ f, (_, _, number_is _ g, (refl, refl)))))))
 
 header_is : (place : Place) (extended : Bool) (c : Counts) (rest : List ℕ) → CountsFit c → CountsAgree c
     → Spells (header place) (header_bytes extended c ++ rest) (record { version = version_of extended; counts = c }) rest
 unfolding header_bytes header tzif version
-header_is place extended c rest fit agree = (
-  tt,
-  _,
-  (magic, _, (refl, refl), (refl, refl, refl)),
-  (version_of extended, unused ++ (counts_bytes c ++ rest), grind arith, (unused, _, (refl, refl), (_, _, counts_are c rest fit, (agree, refl, refl)))),
-)
+header_is place extended c rest fit agree =
+    let after = unused ++ (counts_bytes c ++ rest) in let counts = counts_are c rest fit in let given = version_of extended in
+    (tt, _, (magic, _, (refl, refl), (refl, refl, refl)), (given, after, grind arith, (unused, _, (refl, refl), (_, _, counts, (agree, refl, refl)))))
 
 -- ---- footers
 -- letters, digits and signs of ASCII, and no colon in front
@@ -207,19 +186,13 @@ pieces_of extended text d z = later_pieces (record { version = version_of extend
 -- a zone that has types, and designations that have their places
 module _ (extended : Bool) (text d : List ℕ) (z : Zone) (size : length d ≤ 263) (counts : HasCounts z) (some : 0 < length z.types)
     (places : HavePlaces d z.types) (sound : IsSound z) where
-  second_block : (rest : List ℕ) → Spells (block 8 (zone_counts d z)) (block_bytes (zone_parts d z) rest) (zone_parts d z) rest
-  unfolding block type_bytes leap_bytes signed_bytes
-  second_block rest =
-      grind (arith, records_length 8 time_bytes, records_length 1 index_bytes, records_length 6 (type_bytes d), records_length 12 leap_bytes)
-
   second_is : Spells later_version (second_half extended text d z) (pieces_of extended text d z) []
-  unfolding second_half later_version
-  second_is = (
-    _,
-    _,
-    header_is Second extended _ _ (grind arith) (grind (arith, some_designations)),
-    (_, _, second_block (footer_bytes text), (_, [], (refl, refl), (refl, refl))),
-  )
+  unfolding second_half later_version block type_bytes leap_bytes signed_bytes
+  second_is =
+      let last : Spells (block 8 (zone_counts d z)) (block_bytes (zone_parts d z) (footer_bytes text)) (zone_parts d z) (footer_bytes text) =
+      grind (arith, records_length 8 time_bytes, records_length 1 index_bytes, records_length 6 (type_bytes d), records_length 12 leap_bytes) in
+      let second = header_is Second extended _ _ (grind arith) (grind (arith, some_designations)) in
+      (_, _, second, (_, _, last, (_, [], (refl, refl), (refl, refl))))
 
   -- ---- the whole
   file_pieces : HasPieces (file_bytes extended text d z) (pieces_of extended text d z)
@@ -239,12 +212,9 @@ module _ (extended : Bool) (text d : List ℕ) (z : Zone) (size : length d ≤ 2
       grind (arith, record_is 8 time_bytes (λ _. refl) z.transitions k d l, sound.times k d l, get_or-map, signed_64)) in
       let leaps = values_are (leap_at p) z.leaps (λ k d l. let entry = sound.leaps k d l in
       rw (record_is 12 leap_bytes (λ _. refl) z.leaps k d l) (grind (arith, signed_64 _ entry.time, signed_32 _ entry.correction))) in
-      let footer = footer_is extended text z.rule plain says in (
-        p,
-        [],
-        file_pieces,
-        (_, [], types, (tt, [], ([], [], (refl, refl), (refl, refl)), (z.rule, [], (footer_bytes text, rw same footer, refl), grind arith))),
-      )
+      let footer : Spells (optional_footer p.extended p.footer) [] z.rule [] =
+      (footer_bytes text, rw same (footer_is extended text z.rule plain says), refl) in
+      (p, [], file_pieces, (_, [], types, (tt, [], ([], [], (refl, refl), (refl, refl)), (z.rule, [], footer, grind arith))))
 
 -- numbers below 256
 abbrev Bytes : List ℕ → Type 0
@@ -298,15 +268,8 @@ after_fits v c parts p h fit = grind (arith, header_fits)
 -- ---- names
 text_stands : (d : List ℕ) (place : ℕ) (text rest : List ℕ) → Spells designation (drop place d) text rest → StandsAt d place text
 unfolding designation
-text_stands d place text rest (_, bytes, inl none, _) = absurd none.1
-text_stands d place text rest (_, bytes, inr (some, (_, same)), (run, after, is, inr none)) = absurd none.1
-text_stands d place text rest (_, bytes, inr (some, (_, same)), (run, after, is, inl (others, zero_first, (value, _)))) = record {
-  before = take place d;
-  after = others;
-  whole = sym (take-append-drop place d) ∙ ap (λ s. take place d ++ s) (same ∙ is.whole ∙ rw (zero_first, value) refl);
-  at = let none = nil_from_length (drop place d) in grind (arith, length-take, length-drop);
-  ends = rw value ((no_zero_is run).1 is.each);
-}
+text_stands d place text rest h =
+    let none = nil_from_length (drop place d) in grind (arith, take-append-drop place d, length-take, length-drop, no_zero_is)
 
 type_named : (p : FilePieces) (k : ℕ) (bytes : List ℕ) (t : LocalType) (rest : List ℕ) → Bytes p.parts.types → Spells (type_at p k) bytes t rest
     → IsNamedIn p.parts.designations t

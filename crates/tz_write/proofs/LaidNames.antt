@@ -238,16 +238,6 @@ module _ (last others : List ℕ) where
     unfolding before_last
     before_passed = let step = pass in grind arith
 
--- ---- texts
-at_size : {bytes text : List ℕ} {place : ℕ} (s : StandsAt bytes place text) → length bytes ≡ place + length text + 1 + length s.after
-at_size s = grind (arith, length-append)
-
-abbrev stands_of : {bytes text : List ℕ} {place : ℕ} → StandsAt bytes place text → Stands bytes text
-stands_of s = record { before = s.before; after = s.after; whole = s.whole }
-
-no_text : {bytes text : List ℕ} → Stands bytes text → Stands bytes []
-no_text {text = text} s = end_stands s (ends_nothing text)
-
 -- ---- designations that have the names
 module _ (others : List ℕ) where
   record Served (t : LocalType) : Type 0 where
@@ -292,7 +282,7 @@ module _ (others : List ℕ) (m : LocalType) (sm : Served others m) where
   unfolding key_in
   where_is t st top =
       let a = sm.stands in let b = st.stands in
-      grind (arith, length-append, no_front, at_size a, at_size b, meet a.before _ a.after b.before _ b.after a.ends b.ends (cc))
+      grind (arith, length-append, no_front, meet a.before _ a.after b.before _ b.after a.ends b.ends (cc))
 
   -- t is another one, and the designations are those in front of the last name
   module _ (t : LocalType) (st : Served others t) (where_t : Where t) (bytes : List ℕ) (r : Room (name_of m) sm.stands.before bytes 3)
@@ -338,7 +328,7 @@ module _ (others : List ℕ) (m : LocalType) (sm : Served others m) where
         let short : length whole ≤ 263 = grind (arith, length-append) in
         let t = get_or types i d in let size = (s i d l).size in
         let p = before_passed [] whole types (λ i d l. let st = s i d l in let there = stands i d l in grind arith) in
-        let out = room_of [] whole (before_last [] types) [] 3 p.room tt (inl (omega arith)) (no_text (stands i d l)) in
+        let out = room_of [] whole (before_last [] types) [] 3 p.room tt (inl (omega arith)) (end_stands (stands i d l) (ends_nothing _)) in
         let inside = p.inside short i d l in let keep = kept (before_last [] types) [] (name_of t) in
         let nothing = λ (e : Ends [] (name_of t)). length-append e.front (name_of t) in grind (arith, nil_from_length, put)
 
@@ -348,8 +338,9 @@ module _ (others : List ℕ) (m : LocalType) (sm : Served others m) where
 -- ---- no shorter ones
 in_order_short : (types : List LocalType) (others : List ℕ) → 0 < length types → AreNamesIn others types → length (laid [] types) ≤ length others
 in_order_short [] others some names = grind arith
-in_order_short (t ∷ ts) others some names = laid_short [] _ (t ∷ ts) tt (no_text (stands_of (names 0 t some).stands))
-    (λ i d l. let named = names i d l in grind arith)
+in_order_short (t ∷ ts) others some names =
+    let first : Stands others (name_of t) = record { before = _; after = _; whole = (names 0 t some).stands.whole } in
+    laid_short [] _ (t ∷ ts) tt (end_stands first (ends_nothing _)) (λ i d l. let named = names i d l in grind arith)
 
 -- ---- what is laid
 abbrev AreNames : List LocalType → Type 0
@@ -403,7 +394,7 @@ none_laid [] others some named names none = grind arith
 none_laid (t ∷ ts) others some named names none =
     let types = t ∷ ts in
     let s : All (Served others) types = λ i d l.
-    let h = names i d l in let name = named i d l in let at = stands_in _ _ (stands_of h.stands) in let size = at_size h.stands in
+    let h = names i d l in let name = named i d l in let at = stands_in _ _ (record { before = _; after = _; whole = h.stands.whole }) in
     grind (arith, nat_tests, has_text) in
     let (place, inside, above) = greatest others t t ts in
     let m = get_or types place t in let sm = s place t inside in
@@ -429,11 +420,8 @@ module _ (types : List LocalType) (some : 0 < length types) (names : AreNames ty
   laid_of bytes named = let none = none_laid types bytes some names named in laid_is _ (grind arith)
 
 -- ---- they have room
-size_with : (bytes text : List ℕ) → length bytes ≤ 263 → length (with_text bytes text) ≤ 263
-unfolding with_text
-size_with bytes text h = grind (arith, length-append)
-
 pub laid_size : (types : List LocalType) (bytes : List ℕ) → laid_names types ≡ Some bytes → length bytes ≤ 263
-unfolding laid
+unfolding laid with_text
 laid_size types bytes h =
-    let size = size_with _ [] (before_keeps (λ d. length d ≤ 263) size_with [] types (omega arith)) in let placed = laid_placed types bytes h in omega arith
+    let step : (d text : List ℕ) → length d ≤ 263 → length (with_text d text) ≤ 263 = λ d text h. grind (arith, length-append) in
+    let size = step _ [] (before_keeps (λ d. length d ≤ 263) step [] types (omega arith)) in let placed = laid_placed types bytes h in omega arith

@@ -308,11 +308,9 @@ module _ (rule : TransitionRule) (fits : IsRule rule) where
 pub ruleset rule_laws = (extensions, rule_named, text_once, text_some)
 
 -- ---- white space at the ends
--- only white space comes after
-module _ (after : List ℕ) (space : IsSpace after) where
-  pairs_before : (bs : List ℕ) → AreInPairs (bs ++ after) → AreInPairs bs
-  pairs_before [] h = tt
-  pairs_before (b ∷ bs) h = grind (arith, nat_tests, pairs_before bs)
+pairs_before : (bs after : List ℕ) → IsSpace after → AreInPairs (bs ++ after) → AreInPairs bs
+pairs_before [] after space h = tt
+pairs_before (b ∷ bs) after space h = grind (arith, nat_tests, pairs_before bs after)
 
 pub written_zone : (types : List LocalType) (rule : Option TransitionRule) → IsRuleOrNone rule → HasZoneText types rule
     → IsWrittenZone (zone_of_rule types rule) (footer_text rule)
@@ -327,7 +325,7 @@ written_zone types (Some rule) fits h =
       shortest = λ other gives pairs.
           let s : IsTzText false (trimmed other) rule = grind arith in
           let (before, after, whole, _, space) = trim_is other in
-          let best = (rule_read false _ rule s).best (pairs_before after space (trimmed other) (pairs_rest before _ (rw whole at pairs))) in
+          let best = (rule_read false _ rule s).best (pairs_before (trimmed other) after space (pairs_rest before _ (rw whole at pairs))) in
           grind (arith, length-append, nil_from_length, append-nil);
     }
 
