@@ -24,9 +24,9 @@ use Rattle.tz_write.{
   proofs.Words.{second_half, signed, signed_bytes, six_counts, suc, sym, take, time_bytes, true, type_bytes, tzif, version, ℕ, ℤ, ◌*◌, ◌++◌, ◌+◌, ◌<◌, ◌^◌},
   proofs.Words.{◌↔◌, ◌∷◌, ◌≡◌, ◌≢◌, ◌≤◌, ◌⊎◌},
   proofs.LaidNames.{AreLaid, has_text, laid_of, laid_size, no_zero},
-  proofs.RuleTexts.{extensions, rule_named, rule_text, text_are, text_begins, text_is},
-  proofs.TextBytes.{AreTextBytes, limits, no_space, no_zeros},
-  specs.WrittenFiles.{AreBytes, HasCounts, IsFooterText, IsSound, IsSpellableOrNone, IsWritable, IsWrittenFile, NeedsExtensions},
+  proofs.RuleTexts.{extensions, rule_read, rule_text, text_are, text_begins, text_is},
+  proofs.TextBytes.{AreTextBytes, no_space, no_zeros},
+  specs.WrittenFiles.{AreBytes, HasCounts, HasIndex, IsFooterText, IsSound, IsSpellableOrNone, IsWritable, IsWrittenFile, NeedsExtensions},
   specs.FileBytes.{footer_bytes, least_counts},
   specs.Steps.{FileParts.IsRoomOf, LaidFiles.{block_bytes, footer_text as text_of_rule, is_extended, least_block, unused, zone_counts, zone_parts}},
 }
@@ -139,23 +139,20 @@ header_is place extended c rest fit agree =
     (tt, _, (magic, _, (refl, refl), (refl, refl, refl)), (given, after, grind arith, (unused, _, (refl, refl), (_, _, counts, (agree, refl, refl)))))
 
 -- ---- footers
--- letters, digits and signs of ASCII, and no colon in front
-abbrev IsPlain : List ℕ → Type 0
-IsPlain text = AreTextBytes text × (get_or text 0 0 ≢ 58)
-
 ascii : (text : List ℕ) → AreTextBytes text → IsAscii (text ++ 10 ∷ [])
 ascii [] h = IsAscii-cons 10 [] (omega arith) IsAscii-nil
-ascii (b ∷ bs) h = IsAscii-cons b (bs ++ 10 ∷ []) (limits b h.0).1 (ascii bs h.1)
+ascii (b ∷ bs) h = IsAscii-cons b (bs ++ 10 ∷ []) (grind (arith, nat_tests)) (ascii bs h.1)
 
--- no text is no rule
+-- no text is no rule; that of a rule has letters, digits and signs of ASCII, and no colon in front
 abbrev SaysRule : Bool → List ℕ → Option TransitionRule → Type 0
 SaysRule extended text None = text ≡ []
-SaysRule extended text (Some rule) = (text ≢ []) × IsTzText extended text rule
+SaysRule extended text (Some rule) = (text ≢ []) × IsTzText extended text rule × AreTextBytes text × (get_or text 0 0 ≢ 58)
 
-footer_is : (extended : Bool) (text : List ℕ) (rule : Option TransitionRule) → IsPlain text → SaysRule extended text rule
+footer_is : (extended : Bool) (text : List ℕ) (rule : Option TransitionRule) → SaysRule extended text rule
     → Spells (footer extended) (footer_bytes text) rule (footer_bytes text)
 unfolding footer utf8 newline footer_text
-footer_is extended text rule p says =
+footer_is extended text rule says =
+    let p : AreTextBytes text × (get_or text 0 0 ≢ 58) = grind arith in
     let utf8 = IsUtf8-from_ascii (footer_bytes text) (IsAscii-cons 10 (text ++ 10 ∷ []) (omega arith) (ascii text p.0)) in
     let trims = trim_whole (10 ∷ []) text (10 ∷ []) (refl, tt) (no_space text p.0) (refl, tt) in
     let run : IsRun is_not_zero text text [] =
@@ -199,9 +196,9 @@ module _ (extended : Bool) (text d : List ℕ) (z : Zone) (size : length d ≤ 2
   unfolding file after_first_block least_parts block
   file_pieces = (_, _, first_header extended text d z, (least_parts, second_half extended text d z, grind arith, grind (arith, second_is)))
 
-  file_says : IsPlain text → SaysRule extended text z.rule → IsTzFile (file_bytes extended text d z) z
+  file_says : SaysRule extended text z.rule → IsTzFile (file_bytes extended text d z) z
   unfolding tz_file contents indicators optional_footer leap_bytes signed_bytes type_at type_bytes
-  file_says plain says =
+  file_says says =
       let p = pieces_of extended text d z in
       let same : p.extended ≡ extended = grind arith in
       let every = each_are (type_at p) [] z.types (λ k t l. rw (record_is 6 (type_bytes d) (λ _. refl) z.types k t l)
@@ -213,7 +210,7 @@ module _ (extended : Bool) (text d : List ℕ) (z : Zone) (size : length d ≤ 2
       let leaps = values_are (leap_at p) z.leaps (λ k d l. let entry = sound.leaps k d l in
       rw (record_is 12 leap_bytes (λ _. refl) z.leaps k d l) (grind (arith, signed_64 _ entry.time, signed_32 _ entry.correction))) in
       let footer : Spells (optional_footer p.extended p.footer) [] z.rule [] =
-      (footer_bytes text, rw same (footer_is extended text z.rule plain says), refl) in
+      (footer_bytes text, rw same (footer_is extended text z.rule says), refl) in
       (p, [], file_pieces, (_, [], types, (tt, [], ([], [], (refl, refl), (refl, refl)), (z.rule, [], footer, grind arith))))
 
 -- numbers below 256
@@ -294,15 +291,9 @@ writable bytes z are (p, after, pieces, (types, c, each, (_, e, _, (rule, f, say
     let named = each_all (IsNamedIn p.parts.designations) (type_at p) after p.counts.types types c (λ k s t r. type_named p k s t r in_types) each in
     let times = values_is (transition_at p) p.counts.transitions in
     let leaps = values_is (leap_at p) p.counts.leap_seconds in
-    rw value (record {
-      room = record {
-        counts = grind arith;
-        indexes = λ k d l. rw (times.1 k d (omega (arith, times.0))) (indexes k);
-        designations = p.parts.designations;
-        names = named.0;
-      };
-      rule = grind (arith, rule_named, in_footer p.extended p.footer e rule f says);
-    })
+    let each_index : All HasIndex (values_below p.counts.transitions (transition_at p)) = λ k d l. rw (times.1 k d (omega (arith, times.0))) (indexes k) in
+    let footer = in_footer p.extended p.footer e rule f says in
+    rw value (record { room = record { counts = grind arith; indexes = each_index; designations = _; names = named.0 }; rule = grind (arith, rule_read) })
 
 -- that text is the footer of that rule
 pub needs_extensions : (rule : Option TransitionRule) (text : List ℕ) (extended : Bool) → IsFooterText rule text extended → IsRuleOrNone rule
@@ -315,9 +306,9 @@ module _ (z : Zone) (some : 0 < length z.types) (fits : IsRuleOrNone z.rule) (so
       → IsWrittenFile z (file_bytes extended text d z)
   unfolding laid_file file_bytes first_half second_half header_bytes counts_bytes number_bytes
   written_is d text extended counts laid footer =
-      let p : IsPlain text × SaysRule extended text z.rule = grind (arith, rule_named, rule_text, text_begins, text_are) in
+      let says : SaysRule extended text z.rule = grind (arith, rule_read, rule_text, text_begins, text_are) in
       let size = laid_size _ _ laid.1 in record {
-        spells = file_says extended text d z size counts some laid.0 sound p.0 p.1;
+        spells = file_says extended text d z size counts some laid.0 sound says;
         text = text;
         extended = extended;
         footer = footer;

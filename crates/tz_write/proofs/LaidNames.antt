@@ -332,9 +332,6 @@ module _ (others : List ℕ) (m : LocalType) (sm : Served others m) where
         let inside = p.inside short i d l in let keep = kept (before_last [] types) [] (name_of t) in
         let nothing = λ (e : Ends [] (name_of t)). length-append e.front (name_of t) in grind (arith, nil_from_length, put)
 
-    short_with : In (laid [] types) (name_of m) → length (laid (name_of m) types) ≤ length (laid [] types)
-    short_with found = grind (arith, laid_short, in_stands, in_order_in)
-
 -- ---- no shorter ones
 in_order_short : (types : List LocalType) (others : List ℕ) → 0 < length types → AreNamesIn others types → length (laid [] types) ≤ length others
 in_order_short [] others some names = grind arith
@@ -398,9 +395,9 @@ none_laid (t ∷ ts) others some named names none =
     grind (arith, nat_tests, has_text) in
     let (place, inside, above) = greatest others t t ts in
     let m = get_or types place t in let sm = s place t inside in
-    let found = in_order_in _ m sm types s above place t inside in
-    none_placed types (name_of m) sm.size.1 none sm.stands.ends found
-    (places_with _ m sm types s above, short_with _ m sm types s above found)
+    let there = in_order_in _ m sm types s above in let found = there place t inside in
+    let short : length (laid (name_of m) types) ≤ length (laid [] types) = grind (arith, laid_short, in_stands) in
+    none_placed types (name_of m) sm.size.1 none sm.stands.ends found (places_with _ m sm types s above, short)
 
 -- the designations that are laid
 abbrev pub AreLaid : List LocalType → List ℕ → Type 0

@@ -239,9 +239,6 @@ rule_read extended bytes rule (name, after, n, (east, end, o, inr (_, (dst_name,
           (front_cons c (rw (same ∙ none) at (day_front _ _ _ _ q)))))))));
     })
 
-pub rule_named : (extended : Bool) (bytes : List ℕ) (rule : TransitionRule) → IsTzText extended bytes rule → CanBeSpelled rule
-rule_named extended bytes rule h = (rule_read extended bytes rule h).named
-
 -- ---- its own text
 dst_ends_name : (std dst : ℤ) (rest : List ℕ) → IsWithinDay dst → NoneFirst is_letter (spelled_dst_offset std dst ++ (comma ∷ rest))
 dst_ends_name std dst rest h = grind (arith, nat_tests, offset_begins, by_hour (λ s. NoneFirst is_letter (s ++ (comma ∷ rest))))
@@ -272,9 +269,6 @@ rule_writes extended (rules.Alternate a) fits ((m, s), (n, d)) (start, end) =
 pub text_begins : (rule : TransitionRule) → CanBeSpelled rule → Begins 60 122 (spelled_rule rule)
 text_begins rule named = grind (arith, name_begins, append_assoc)
 
-pub text_once : (rule : TransitionRule) (s t : List ℕ) (d e : Bool) → IsWrittenText rule s d → IsWrittenText rule t e → (s ≡ t) × (d ≡ e)
-text_once rule s t d e p q = grind arith
-
 -- a rule that a zone can have
 module _ (rule : TransitionRule) (fits : IsRule rule) where
   -- some text spells it
@@ -298,14 +292,14 @@ module _ (rule : TransitionRule) (fits : IsRule rule) where
   -- that text is written of it
   module _ (text : List ℕ) (extended : Bool) (h : IsWrittenText rule text extended) where
     pub rule_text : (text ≡ spelled_rule rule) × (extended ≡ not (has_plain_times rule))
-    rule_text = grind (arith, text_is, text_once, rule_named)
+    rule_text = grind (arith, text_is, rule_read)
 
     -- a text has extensions if the rule's times need them
     pub extensions : (extended ≡ true) ↔ (¬ (AreTimesOf false rule))
-    extensions = grind (arith, rule_spelled, rule_named, both_ways, rule_read)
+    extensions = grind (arith, rule_spelled, both_ways, rule_read)
 
 -- what a law says of the text of a rule
-pub ruleset rule_laws = (extensions, rule_named, text_once, text_some)
+pub ruleset rule_laws = (extensions, rule_read, text_some)
 
 -- ---- white space at the ends
 pairs_before : (bs after : List ℕ) → IsSpace after → AreInPairs (bs ++ after) → AreInPairs bs
