@@ -6,7 +6,7 @@ use Rattle.std.proofs.{
   lemmas.Str.{Ascii.{IsAscii-cons, IsAscii-nil}, IsUtf8-from_ascii},
 }
 use Rattle.std.specs.Str.{IsAscii}
-use Rattle.tz_base.specs.Grammar.{At, Byte, Check, Each, Ended, Exact, Grammar, Here, IsRun, Marked, Nothing, Number, Rest, Run, Then}
+use Rattle.tz_base.specs.{Grammar.{At, Byte, Check, Each, Ended, Exact, Grammar, Here, IsRun, Marked, Nothing, Number, Rest, Run, Then}, LocalTypes.plain_type}
 use Rattle.tz_info.{
   proofs.{FilePieceLaws.file_ends, PosixZoneLaws.in_footer, TrimLaws.trim_whole, TzFileLaws.one_pieces},
   proofs.Words.{All-push, FilePieces, FitsSigned, IsTzFile, cases_lt, designation_of, drop-drop, drop_front, exact_cut, is_not_zero, leap_at, length-drop},
@@ -19,14 +19,14 @@ use Rattle.tz_info.{
 use Rattle.tz_write.{
   proofs.Words.{[], All, AllOf, Bool, HasNoZero, HasPieces, HasPlace, HavePlaces, IsNamedIn, IsRuleOrNone, IsType, IsTzText, List, LocalType, None, Option},
   proofs.Words.{Parts, Room, Some, Spells, StandsAt, append-nil, drop, ints, name_of, name_or_none, nat_tests, TransitionRule, Zone, after_first_block, ap},
-  proofs.Words.{arith, be_u32, block, both_ways, counts_bytes, counts_test, false, file, place_of, zero, file_bytes, first_half, first_version, flat_map},
-  proofs.Words.{get_or, header, header_bytes, index_bytes, inl, inr, laid_file, later_version, leap_bytes, length, length-append, magic, number_bytes, refl},
-  proofs.Words.{second_half, signed, signed_bytes, six_counts, suc, sym, take, time_bytes, true, type_bytes, tzif, version, ℕ, ℤ, ◌*◌, ◌++◌, ◌+◌, ◌<◌, ◌^◌},
-  proofs.Words.{◌↔◌, ◌∷◌, ◌≡◌, ◌≢◌, ◌≤◌, ◌⊎◌},
+  proofs.Words.{arith, be_u32, block, counts_bytes, counts_test, false, file, place_of, zero, file_bytes, first_half, first_version, flat_map, get_or, header},
+  proofs.Words.{header_bytes, index_bytes, inl, inr, laid_file, later_version, leap_bytes, length, length-append, magic, number_bytes, pos, refl, second_half},
+  proofs.Words.{signed, signed_bytes, six_counts, suc, sym, take, time_bytes, true, type_bytes, tzif, version, ℕ, ℤ, ◌*◌, ◌++◌, ◌+◌, ◌<◌, ◌^◌, ◌↔◌, ◌∷◌, ◌≡◌},
+  proofs.Words.{◌≢◌, ◌≤◌, ◌⊎◌},
   proofs.LaidNames.{AreLaid, has_text, laid_of, laid_size, no_zero},
-  proofs.RuleTexts.{extensions, rule_read, rule_text, text_are, text_begins, text_is},
+  proofs.RuleTexts.{rule_read, rule_text, text_are, text_begins, text_is},
   proofs.TextBytes.{AreTextBytes, no_space, no_zeros},
-  specs.WrittenFiles.{AreBytes, HasCounts, HasIndex, IsFooterText, IsSound, IsSpellableOrNone, IsWritable, IsWrittenFile, NeedsExtensions},
+  specs.WrittenFiles.{AreBytes, HasCounts, HasIndex, IsFooterText, IsSound, IsSpellableOrNone, IsWritable, IsWrittenFile},
   specs.FileBytes.{footer_bytes, least_counts},
   specs.Steps.{FileParts.IsRoomOf, LaidFiles.{block_bytes, footer_text as text_of_rule, is_extended, least_block, unused, zone_counts, zone_parts}},
 }
@@ -173,10 +173,6 @@ unfolding file_bytes first_half header_bytes counts_bytes number_bytes
 first_header extended text d z = header_is First extended _ _ (grind arith) ((counts_test least_counts).decides.0 refl)
 
 -- ---- the second half
-some_designations : (types : List LocalType) (d : List ℕ) → 0 < length types → HavePlaces d types → length d ≢ 0
-some_designations [] d some places e = omega arith
-some_designations (t ∷ ts) d some places e = grind (arith, places 0 t some)
-
 abbrev pieces_of : Bool → List ℕ → List ℕ → Zone → FilePieces
 pieces_of extended text d z = later_pieces (record { version = version_of extended; counts = zone_counts d z }) (zone_parts d z) (footer_bytes text)
 
@@ -188,7 +184,7 @@ module _ (extended : Bool) (text d : List ℕ) (z : Zone) (size : length d ≤ 2
   second_is =
       let last : Spells (block 8 (zone_counts d z)) (block_bytes (zone_parts d z) (footer_bytes text)) (zone_parts d z) (footer_bytes text) =
       grind (arith, records_length 8 time_bytes, records_length 1 index_bytes, records_length 6 (type_bytes d), records_length 12 leap_bytes) in
-      let second = header_is Second extended _ _ (grind arith) (grind (arith, some_designations)) in
+      let first = places 0 (plain_type (pos 0)) some in let second = header_is Second extended _ _ (grind arith) (grind arith) in
       (_, _, second, (_, _, last, (_, [], (refl, refl), (refl, refl))))
 
   -- ---- the whole
@@ -294,11 +290,6 @@ writable bytes z are (p, after, pieces, (types, c, each, (_, e, _, (rule, f, say
     let each_index : All HasIndex (values_below p.counts.transitions (transition_at p)) = λ k d l. rw (times.1 k d (omega (arith, times.0))) (indexes k) in
     let footer = in_footer p.extended p.footer e rule f says in
     rw value (record { room = record { counts = grind arith; indexes = each_index; designations = _; names = named.0 }; rule = grind (arith, rule_read) })
-
--- that text is the footer of that rule
-pub needs_extensions : (rule : Option TransitionRule) (text : List ℕ) (extended : Bool) → IsFooterText rule text extended → IsRuleOrNone rule
-    → (extended ≡ true) ↔ NeedsExtensions rule
-needs_extensions rule text extended footer fits = grind (arith, extensions, both_ways)
 
 -- ---- a zone that can be written
 module _ (z : Zone) (some : 0 < length z.types) (fits : IsRuleOrNone z.rule) (sound : IsSound z) where

@@ -5,12 +5,12 @@ use Rattle.std.proofs.{
   Math.Seq.drop-append_seam,
   lemmas.{Bool.{Decides.Decides-by_and, eq-eqb}, List.{append_cancel_left, drop_more, get_or_at, take-append-drop}, Slice.Eq.{ends_is, starts_is}},
 }
-use Rattle.tz_base.proofs.RunLaws.{all_of}
+use Rattle.tz_base.{proofs.RunLaws.all_of, specs.LocalTypes.plain_type}
 use Rattle.tz_info.proofs.Words.{Decides-eqb, cases_lt, nat_eq, nil_from_length, zero}
 use Rattle.tz_write.{
   proofs.Words.{[], All, HasNoZero, HasPlace, HavePlaces, IsNameOrNone, List, LocalType, None, Option, Some, ap, append-nil},
   proofs.Words.{append_assoc, arith, before_zero, cond, drop, get_or, inl, inr, length, length-append, list_all, name_of, name_or_none, nat_tests, place_of},
-  proofs.Words.{placed_otherwise, refl, suc, sym, take, true, with_text_of, ℕ, ◌*◌, ◌++◌, ◌+◌, ◌<◌, ◌∷◌, ◌≡◌, ◌≤◌, ◌⊎◌},
+  proofs.Words.{placed_otherwise, pos, refl, suc, sym, take, true, with_text_of, ℕ, ◌*◌, ◌++◌, ◌+◌, ◌<◌, ◌∷◌, ◌≡◌, ◌≤◌, ◌⊎◌},
   proofs.TextBytes.{names_are, no_zeros},
   specs.FileDesignations.{AreNamesIn, AreShortest, StandsAt},
   specs.Steps.LaidNames.{are_placed, before_last, begins, ends, has_place, have_places, laid, laid_names, or_else, placed_with, text_at, with_text, with_texts},
@@ -334,10 +334,9 @@ module _ (others : List ℕ) (m : LocalType) (sm : Served others m) where
 
 -- ---- no shorter ones
 in_order_short : (types : List LocalType) (others : List ℕ) → 0 < length types → AreNamesIn others types → length (laid [] types) ≤ length others
-in_order_short [] others some names = grind arith
-in_order_short (t ∷ ts) others some names =
-    let first : Stands others (name_of t) = record { before = _; after = _; whole = (names 0 t some).stands.whole } in
-    laid_short [] _ (t ∷ ts) tt (end_stands first (ends_nothing _)) (λ i d l. let named = names i d l in grind arith)
+in_order_short types others some names =
+    let first : Stands others _ = record { before = _; after = _; whole = (names 0 (plain_type (pos 0)) some).stands.whole } in
+    laid_short [] _ types tt (end_stands first (ends_nothing _)) (λ i d l. let named = names i d l in grind arith)
 
 -- ---- what is laid
 abbrev AreNames : List LocalType → Type 0

@@ -15,7 +15,7 @@ use Rattle.tz_write.{
   proofs.TextBytes.{writes_nothing, writes_optional, writes_other, writes_then},
   proofs.Words.{[], AllOf, AreInPairs, Bool, IsRule, IsRuleOrNone, List, LocalType, None, NoneFirst, Option, Some, Spells, TransitionRule, Without, Zone, ap},
   proofs.Words.{append-nil, append_assoc, arith, both_ways, colon, comma, cond, false, greater, inl, inr, is_digit, is_name_byte, length, length-append},
-  proofs.Words.{less, list_all, name_of, name_or_none, nat_tests, not, refl, slash, spelled_rule, true, ℕ, ℤ, ◌%◌, ◌&&◌, ◌*◌, ◌++◌, ◌/◌, ◌<◌, ◌==◌, ◌↔◌, ◌∙◌},
+  proofs.Words.{less, list_all, name_of, name_or_none, nat_tests, not, refl, slash, spelled_rule, true, ℕ, ℤ, ◌%◌, ◌&&◌, ◌++◌, ◌/◌, ◌<◌, ◌==◌, ◌↔◌, ◌∙◌},
   proofs.Words.{◌∷◌, ◌≡◌, ◌≤◌},
   specs.Steps.TextPieces.{has_plain_times, spelled_clock, spelled_date, spelled_day, spelled_days, spelled_dst_offset, spelled_minutes, spelled_name},
   specs.Steps.TextPieces.{spelled_offset, spelled_signed, spelled_time},
@@ -30,10 +30,6 @@ use Rattle.tz_info.specs.declared.rule.transition_rule.TransitionRule.TheVariant
 abbrev Stops : List ℕ → Type 0
 Stops rest = NoneFirst is_digit rest × Without colon rest × Without slash rest
 
--- seconds below n hours, before or after midnight
-hours_within : (hours : ℕ) (z : ℤ) → (neg_ℤ (pos (3600 * hours)) <ℤ z) × (z <ℤ pos (3600 * hours)) → unsigned_abs z / 3600 < hours
-hours_within hours z h = grind (arith, ints)
-
 clock_begins : (n : ℕ) (rest : List ℕ) → n / 3600 < 1000 → Begins 48 57 (spelled_clock n ++ rest)
 unfolding spelled_clock
 clock_begins n rest l = grind (arith, append_assoc, number_begins)
@@ -41,7 +37,7 @@ clock_begins n rest l = grind (arith, append_assoc, number_begins)
 -- an offset begins with a digit or a minus
 offset_begins : (east : ℤ) (rest : List ℕ) → IsWithinDay east → Begins 45 57 (spelled_offset east ++ rest)
 unfolding spelled_offset
-offset_begins east rest h = grind (arith, clock_begins, hours_within)
+offset_begins east rest h = grind (arith, ints, clock_begins)
 
 -- ---- what is written before a rest that ends it
 module _ (rest : List ℕ) (stops : Stops rest) where
@@ -72,12 +68,12 @@ module _ (rest : List ℕ) (stops : Stops rest) where
   offset_writes : (east : ℤ) → IsWithinDay east → Writes tz.offset (spelled_offset east) east rest
   unfolding spelled_offset tz.offset tz.time_sign
   offset_writes east h =
-      signed_writes 23 _ east (grind (arith, hours_within)) (omega arith) true not _ (grind arith) (grind (arith, ints))
+      signed_writes 23 _ east (grind (arith, ints)) (omega arith) true not _ (grind arith) (grind (arith, ints))
 
   time_writes : (extended : Bool) (time : ℤ) → IsTextTime extended time → Writes (tz.time extended) (spelled_time time) time rest
   unfolding spelled_time tz.time
   time_writes extended time h =
-      signed_writes (time_limit extended) _ time (grind (arith, hours_within)) (grind (arith, nat_tests)) extended (λ m. m) _
+      signed_writes (time_limit extended) _ time (grind (arith, ints)) (grind (arith, nat_tests)) extended (λ m. m) _
       (grind (arith, le-ltb)) (grind (arith, ints))
 
 -- ---- the front of bytes that spell the same
