@@ -304,15 +304,12 @@ module _ (others : List ℕ) (m : LocalType) (sm : Served others m) where
 
   -- ---- all types, of which m has the greatest key
   module _ (types : List LocalType) (s : All (Served others) types) (top : All (IsBelow others m) types) where
-    places : All Where types
-    places i d l = where_is _ (s i d l) (top i d l)
-
     places_with : HavePlaces (laid (name_of m) types) types
     unfolding laid with_text
     places_with i d l =
-        let given : All (Given (name_of m) sm.stands.before) types = λ i d l. let st = s i d l in let where_t = places i d l in grind arith in
+        let given : All (Given (name_of m) sm.stands.before) types = λ i d l. let st = s i d l in let where_t = where_is _ st (top i d l) in grind arith in
         let p = before_passed _ _ types given in
-        laid_place _ (s i d l) (places i d l) _ p.room
+        laid_place _ (s i d l) (where_is _ (s i d l) (top i d l)) _ p.room
         (before_keeps (λ d. (d ≡ []) ⊎ In d []) (λ d text h. grind (arith, nat_tests, put_in, ends_nothing)) _ types (inl refl))
         (p.inside (omega arith) i d l)
 
@@ -321,10 +318,9 @@ module _ (others : List ℕ) (m : LocalType) (sm : Served others m) where
     unfolding laid
     in_order_in i d l =
         let whole = added sm.stands.before (name_of m) in
-        let stands : All (λ t. Stands whole (name_of t)) types = λ i d l. elim (places i d l) [
-          | inl s ↦ grind (arith, nat_tests, append_assoc)
-          | inr q ↦ end_stands (put_stands sm.stands.before (name_of m)) q.0
-        ] in
+        let stands : All (λ t. Stands whole (name_of t)) types = λ i d l. let where_t = where_is _ (s i d l) (top i d l) in
+        let end = λ (e : Ends (name_of m) (name_of (get_or types i d))). end_stands (put_stands sm.stands.before (name_of m)) e in
+        grind (arith, append_assoc) in
         let short : length whole ≤ 263 = grind (arith, length-append) in
         let t = get_or types i d in let size = (s i d l).size in
         let p = before_passed [] whole types (λ i d l. let st = s i d l in let there = stands i d l in grind arith) in
