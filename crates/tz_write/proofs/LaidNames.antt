@@ -249,11 +249,9 @@ module _ (others : List ℕ) where
   key_in : LocalType → ℕ
   key_in t = 8 * (place_of (name_of t) others + length (name_of t)) + length (name_of t)
 
-  abbrev IsBelow : LocalType → LocalType → Type 0
-  IsBelow m t = key_in t ≤ key_in m
-
   -- the place of a type whose key is the greatest
-  greatest : (d t : LocalType) (ts : List LocalType) → (place : ℕ) × (place < length (t ∷ ts)) × All (IsBelow (get_or (t ∷ ts) place d)) (t ∷ ts)
+  greatest : (d t : LocalType) (ts : List LocalType)
+      → (place : ℕ) × (place < length (t ∷ ts)) × All (λ u. key_in u ≤ key_in (get_or (t ∷ ts) place d)) (t ∷ ts)
   greatest d t [] = (0, omega arith, grind arith)
   greatest d t (u ∷ us) =
       let (place, inside, above) = greatest d u us in let m = get_or (u ∷ us) place d in elim (cases_lt (key_in m) (key_in t)) [
@@ -278,7 +276,7 @@ module _ (others : List ℕ) (m : LocalType) (sm : Served others m) where
   Where t = Stands sm.stands.before (name_of t) ⊎ (Ends (name_of m) (name_of t)
       × (place_of (name_of t) others + length (name_of t) ≡ place_of (name_of m) others + length (name_of m)))
 
-  where_is : (t : LocalType) → Served others t → IsBelow others m t → Where t
+  where_is : (t : LocalType) → Served others t → key_in others t ≤ key_in others m → Where t
   unfolding key_in
   where_is t st top =
       let a = sm.stands in let b = st.stands in
@@ -303,7 +301,7 @@ module _ (others : List ℕ) (m : LocalType) (sm : Served others m) where
         let out = at_the_end in grind (arith, cases_lt, nil_from_length, ends_nothing)
 
   -- ---- all types, of which m has the greatest key
-  module _ (types : List LocalType) (s : All (Served others) types) (top : All (IsBelow others m) types) where
+  module _ (types : List LocalType) (s : All (Served others) types) (top : All (λ t. key_in others t ≤ key_in others m) types) where
     places_with : HavePlaces (laid (name_of m) types) types
     unfolding laid with_text
     places_with i d l =
