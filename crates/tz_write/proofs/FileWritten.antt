@@ -219,14 +219,11 @@ back a b bytes e h i = rw (← get_or-append-add a b i 0, ← e) (h (length a + 
 front : (a b bytes : List ℕ) → bytes ≡ a ++ b → Bytes bytes → Bytes a
 front a b bytes e h i = let at = rw e at h i in grind (arith, get_or_append_left, get_or-eq_default, cases_lt i (length a))
 
--- ---- the values that a grammar spells in bytes
+-- ---- the values that a grammar spells in bytes, as far as numbers are read from them
 abbrev Values : {X : Type 0} → Grammar X → X → Type 0
 Values (Nothing v) x = x ≡ v
 Values (Then {X = X} g f) y = (x : X) × Values g x × Values (f x) y
-Values (Marked tag g h) x = Values g x ⊎ Values h x
-Values (Ended g h) x = Values g x ⊎ Values h x
 Values (Exact n) x = Bytes x × (length x ≡ n)
-Values Rest x = Bytes x
 Values (Check P test refusal v) x = P × (x ≡ v)
 Values (Here f) x = (bytes : List ℕ) × Values (f bytes) x
 Values (At place g) x = Values g x
