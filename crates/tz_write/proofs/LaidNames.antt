@@ -5,19 +5,20 @@ use Rattle.std.proofs.{
   Math.Seq.drop-append_seam,
   lemmas.{Bool.{Decides.Decides-by_and, eq-eqb}, List.{append_cancel_left, drop_more, get_or_at, take-append-drop}, Slice.Eq.{ends_is, starts_is}},
 }
+use Rattle.std.specs.List.{ends_with}
 use Rattle.tz_base.{proofs.RunLaws.all_of, specs.LocalTypes.plain_type}
-use Rattle.tz_info.proofs.Words.{Decides-eqb, cases_lt, nat_eq, nil_from_length, zero}
+use Rattle.tz_info.proofs.Words.{Decides-eqb, cases_lt, is_not_zero, nat_eq, nil_from_length, zero}
 use Rattle.tz_write.{
   proofs.Words.{[], All, HasNoZero, HasPlace, HavePlaces, IsNameOrNone, List, LocalType, None, Option, Some, ap, append-nil},
-  proofs.Words.{append_assoc, arith, before_zero, cond, drop, get_or, inl, inr, length, length-append, list_all, name_of, name_or_none, nat_tests, place_of},
-  proofs.Words.{placed_otherwise, pos, refl, suc, sym, take, true, with_text_of, ℕ, ◌*◌, ◌++◌, ◌+◌, ◌<◌, ◌∷◌, ◌≡◌, ◌≤◌, ◌⊎◌},
+  proofs.Words.{append_assoc, arith, cond, drop, get_or, inl, inr, length, length-append, list_all, name_of, name_or_none, nat_tests, place_of},
+  proofs.Words.{placed_otherwise, pos, refl, run_of, suc, sym, take, true, with_text_of, ℕ, ◌*◌, ◌++◌, ◌+◌, ◌<◌, ◌∷◌, ◌≡◌, ◌≤◌, ◌⊎◌},
   proofs.TextBytes.{names_are, no_zeros},
   specs.FileDesignations.{AreNamesIn, AreShortest, StandsAt},
-  specs.Steps.LaidNames.{are_placed, before_last, begins, ends, has_place, have_places, laid, laid_names, or_else, placed_with, text_at, with_text, with_texts},
+  specs.Steps.LaidNames.{are_placed, before_last, begins, has_place, have_places, laid, laid_names, or_else, placed_with, text_at, with_text, with_texts},
 }
 
 -- the text at the place of a text
-front_is : (text rest : List ℕ) → HasNoZero text → before_zero (text ++ (0 ∷ rest)) ≡ text
+front_is : (text rest : List ℕ) → HasNoZero text → run_of is_not_zero (text ++ (0 ∷ rest)) ≡ text
 front_is [] rest none = refl
 front_is (b ∷ bs) rest none = grind (arith, nat_tests, front_is bs rest none.1)
 
@@ -82,7 +83,7 @@ meet (p ∷ b) x a [] y d n k e = grind (arith, from_front y d (p ∷ b) x a k n
 meet (p ∷ b) x a (q ∷ c) y d n k e = grind (arith, meet b x a c y d n k (cc))
 
 -- ---- the end of the last text
-ends_decided : (last text : List ℕ) → Decides (ends last text) (Ends last text)
+ends_decided : (last text : List ℕ) → Decides (ends_with nat_eq last text) (Ends last text)
 ends_decided last text = let e = ends_is {E = nat_eq} Decides-eqb last text _ refl in grind arith
 
 -- ---- the place of a text
