@@ -6,36 +6,35 @@ use Rattle.std.proofs.{
   lemmas.Str.{Ascii.{IsAscii-cons, IsAscii-nil}, IsUtf8-from_ascii},
 }
 use Rattle.std.specs.Str.{IsAscii}
-use Rattle.tz_base.specs.Grammar.{At, Byte, Check, Each, Ended, Exact, Grammar, Here, IsRun, Marked, Nothing, Number, Rest, Run, Then}
+use Rattle.tz_base.specs.{Grammar.{At, Byte, Check, Each, Ended, Exact, Grammar, Here, IsRun, Marked, Nothing, Number, Rest, Run, Then}, LocalTypes.plain_type}
 use Rattle.tz_info.{
   proofs.{FilePieceLaws.file_ends, PosixZoneLaws.in_footer, TrimLaws.trim_whole, TzFileLaws.one_pieces},
-  proofs.Words.{All-push, FilePieces, FitsSigned, IsTzFile, cases_lt, designation_of, drop-drop, drop_front, exact_cut, is_not_zero, leap_at},
-  proofs.Words.{length-drop, length-take, nil_from_length, record_at, take-append-drop, take-suc, take_all, take_more, transition_at, values_below, w32, w64},
-  proofs.Words.◌-◌,
+  proofs.Words.{All-push, FilePieces, FitsSigned, IsTzFile, cases_lt, designation_of, drop-drop, drop_front, exact_cut, is_not_zero, leap_at, length-drop},
+  proofs.Words.{length-take, nil_from_length, record_at, take-append-drop, take-suc, take_all, take_more, transition_at, values_below, w32, w64, ◌-◌},
   specs.declared.file.header.{Counts.Counts, Header.Header, Place.{TheVariants.{First, Second}, Place}, Version.{TheVariants.{Three, Two}, Version}},
   specs.declared.zone.lists.transition.Transition.Transition,
   specs.{FileContents.{designation, indicators, local_type, mark, type_at, typed}, FileHeaders.CountsAgree, FilePieces.later_pieces},
   specs.{Footers.{footer, footer_text, newline, optional_footer, utf8}, TzFiles.{contents, tz_file}},
 }
 use Rattle.tz_write.{
-  proofs.Words.{[], All, AllOf, Bool, HasNoZero, HasPieces, HasPlace, HavePlaces, IsNamedIn, IsRuleOrNone, IsType},
-  proofs.Words.{IsTzText, List, LocalType, None, Option, Parts, Room, Some, Spells, StandsAt, append-nil, drop, ints, name_of, name_or_none, nat_tests},
-  proofs.Words.{TransitionRule, Zone, after_first_block, ap, arith, be_u32, block, both_ways, counts_bytes, counts_test, false, file, place_of, zero},
-  proofs.Words.{file_bytes, first_half, first_version, flat_map, get_or, header, header_bytes, index_bytes, inl, inr, laid_file, later_version, leap_bytes},
-  proofs.Words.{length, length-append, magic, number_bytes, refl, second_half, signed, signed_bytes, six_counts, suc, sym, take, time_bytes},
-  proofs.Words.{true, type_bytes, tzif, version, ℕ, ℤ, ◌*◌, ◌++◌, ◌+◌, ◌<◌, ◌^◌, ◌↔◌, ◌∙◌, ◌∷◌, ◌≡◌, ◌≢◌, ◌≤◌, ◌⊎◌},
+  proofs.Words.{[], All, AllOf, Bool, HasNoZero, HasPieces, HasPlace, HavePlaces, IsNamedIn, IsRuleOrNone, IsType, IsTzText, List, LocalType, None, Option},
+  proofs.Words.{Parts, Room, Some, Spells, StandsAt, append-nil, drop, ints, name_of, name_or_none, nat_tests, TransitionRule, Zone, after_first_block, ap},
+  proofs.Words.{arith, be_u32, block, counts_bytes, counts_test, false, file, place_of, zero, file_bytes, first_half, first_version, flat_map, get_or, header},
+  proofs.Words.{header_bytes, index_bytes, inl, inr, laid_file, later_version, leap_bytes, length, length-append, magic, number_bytes, pos, refl, second_half},
+  proofs.Words.{signed, signed_bytes, six_counts, suc, sym, take, time_bytes, true, type_bytes, tzif, version, ℕ, ℤ, ◌*◌, ◌++◌, ◌+◌, ◌<◌, ◌^◌, ◌↔◌, ◌∷◌, ◌≡◌},
+  proofs.Words.{◌≢◌, ◌≤◌, ◌⊎◌},
   proofs.LaidNames.{AreLaid, has_text, laid_of, laid_size, no_zero},
-  proofs.RuleTexts.{extensions, rule_named, rule_text, text_are, text_begins, text_is},
-  proofs.TextBytes.{AreTextBytes, limits, no_space, no_zeros},
-  specs.WrittenFiles.{AreBytes, HasCounts, IsFooterText, IsSound, IsSpellableOrNone, IsWritable, IsWrittenFile, NeedsExtensions},
+  proofs.RuleTexts.{rule_read, rule_text, text_are, text_begins, text_is},
+  proofs.TextBytes.{AreTextBytes, no_space, no_zeros},
+  specs.WrittenFiles.{AreBytes, HasCounts, HasIndex, IsFooterText, IsSound, IsSpellableOrNone, IsWritable, IsWrittenFile},
   specs.FileBytes.{footer_bytes, least_counts},
   specs.Steps.{FileParts.IsRoomOf, LaidFiles.{block_bytes, footer_text as text_of_rule, is_extended, least_block, unused, zone_counts, zone_parts}},
 }
 
 -- a count
-number_is : (n : ℕ) (rest : List ℕ) → n < 2 ^ 32 → Spells be_u32 (number_bytes n ++ rest) n rest
+number_is : {n : ℕ} (rest : List ℕ) → n < 2 ^ 32 → Spells be_u32 (number_bytes n ++ rest) n rest
 unfolding number_bytes be_u32
-number_is n rest h = (number_bytes n, rest, (refl, refl), (sym (from_be_bytes-to_be_bytes_4 n h), refl))
+number_is {n} rest h = (number_bytes n, rest, (refl, refl), (sym (from_be_bytes-to_be_bytes_4 n h), refl))
 
 -- numbers in two's complement
 signed_32 : (z : ℤ) → FitsSigned w32 z → signed w32 (signed_bytes w32 z) ≡ z
@@ -90,29 +89,16 @@ text_spelled : (d : List ℕ) (place : ℕ) (text : List ℕ) (s : StandsAt d pl
 unfolding designation
 text_spelled d place text s =
     let at : drop place d ≡ text ++ (0 ∷ s.after) = rw (s.whole, ← s.at) (drop_front s.before (text ++ (0 ∷ s.after))) in
-    rw at (
-      tt,
-      _,
-      inr ((λ e. grind (arith, ap length e, length-append)), (refl, refl)),
-      (text, 0 ∷ s.after, record { whole = refl; each = (no_zero_is text).0 s.ends; longest = refl }, inl (s.after, refl, (refl, refl))),
-    )
+    let run : IsRun is_not_zero (text ++ (0 ∷ s.after)) text (0 ∷ s.after) = record { whole = refl; each = (no_zero_is text).0 s.ends; longest = refl } in
+    let some : text ++ (0 ∷ s.after) ≢ [] = λ e. grind (arith, ap length e, length-append) in rw at (grind arith)
 
 type_spelled : (d : List ℕ) (t : LocalType) → HasPlace d t → IsType t → Spells (local_type d) (type_bytes d t) t []
 unfolding local_type mark typed type_bytes signed_bytes
 type_spelled d t p h =
     let stands = has_text (name_of t) d (no_zero t.name h.name) p.stands in
     let same : designation_of (name_of t) ≡ t.name = grind arith in
-    let place = place_of (name_of t) d in (
-      signed_bytes w32 t.offset,
-      _,
-      (refl, refl),
-      (
-        t.dst,
-        place ∷ [],
-        grind arith,
-        (place ∷ [], [], (refl, refl), (_, [], (_, text_spelled d place _ stands, refl), grind (arith, ints, signed_32))),
-      ),
-    )
+    let place = place_of (name_of t) d ∷ [] in let named = text_spelled d _ _ stands in let offset = signed_bytes w32 t.offset in
+    (offset, _, (refl, refl), (t.dst, place, grind arith, (place, [], (refl, refl), (_, [], (_, named, refl), grind (arith, ints, signed_32)))))
 
 -- ---- items appended one after another
 -- the pieces of the items are appended, and each is sound
@@ -142,41 +128,31 @@ version_of false = Two
 
 counts_are : (c : Counts) (rest : List ℕ) → CountsFit c → Spells six_counts (counts_bytes c ++ rest) c rest
 unfolding counts_bytes number_bytes six_counts
-counts_are c rest (a, b, d, e, f, g) = (
-  _,
-  _,
-  number_is _ _ a,
-  (_, _, number_is _ _ b, (_, _, number_is _ _ d, (_, _, number_is _ _ e, (_, _, number_is _ _ f, (_, _, number_is _ _ g, (refl, refl)))))),
-)
+counts_are c rest (a, b, d, e, f, g) =
+    (_, _, number_is _ a, (_, _, number_is _ b, (_, _, number_is _ d, (_, _, number_is _ e, (_, _, number_is _ f, (_, _, number_is _ g, (refl, refl)))))))
 
 header_is : (place : Place) (extended : Bool) (c : Counts) (rest : List ℕ) → CountsFit c → CountsAgree c
     → Spells (header place) (header_bytes extended c ++ rest) (record { version = version_of extended; counts = c }) rest
 unfolding header_bytes header tzif version
-header_is place extended c rest fit agree = (
-  tt,
-  _,
-  (magic, _, (refl, refl), (refl, refl, refl)),
-  (version_of extended, unused ++ (counts_bytes c ++ rest), grind arith, (unused, _, (refl, refl), (_, _, counts_are c rest fit, (agree, refl, refl)))),
-)
+header_is place extended c rest fit agree =
+    let after = unused ++ (counts_bytes c ++ rest) in let counts = counts_are c rest fit in let given = version_of extended in
+    (tt, _, (magic, _, (refl, refl), (refl, refl, refl)), (given, after, grind arith, (unused, _, (refl, refl), (_, _, counts, (agree, refl, refl)))))
 
 -- ---- footers
--- letters, digits and signs of ASCII, and no colon in front
-abbrev IsPlain : List ℕ → Type 0
-IsPlain text = AreTextBytes text × (get_or text 0 0 ≢ 58)
-
 ascii : (text : List ℕ) → AreTextBytes text → IsAscii (text ++ 10 ∷ [])
 ascii [] h = IsAscii-cons 10 [] (omega arith) IsAscii-nil
-ascii (b ∷ bs) h = IsAscii-cons b (bs ++ 10 ∷ []) (limits b h.0).1 (ascii bs h.1)
+ascii (b ∷ bs) h = IsAscii-cons b (bs ++ 10 ∷ []) (grind (arith, nat_tests)) (ascii bs h.1)
 
--- no text is no rule
+-- no text is no rule; that of a rule has letters, digits and signs of ASCII, and no colon in front
 abbrev SaysRule : Bool → List ℕ → Option TransitionRule → Type 0
 SaysRule extended text None = text ≡ []
-SaysRule extended text (Some rule) = (text ≢ []) × IsTzText extended text rule
+SaysRule extended text (Some rule) = (text ≢ []) × IsTzText extended text rule × AreTextBytes text × (get_or text 0 0 ≢ 58)
 
-footer_is : (extended : Bool) (text : List ℕ) (rule : Option TransitionRule) → IsPlain text → SaysRule extended text rule
+footer_is : (extended : Bool) (text : List ℕ) (rule : Option TransitionRule) → SaysRule extended text rule
     → Spells (footer extended) (footer_bytes text) rule (footer_bytes text)
 unfolding footer utf8 newline footer_text
-footer_is extended text rule p says =
+footer_is extended text rule says =
+    let p : AreTextBytes text × (get_or text 0 0 ≢ 58) = grind arith in
     let utf8 = IsUtf8-from_ascii (footer_bytes text) (IsAscii-cons 10 (text ++ 10 ∷ []) (omega arith) (ascii text p.0)) in
     let trims = trim_whole (10 ∷ []) text (10 ∷ []) (refl, tt) (no_space text p.0) (refl, tt) in
     let run : IsRun is_not_zero text text [] =
@@ -197,38 +173,28 @@ unfolding file_bytes first_half header_bytes counts_bytes number_bytes
 first_header extended text d z = header_is First extended _ _ (grind arith) ((counts_test least_counts).decides.0 refl)
 
 -- ---- the second half
-some_designations : (types : List LocalType) (d : List ℕ) → 0 < length types → HavePlaces d types → length d ≢ 0
-some_designations [] d some places e = omega arith
-some_designations (t ∷ ts) d some places e = grind (arith, places 0 t some)
-
 abbrev pieces_of : Bool → List ℕ → List ℕ → Zone → FilePieces
 pieces_of extended text d z = later_pieces (record { version = version_of extended; counts = zone_counts d z }) (zone_parts d z) (footer_bytes text)
 
 -- a zone that has types, and designations that have their places
 module _ (extended : Bool) (text d : List ℕ) (z : Zone) (size : length d ≤ 263) (counts : HasCounts z) (some : 0 < length z.types)
     (places : HavePlaces d z.types) (sound : IsSound z) where
-  second_block : (rest : List ℕ) → Spells (block 8 (zone_counts d z)) (block_bytes (zone_parts d z) rest) (zone_parts d z) rest
-  unfolding block type_bytes leap_bytes signed_bytes
-  second_block rest =
-      grind (arith, records_length 8 time_bytes, records_length 1 index_bytes, records_length 6 (type_bytes d), records_length 12 leap_bytes)
-
   second_is : Spells later_version (second_half extended text d z) (pieces_of extended text d z) []
-  unfolding second_half later_version
-  second_is = (
-    _,
-    _,
-    header_is Second extended _ _ (grind arith) (grind (arith, some_designations)),
-    (_, _, second_block (footer_bytes text), (_, [], (refl, refl), (refl, refl))),
-  )
+  unfolding second_half later_version block type_bytes leap_bytes signed_bytes
+  second_is =
+      let last : Spells (block 8 (zone_counts d z)) (block_bytes (zone_parts d z) (footer_bytes text)) (zone_parts d z) (footer_bytes text) =
+      grind (arith, records_length 8 time_bytes, records_length 1 index_bytes, records_length 6 (type_bytes d), records_length 12 leap_bytes) in
+      let first = places 0 (plain_type (pos 0)) some in let second = header_is Second extended _ _ (grind arith) (grind arith) in
+      (_, _, second, (_, _, last, (_, [], (refl, refl), (refl, refl))))
 
   -- ---- the whole
   file_pieces : HasPieces (file_bytes extended text d z) (pieces_of extended text d z)
   unfolding file after_first_block block
   file_pieces = (_, _, first_header extended text d z, (least_parts, second_half extended text d z, grind arith, grind (arith, second_is)))
 
-  file_says : IsPlain text → SaysRule extended text z.rule → IsTzFile (file_bytes extended text d z) z
+  file_says : SaysRule extended text z.rule → IsTzFile (file_bytes extended text d z) z
   unfolding tz_file contents indicators optional_footer leap_bytes signed_bytes type_at type_bytes
-  file_says plain says =
+  file_says says =
       let p = pieces_of extended text d z in
       let same : p.extended ≡ extended = grind arith in
       let every = each_are (type_at p) [] z.types (λ k t l. rw (record_is 6 (type_bytes d) (λ _. refl) z.types k t l)
@@ -239,12 +205,9 @@ module _ (extended : Bool) (text d : List ℕ) (z : Zone) (size : length d ≤ 2
       grind (arith, record_is 8 time_bytes (λ _. refl) z.transitions k d l, sound.times k d l, get_or-map, signed_64)) in
       let leaps = values_are (leap_at p) z.leaps (λ k d l. let entry = sound.leaps k d l in
       rw (record_is 12 leap_bytes (λ _. refl) z.leaps k d l) (grind (arith, signed_64 _ entry.time, signed_32 _ entry.correction))) in
-      let footer = footer_is extended text z.rule plain says in (
-        p,
-        [],
-        file_pieces,
-        (_, [], types, (tt, [], ([], [], (refl, refl), (refl, refl)), (z.rule, [], (footer_bytes text, rw same footer, refl), grind arith))),
-      )
+      let footer : Spells (optional_footer p.extended p.footer) [] z.rule [] =
+      (footer_bytes text, rw same (footer_is extended text z.rule says), refl) in
+      (p, [], file_pieces, (_, [], types, (tt, [], ([], [], (refl, refl), (refl, refl)), (z.rule, [], footer, grind arith))))
 
 -- numbers below 256
 abbrev Bytes : List ℕ → Type 0
@@ -256,14 +219,11 @@ back a b bytes e h i = rw (← get_or-append-add a b i 0, ← e) (h (length a + 
 front : (a b bytes : List ℕ) → bytes ≡ a ++ b → Bytes bytes → Bytes a
 front a b bytes e h i = let at = rw e at h i in grind (arith, get_or_append_left, get_or-eq_default, cases_lt i (length a))
 
--- ---- the values that a grammar spells in bytes
+-- ---- the values that a grammar spells in bytes, as far as numbers are read from them
 abbrev Values : {X : Type 0} → Grammar X → X → Type 0
 Values (Nothing v) x = x ≡ v
 Values (Then {X = X} g f) y = (x : X) × Values g x × Values (f x) y
-Values (Marked tag g h) x = Values g x ⊎ Values h x
-Values (Ended g h) x = Values g x ⊎ Values h x
 Values (Exact n) x = Bytes x × (length x ≡ n)
-Values Rest x = Bytes x
 Values (Check P test refusal v) x = P × (x ≡ v)
 Values (Here f) x = (bytes : List ℕ) × Values (f bytes) x
 Values (At place g) x = Values g x
@@ -298,15 +258,8 @@ after_fits v c parts p h fit = grind (arith, header_fits)
 -- ---- names
 text_stands : (d : List ℕ) (place : ℕ) (text rest : List ℕ) → Spells designation (drop place d) text rest → StandsAt d place text
 unfolding designation
-text_stands d place text rest (_, bytes, inl none, _) = absurd none.1
-text_stands d place text rest (_, bytes, inr (some, (_, same)), (run, after, is, inr none)) = absurd none.1
-text_stands d place text rest (_, bytes, inr (some, (_, same)), (run, after, is, inl (others, zero_first, (value, _)))) = record {
-  before = take place d;
-  after = others;
-  whole = sym (take-append-drop place d) ∙ ap (λ s. take place d ++ s) (same ∙ is.whole ∙ rw (zero_first, value) refl);
-  at = let none = nil_from_length (drop place d) in grind (arith, length-take, length-drop);
-  ends = rw value ((no_zero_is run).1 is.each);
-}
+text_stands d place text rest h =
+    let none = nil_from_length (drop place d) in grind (arith, take-append-drop place d, length-take, length-drop, no_zero_is)
 
 type_named : (p : FilePieces) (k : ℕ) (bytes : List ℕ) (t : LocalType) (rest : List ℕ) → Bytes p.parts.types → Spells (type_at p k) bytes t rest
     → IsNamedIn p.parts.designations t
@@ -331,20 +284,9 @@ writable bytes z are (p, after, pieces, (types, c, each, (_, e, _, (rule, f, say
     let named = each_all (IsNamedIn p.parts.designations) (type_at p) after p.counts.types types c (λ k s t r. type_named p k s t r in_types) each in
     let times = values_is (transition_at p) p.counts.transitions in
     let leaps = values_is (leap_at p) p.counts.leap_seconds in
-    rw value (record {
-      room = record {
-        counts = grind arith;
-        indexes = λ k d l. rw (times.1 k d (omega (arith, times.0))) (indexes k);
-        designations = p.parts.designations;
-        names = named.0;
-      };
-      rule = grind (arith, rule_named, in_footer p.extended p.footer e rule f says);
-    })
-
--- that text is the footer of that rule
-pub needs_extensions : (rule : Option TransitionRule) (text : List ℕ) (extended : Bool) → IsFooterText rule text extended → IsRuleOrNone rule
-    → (extended ≡ true) ↔ NeedsExtensions rule
-needs_extensions rule text extended footer fits = grind (arith, extensions, both_ways)
+    let each_index : All HasIndex (values_below p.counts.transitions (transition_at p)) = λ k d l. rw (times.1 k d (omega (arith, times.0))) (indexes k) in
+    let footer = in_footer p.extended p.footer e rule f says in
+    rw value (record { room = record { counts = grind arith; indexes = each_index; designations = _; names = named.0 }; rule = grind (arith, rule_read) })
 
 -- ---- a zone that can be written
 module _ (z : Zone) (some : 0 < length z.types) (fits : IsRuleOrNone z.rule) (sound : IsSound z) where
@@ -352,9 +294,9 @@ module _ (z : Zone) (some : 0 < length z.types) (fits : IsRuleOrNone z.rule) (so
       → IsWrittenFile z (file_bytes extended text d z)
   unfolding laid_file file_bytes first_half second_half header_bytes counts_bytes number_bytes
   written_is d text extended counts laid footer =
-      let p : IsPlain text × SaysRule extended text z.rule = grind (arith, rule_named, rule_text, text_begins, text_are) in
+      let says : SaysRule extended text z.rule = grind (arith, rule_read, rule_text, text_begins, text_are) in
       let size = laid_size _ _ laid.1 in record {
-        spells = file_says extended text d z size counts some laid.0 sound p.0 p.1;
+        spells = file_says extended text d z size counts some laid.0 sound says;
         text = text;
         extended = extended;
         footer = footer;

@@ -5,19 +5,20 @@ use Rattle.std.proofs.{
   Math.Seq.drop-append_seam,
   lemmas.{Bool.{Decides.Decides-by_and, eq-eqb}, List.{append_cancel_left, drop_more, get_or_at, take-append-drop}, Slice.Eq.{ends_is, starts_is}},
 }
-use Rattle.tz_base.proofs.RunLaws.{all_of}
-use Rattle.tz_info.proofs.Words.{Decides-eqb, cases_lt, nat_eq, nil_from_length, zero}
+use Rattle.std.specs.List.{ends_with}
+use Rattle.tz_base.{proofs.RunLaws.all_of, specs.LocalTypes.plain_type}
+use Rattle.tz_info.proofs.Words.{Decides-eqb, cases_lt, is_not_zero, nat_eq, nil_from_length, zero}
 use Rattle.tz_write.{
   proofs.Words.{[], All, HasNoZero, HasPlace, HavePlaces, IsNameOrNone, List, LocalType, None, Option, Some, ap, append-nil},
-  proofs.Words.{append_assoc, arith, before_zero, cond, drop, get_or, inl, inr, length, length-append, list_all, name_of, name_or_none, nat_tests, place_of},
-  proofs.Words.{placed_otherwise, refl, suc, sym, take, true, with_text_of, ℕ, ◌*◌, ◌++◌, ◌+◌, ◌<◌, ◌∷◌, ◌≡◌, ◌≤◌, ◌⊎◌},
+  proofs.Words.{append_assoc, arith, cond, drop, get_or, inl, inr, length, length-append, list_all, name_of, name_or_none, nat_tests, place_of},
+  proofs.Words.{placed_otherwise, pos, refl, run_of, suc, sym, take, true, with_text_of, ℕ, ◌*◌, ◌++◌, ◌+◌, ◌<◌, ◌∷◌, ◌≡◌, ◌≤◌, ◌⊎◌},
   proofs.TextBytes.{names_are, no_zeros},
   specs.FileDesignations.{AreNamesIn, AreShortest, StandsAt},
-  specs.Steps.LaidNames.{are_placed, before_last, begins, ends, has_place, have_places, laid, laid_names, or_else, placed_with, text_at, with_text, with_texts},
+  specs.Steps.LaidNames.{are_placed, before_last, begins, has_place, have_places, laid, laid_names, or_else, placed_with, text_at, with_text, with_texts},
 }
 
 -- the text at the place of a text
-front_is : (text rest : List ℕ) → HasNoZero text → before_zero (text ++ (0 ∷ rest)) ≡ text
+front_is : (text rest : List ℕ) → HasNoZero text → run_of is_not_zero (text ++ (0 ∷ rest)) ≡ text
 front_is [] rest none = refl
 front_is (b ∷ bs) rest none = grind (arith, nat_tests, front_is bs rest none.1)
 
@@ -82,7 +83,7 @@ meet (p ∷ b) x a [] y d n k e = grind (arith, from_front y d (p ∷ b) x a k n
 meet (p ∷ b) x a (q ∷ c) y d n k e = grind (arith, meet b x a c y d n k (cc))
 
 -- ---- the end of the last text
-ends_decided : (last text : List ℕ) → Decides (ends last text) (Ends last text)
+ends_decided : (last text : List ℕ) → Decides (ends_with nat_eq last text) (Ends last text)
 ends_decided last text = let e = ends_is {E = nat_eq} Decides-eqb last text _ refl in grind arith
 
 -- ---- the place of a text
@@ -238,16 +239,6 @@ module _ (last others : List ℕ) where
     unfolding before_last
     before_passed = let step = pass in grind arith
 
--- ---- texts
-at_size : {bytes text : List ℕ} {place : ℕ} (s : StandsAt bytes place text) → length bytes ≡ place + length text + 1 + length s.after
-at_size s = grind (arith, length-append)
-
-abbrev stands_of : {bytes text : List ℕ} {place : ℕ} → StandsAt bytes place text → Stands bytes text
-stands_of s = record { before = s.before; after = s.after; whole = s.whole }
-
-no_text : {bytes text : List ℕ} → Stands bytes text → Stands bytes []
-no_text {text = text} s = end_stands s (ends_nothing text)
-
 -- ---- designations that have the names
 module _ (others : List ℕ) where
   record Served (t : LocalType) : Type 0 where
@@ -259,11 +250,9 @@ module _ (others : List ℕ) where
   key_in : LocalType → ℕ
   key_in t = 8 * (place_of (name_of t) others + length (name_of t)) + length (name_of t)
 
-  abbrev IsBelow : LocalType → LocalType → Type 0
-  IsBelow m t = key_in t ≤ key_in m
-
   -- the place of a type whose key is the greatest
-  greatest : (d t : LocalType) (ts : List LocalType) → (place : ℕ) × (place < length (t ∷ ts)) × All (IsBelow (get_or (t ∷ ts) place d)) (t ∷ ts)
+  greatest : (d t : LocalType) (ts : List LocalType)
+      → (place : ℕ) × (place < length (t ∷ ts)) × All (λ u. key_in u ≤ key_in (get_or (t ∷ ts) place d)) (t ∷ ts)
   greatest d t [] = (0, omega arith, grind arith)
   greatest d t (u ∷ us) =
       let (place, inside, above) = greatest d u us in let m = get_or (u ∷ us) place d in elim (cases_lt (key_in m) (key_in t)) [
@@ -288,11 +277,11 @@ module _ (others : List ℕ) (m : LocalType) (sm : Served others m) where
   Where t = Stands sm.stands.before (name_of t) ⊎ (Ends (name_of m) (name_of t)
       × (place_of (name_of t) others + length (name_of t) ≡ place_of (name_of m) others + length (name_of m)))
 
-  where_is : (t : LocalType) → Served others t → IsBelow others m t → Where t
+  where_is : (t : LocalType) → Served others t → key_in others t ≤ key_in others m → Where t
   unfolding key_in
   where_is t st top =
       let a = sm.stands in let b = st.stands in
-      grind (arith, length-append, no_front, at_size a, at_size b, meet a.before _ a.after b.before _ b.after a.ends b.ends (cc))
+      grind (arith, length-append, no_front, meet a.before _ a.after b.before _ b.after a.ends b.ends (cc))
 
   -- t is another one, and the designations are those in front of the last name
   module _ (t : LocalType) (st : Served others t) (where_t : Where t) (bytes : List ℕ) (r : Room (name_of m) sm.stands.before bytes 3)
@@ -313,16 +302,13 @@ module _ (others : List ℕ) (m : LocalType) (sm : Served others m) where
         let out = at_the_end in grind (arith, cases_lt, nil_from_length, ends_nothing)
 
   -- ---- all types, of which m has the greatest key
-  module _ (types : List LocalType) (s : All (Served others) types) (top : All (IsBelow others m) types) where
-    places : All Where types
-    places i d l = where_is _ (s i d l) (top i d l)
-
+  module _ (types : List LocalType) (s : All (Served others) types) (top : All (λ t. key_in others t ≤ key_in others m) types) where
     places_with : HavePlaces (laid (name_of m) types) types
     unfolding laid with_text
     places_with i d l =
-        let given : All (Given (name_of m) sm.stands.before) types = λ i d l. let st = s i d l in let where_t = places i d l in grind arith in
+        let given : All (Given (name_of m) sm.stands.before) types = λ i d l. let st = s i d l in let where_t = where_is _ st (top i d l) in grind arith in
         let p = before_passed _ _ types given in
-        laid_place _ (s i d l) (places i d l) _ p.room
+        laid_place _ (s i d l) (where_is _ (s i d l) (top i d l)) _ p.room
         (before_keeps (λ d. (d ≡ []) ⊎ In d []) (λ d text h. grind (arith, nat_tests, put_in, ends_nothing)) _ types (inl refl))
         (p.inside (omega arith) i d l)
 
@@ -331,25 +317,21 @@ module _ (others : List ℕ) (m : LocalType) (sm : Served others m) where
     unfolding laid
     in_order_in i d l =
         let whole = added sm.stands.before (name_of m) in
-        let stands : All (λ t. Stands whole (name_of t)) types = λ i d l. elim (places i d l) [
-          | inl s ↦ grind (arith, nat_tests, append_assoc)
-          | inr q ↦ end_stands (put_stands sm.stands.before (name_of m)) q.0
-        ] in
+        let stands : All (λ t. Stands whole (name_of t)) types = λ i d l. let where_t = where_is _ (s i d l) (top i d l) in
+        let end = λ (e : Ends (name_of m) (name_of (get_or types i d))). end_stands (put_stands sm.stands.before (name_of m)) e in
+        grind (arith, append_assoc) in
         let short : length whole ≤ 263 = grind (arith, length-append) in
         let t = get_or types i d in let size = (s i d l).size in
         let p = before_passed [] whole types (λ i d l. let st = s i d l in let there = stands i d l in grind arith) in
-        let out = room_of [] whole (before_last [] types) [] 3 p.room tt (inl (omega arith)) (no_text (stands i d l)) in
+        let out = room_of [] whole (before_last [] types) [] 3 p.room tt (inl (omega arith)) (end_stands (stands i d l) (ends_nothing _)) in
         let inside = p.inside short i d l in let keep = kept (before_last [] types) [] (name_of t) in
         let nothing = λ (e : Ends [] (name_of t)). length-append e.front (name_of t) in grind (arith, nil_from_length, put)
 
-    short_with : In (laid [] types) (name_of m) → length (laid (name_of m) types) ≤ length (laid [] types)
-    short_with found = grind (arith, laid_short, in_stands, in_order_in)
-
 -- ---- no shorter ones
 in_order_short : (types : List LocalType) (others : List ℕ) → 0 < length types → AreNamesIn others types → length (laid [] types) ≤ length others
-in_order_short [] others some names = grind arith
-in_order_short (t ∷ ts) others some names = laid_short [] _ (t ∷ ts) tt (no_text (stands_of (names 0 t some).stands))
-    (λ i d l. let named = names i d l in grind arith)
+in_order_short types others some names =
+    let first : Stands others _ = record { before = _; after = _; whole = (names 0 (plain_type (pos 0)) some).stands.whole } in
+    laid_short [] _ types tt (end_stands first (ends_nothing _)) (λ i d l. let named = names i d l in grind arith)
 
 -- ---- what is laid
 abbrev AreNames : List LocalType → Type 0
@@ -403,13 +385,13 @@ none_laid [] others some named names none = grind arith
 none_laid (t ∷ ts) others some named names none =
     let types = t ∷ ts in
     let s : All (Served others) types = λ i d l.
-    let h = names i d l in let name = named i d l in let at = stands_in _ _ (stands_of h.stands) in let size = at_size h.stands in
+    let h = names i d l in let name = named i d l in let at = stands_in _ _ (record { before = _; after = _; whole = h.stands.whole }) in
     grind (arith, nat_tests, has_text) in
     let (place, inside, above) = greatest others t t ts in
     let m = get_or types place t in let sm = s place t inside in
-    let found = in_order_in _ m sm types s above place t inside in
-    none_placed types (name_of m) sm.size.1 none sm.stands.ends found
-    (places_with _ m sm types s above, short_with _ m sm types s above found)
+    let there = in_order_in _ m sm types s above in let found = there place t inside in
+    let short : length (laid (name_of m) types) ≤ length (laid [] types) = grind (arith, laid_short, in_stands) in
+    none_placed types (name_of m) sm.size.1 none sm.stands.ends found (places_with _ m sm types s above, short)
 
 -- the designations that are laid
 abbrev pub AreLaid : List LocalType → List ℕ → Type 0
@@ -429,11 +411,8 @@ module _ (types : List LocalType) (some : 0 < length types) (names : AreNames ty
   laid_of bytes named = let none = none_laid types bytes some names named in laid_is _ (grind arith)
 
 -- ---- they have room
-size_with : (bytes text : List ℕ) → length bytes ≤ 263 → length (with_text bytes text) ≤ 263
-unfolding with_text
-size_with bytes text h = grind (arith, length-append)
-
 pub laid_size : (types : List LocalType) (bytes : List ℕ) → laid_names types ≡ Some bytes → length bytes ≤ 263
-unfolding laid
+unfolding laid with_text
 laid_size types bytes h =
-    let size = size_with _ [] (before_keeps (λ d. length d ≤ 263) size_with [] types (omega arith)) in let placed = laid_placed types bytes h in omega arith
+    let step : (d text : List ℕ) → length d ≤ 263 → length (with_text d text) ≤ 263 = λ d text h. grind (arith, length-append) in
+    let size = step _ [] (before_keeps (λ d. length d ≤ 263) step [] types (omega arith)) in let placed = laid_placed types bytes h in omega arith

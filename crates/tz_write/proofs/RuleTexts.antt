@@ -15,7 +15,7 @@ use Rattle.tz_write.{
   proofs.TextBytes.{writes_nothing, writes_optional, writes_other, writes_then},
   proofs.Words.{[], AllOf, AreInPairs, Bool, IsRule, IsRuleOrNone, List, LocalType, None, NoneFirst, Option, Some, Spells, TransitionRule, Without, Zone, ap},
   proofs.Words.{append-nil, append_assoc, arith, both_ways, colon, comma, cond, false, greater, inl, inr, is_digit, is_name_byte, length, length-append},
-  proofs.Words.{less, list_all, name_of, name_or_none, nat_tests, not, refl, slash, spelled_rule, true, ℕ, ℤ, ◌%◌, ◌&&◌, ◌*◌, ◌++◌, ◌/◌, ◌<◌, ◌==◌, ◌↔◌, ◌∙◌},
+  proofs.Words.{less, list_all, name_of, name_or_none, nat_tests, not, refl, slash, spelled_rule, true, ℕ, ℤ, ◌%◌, ◌&&◌, ◌++◌, ◌/◌, ◌<◌, ◌==◌, ◌↔◌, ◌∙◌},
   proofs.Words.{◌∷◌, ◌≡◌, ◌≤◌},
   specs.Steps.TextPieces.{has_plain_times, spelled_clock, spelled_date, spelled_day, spelled_days, spelled_dst_offset, spelled_minutes, spelled_name},
   specs.Steps.TextPieces.{spelled_offset, spelled_signed, spelled_time},
@@ -30,10 +30,6 @@ use Rattle.tz_info.specs.declared.rule.transition_rule.TransitionRule.TheVariant
 abbrev Stops : List ℕ → Type 0
 Stops rest = NoneFirst is_digit rest × Without colon rest × Without slash rest
 
--- seconds below n hours, before or after midnight
-hours_within : (hours : ℕ) (z : ℤ) → (neg_ℤ (pos (3600 * hours)) <ℤ z) × (z <ℤ pos (3600 * hours)) → unsigned_abs z / 3600 < hours
-hours_within hours z h = grind (arith, ints)
-
 clock_begins : (n : ℕ) (rest : List ℕ) → n / 3600 < 1000 → Begins 48 57 (spelled_clock n ++ rest)
 unfolding spelled_clock
 clock_begins n rest l = grind (arith, append_assoc, number_begins)
@@ -41,7 +37,7 @@ clock_begins n rest l = grind (arith, append_assoc, number_begins)
 -- an offset begins with a digit or a minus
 offset_begins : (east : ℤ) (rest : List ℕ) → IsWithinDay east → Begins 45 57 (spelled_offset east ++ rest)
 unfolding spelled_offset
-offset_begins east rest h = grind (arith, clock_begins, hours_within)
+offset_begins east rest h = grind (arith, ints, clock_begins)
 
 -- ---- what is written before a rest that ends it
 module _ (rest : List ℕ) (stops : Stops rest) where
@@ -72,12 +68,12 @@ module _ (rest : List ℕ) (stops : Stops rest) where
   offset_writes : (east : ℤ) → IsWithinDay east → Writes tz.offset (spelled_offset east) east rest
   unfolding spelled_offset tz.offset tz.time_sign
   offset_writes east h =
-      signed_writes 23 _ east (grind (arith, hours_within)) (omega arith) true not _ (grind arith) (grind (arith, ints))
+      signed_writes 23 _ east (grind (arith, ints)) (omega arith) true not _ (grind arith) (grind (arith, ints))
 
   time_writes : (extended : Bool) (time : ℤ) → IsTextTime extended time → Writes (tz.time extended) (spelled_time time) time rest
   unfolding spelled_time tz.time
   time_writes extended time h =
-      signed_writes (time_limit extended) _ time (grind (arith, hours_within)) (grind (arith, nat_tests)) extended (λ m. m) _
+      signed_writes (time_limit extended) _ time (grind (arith, ints)) (grind (arith, nat_tests)) extended (λ m. m) _
       (grind (arith, le-ltb)) (grind (arith, ints))
 
 -- ---- the front of bytes that spell the same
@@ -239,9 +235,6 @@ rule_read extended bytes rule (name, after, n, (east, end, o, inr (_, (dst_name,
           (front_cons c (rw (same ∙ none) at (day_front _ _ _ _ q)))))))));
     })
 
-pub rule_named : (extended : Bool) (bytes : List ℕ) (rule : TransitionRule) → IsTzText extended bytes rule → CanBeSpelled rule
-rule_named extended bytes rule h = (rule_read extended bytes rule h).named
-
 -- ---- its own text
 dst_ends_name : (std dst : ℤ) (rest : List ℕ) → IsWithinDay dst → NoneFirst is_letter (spelled_dst_offset std dst ++ (comma ∷ rest))
 dst_ends_name std dst rest h = grind (arith, nat_tests, offset_begins, by_hour (λ s. NoneFirst is_letter (s ++ (comma ∷ rest))))
@@ -272,9 +265,6 @@ rule_writes extended (rules.Alternate a) fits ((m, s), (n, d)) (start, end) =
 pub text_begins : (rule : TransitionRule) → CanBeSpelled rule → Begins 60 122 (spelled_rule rule)
 text_begins rule named = grind (arith, name_begins, append_assoc)
 
-pub text_once : (rule : TransitionRule) (s t : List ℕ) (d e : Bool) → IsWrittenText rule s d → IsWrittenText rule t e → (s ≡ t) × (d ≡ e)
-text_once rule s t d e p q = grind arith
-
 -- a rule that a zone can have
 module _ (rule : TransitionRule) (fits : IsRule rule) where
   -- some text spells it
@@ -298,21 +288,19 @@ module _ (rule : TransitionRule) (fits : IsRule rule) where
   -- that text is written of it
   module _ (text : List ℕ) (extended : Bool) (h : IsWrittenText rule text extended) where
     pub rule_text : (text ≡ spelled_rule rule) × (extended ≡ not (has_plain_times rule))
-    rule_text = grind (arith, text_is, text_once, rule_named)
+    rule_text = grind (arith, text_is, rule_read)
 
     -- a text has extensions if the rule's times need them
     pub extensions : (extended ≡ true) ↔ (¬ (AreTimesOf false rule))
-    extensions = grind (arith, rule_spelled, rule_named, both_ways, rule_read)
+    extensions = grind (arith, rule_spelled, both_ways, rule_read)
 
 -- what a law says of the text of a rule
-pub ruleset rule_laws = (extensions, rule_named, text_once, text_some)
+pub ruleset rule_laws = (extensions, rule_read, text_some)
 
 -- ---- white space at the ends
--- only white space comes after
-module _ (after : List ℕ) (space : IsSpace after) where
-  pairs_before : (bs : List ℕ) → AreInPairs (bs ++ after) → AreInPairs bs
-  pairs_before [] h = tt
-  pairs_before (b ∷ bs) h = grind (arith, nat_tests, pairs_before bs)
+pairs_before : (bs after : List ℕ) → IsSpace after → AreInPairs (bs ++ after) → AreInPairs bs
+pairs_before [] after space h = tt
+pairs_before (b ∷ bs) after space h = grind (arith, nat_tests, pairs_before bs after)
 
 pub written_zone : (types : List LocalType) (rule : Option TransitionRule) → IsRuleOrNone rule → HasZoneText types rule
     → IsWrittenZone (zone_of_rule types rule) (footer_text rule)
@@ -327,7 +315,7 @@ written_zone types (Some rule) fits h =
       shortest = λ other gives pairs.
           let s : IsTzText false (trimmed other) rule = grind arith in
           let (before, after, whole, _, space) = trim_is other in
-          let best = (rule_read false _ rule s).best (pairs_before after space (trimmed other) (pairs_rest before _ (rw whole at pairs))) in
+          let best = (rule_read false _ rule s).best (pairs_before (trimmed other) after space (pairs_rest before _ (rw whole at pairs))) in
           grind (arith, length-append, nil_from_length, append-nil);
     }
 

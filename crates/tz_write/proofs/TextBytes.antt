@@ -91,12 +91,9 @@ module _ (p : ℕ → Bool) where
 pub names_are : (bs : List ℕ) → AllOf is_name_byte bs → AreTextBytes bs
 names_are = all_others is_name_byte is_text_byte (λ b h. rw h refl)
 
-pub limits : (b : ℕ) → is_text_byte b ≡ true → (b ≢ 0) × (b < 128)
-limits b h = grind (arith, nat_tests)
-
 pub no_zeros : (text : List ℕ) → AreTextBytes text → HasNoZero text
 no_zeros [] h = tt
-no_zeros (b ∷ bs) h = ((limits b h.0).0, no_zeros bs h.1)
+no_zeros (b ∷ bs) h = (grind (arith, nat_tests), no_zeros bs h.1)
 
 -- ---- texts of pieces
 -- the text before that rest spells x; it has only those bytes; and each of its colons has two digits after it, if they do in the rest

@@ -5,10 +5,10 @@ pub use Rattle.std.{
   proofs.Common.{None, Option, Some, ◌^◌},
   specs.List.{flat_map, fold},
 }
-pub use Rattle.tz_base.specs.{Fronts.{AllOf, NoneFirst, is_digit}, Grammar.Without, Names.is_name_byte}
+pub use Rattle.tz_base.specs.{Fronts.{AllOf, NoneFirst, is_digit, run_of}, Grammar.Without, Names.is_name_byte}
 pub use Rattle.tz_info.{
   proofs.Words.{[], All, Bool, HasPieces, IsNameOrNone, IsRule, IsRuleOrNone, IsTzText, List, LocalType},
-  proofs.Words.{MatchOption, Parts, Spells, Zone, ap, append-nil, append_assoc, arith, cond, drop, false},
+  proofs.Words.{MatchOption, Parts, Spells, Zone, ap, append-nil, append_assoc, arith, cond, drop, false, is_not_zero},
   proofs.Words.{false≢true, get_or, inl, inr, ints, length, length-append, list_all, magic, nat_tests, not, pos, refl, rules, subst, suc, sym, take},
   proofs.Words.{true, unsigned_abs, zero, ℕ, ℤ, ◌%◌, ◌&&◌, ◌*◌, ◌++◌, ◌+ℤ◌, ◌+◌, ◌/◌, ◌<ℤ◌, ◌<◌, ◌==◌, ◌↔◌, ◌∙◌, ◌∷◌, ◌≡◌, ◌≢◌, ◌≤ℤ◌, ◌≤◌, ◌⊎◌},
   specs.{FileHeaders.counts_test, TzGrammar.{colon, comma, greater, less, slash}},
@@ -18,7 +18,7 @@ pub use Rattle.tz_write.specs.{
   FileDesignations.{AreShortest, HasNoZero, IsNamedIn, StandsAt, name_of, name_or_none},
   Steps.{
     LaidFiles.{index_bytes, time_bytes},
-    LaidNames.{HasPlace, HavePlaces, before_zero, place_of, placed_otherwise, with_text_of},
+    LaidNames.{HasPlace, HavePlaces, place_of, placed_otherwise, with_text_of},
     TextPieces.{spelled_pair, spelled_rule},
   },
   WrittenFiles.{HasIndex, HasTimeOf64Bits, IsEntry, IsType},

@@ -62,7 +62,7 @@ impl ToTzData for TimeZone {
     ///     let again = TimeZone::from_tz_data(alloc, &bytes)?; // equal to zone
     /// }
     /// ```
-    #[tactic(auto, using(crate::proofs::FileWritten::can_be_written, crate::proofs::FileWritten::writable, crate::proofs::RuleTexts::rule_named))]
+    #[tactic(auto, using(crate::proofs::FileWritten::can_be_written, crate::proofs::FileWritten::writable, crate::proofs::RuleTexts::rule_read))]
     fn to_tz_data(&self, alloc: Global) -> Result<Option<Vec<u8>>, Error> {
         let Some(room) = room_for(self) else {
             return Ok(None);
@@ -75,7 +75,7 @@ impl ToTzData for TimeZone {
 }
 
 // The text of the footer, if there is one that spells the rule. No rule has the empty text.
-#[tactic(auto, using(crate::proofs::RuleTexts::rule_named))]
+#[tactic(auto, using(crate::proofs::RuleTexts::rule_read))]
 fn footer_of(alloc: Global, rule: Option<&TransitionRule>) -> Result<Option<TzText>, Error>
     ensures written { let ruled = option_map (λ r. r.now) rule.entry in
         MatchResult result

@@ -67,7 +67,7 @@ impl ToTzString for TransitionRule {
     ghost rule = { λ rule. rule };
 
     /// Returns the shortest TZ string that spells the rule, with minutes and seconds in two digits.
-    #[tactic(auto, using(crate::proofs::RuleTexts::rule_named, crate::proofs::RuleTexts::written, crate::proofs::RuleTexts::text_is))]
+    #[tactic(auto, using(crate::proofs::RuleTexts::rule_read, crate::proofs::RuleTexts::written, crate::proofs::RuleTexts::text_is))]
     fn to_tz_string(&self, alloc: Global) -> Result<Option<TzText>, Error> {
         if !can_be_spelled(self) {
             return Ok(None);

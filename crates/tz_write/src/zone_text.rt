@@ -68,6 +68,7 @@ fn is_rule_alone(zone: &TimeZone) -> bool
 }
 
 // The text of the zone of those types and that rule.
+#[tactic(auto, using(crate::proofs::RuleTexts::rule_read))]
 fn text_of_rule(
     alloc: Global,
     types: &[LocalTimeType],

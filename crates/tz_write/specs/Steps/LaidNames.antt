@@ -3,7 +3,7 @@
 -- 255 then, another one is put last.
 use Rattle.std.specs.Prelude.{ℕ, suc, ◌<◌, ◌+◌, Bool, ◌&&◌, ◌==◌, nat_lt, nat_le, not, if◌then◌else◌, List, [], ◌∷◌, ◌++◌, length, slice_index, drop, All}
 use Rattle.std.specs.{Prelude.{Option, Some, None}, Bool.{nat_eq}, List.{fold, starts_with, ends_with, list_all}}
-use Rattle.tz_base.specs.LocalTypes.{LocalType}
+use Rattle.{tz_base.specs.{Fronts.{run_of}, LocalTypes.{LocalType}}, tz_info.specs.FileContents.{is_not_zero}}
 use Rattle.tz_write.specs.FileDesignations.{name_of, place_limit}
 
 -- the bytes begin with the text and a 0 byte
@@ -38,14 +38,10 @@ with_text designations text =
     if nat_lt (place_of text designations) (length designations) then designations
     else (if nat_lt (length designations + length text) 263 then designations ++ (text ++ 0 ∷ []) else designations)
 
--- the text is the end of the last one
-abbrev pub ends : List ℕ → List ℕ → Bool
-ends last text = ends_with nat_eq last text
-
 -- the text of the type, if it has that size and doesn't end the last one
 abbrev pub with_text_of : List ℕ → ℕ → List ℕ → LocalType → List ℕ
 with_text_of last size designations t =
-    if (length (name_of t) == size) && not (ends last (name_of t)) then with_text designations (name_of t) else designations
+    if (length (name_of t) == size) && not (ends_with nat_eq last (name_of t)) then with_text designations (name_of t) else designations
 
 -- the texts of that size
 unfoldable pub with_texts : List ℕ → ℕ → List ℕ → List LocalType → List ℕ
@@ -60,14 +56,9 @@ before_last last types =
 unfoldable pub laid : List ℕ → List LocalType → List ℕ
 laid last types = with_text (before_last last types) last
 
--- the bytes in front of the first 0 byte
-abbrev pub before_zero : List ℕ → List ℕ
-before_zero [] = []
-before_zero (b ∷ bs) = if b == 0 then [] else b ∷ before_zero bs
-
--- the text at that place of the designations
+-- the text at that place of the designations: the bytes in front of the next 0 byte
 abbrev pub text_at : List ℕ → ℕ → List ℕ
-text_at designations place = before_zero (drop place designations)
+text_at designations place = run_of is_not_zero (drop place designations)
 
 -- each type has a place in the designations, and they are no longer than those in order
 unfoldable pub are_placed : List ℕ → List LocalType → Bool
@@ -85,7 +76,7 @@ or_else (Some designations) other = Some designations
 -- the designations with the first of these texts as the last that they can have: the texts that begin at each byte
 abbrev pub placed_otherwise : List LocalType → List ℕ → Option (List ℕ)
 placed_otherwise types [] = None
-placed_otherwise types (b ∷ bs) = or_else (placed_with types (before_zero (b ∷ bs))) (placed_otherwise types bs)
+placed_otherwise types (b ∷ bs) = or_else (placed_with types (run_of is_not_zero (b ∷ bs))) (placed_otherwise types bs)
 
 -- the designations of the types, if any have each name at a place that a byte can name: those in order, or else the first of the others
 unfoldable pub laid_names : List LocalType → Option (List ℕ)

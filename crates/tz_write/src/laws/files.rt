@@ -13,7 +13,7 @@ use tz_info::{Error, TimeZone};
 
 /// Both headers of a written file have version `3` (51) if and only if the zone's rule needs the
 /// extensions of RFC 8536 section 3.3.1; else both have `2` (50).
-#[tactic(auto, using(crate::proofs::FileWritten::needs_extensions))]
+#[tactic(auto, using(crate::proofs::RuleTexts::extensions))]
 pub fn versions()
     ensures extended { (z : Zone) (bytes : List ℕ) → IsRuleOrNone z.rule → IsWrittenFile z bytes
         → NeedsExtensions z.rule
