@@ -1,13 +1,13 @@
 -- How the entries of a zone are made, one transition after another.
 use Rattle.std.proofs.lemmas.{List.{take-append-le, Elements.filter-append}}
 use Rattle.tz_info.proofs.{
-  LeapSearch.own_leap_time,
+  LeapStarts.own_leap_time,
   Prefixes.index_within,
   SegmentLaws.{come_by_time, index_next, not_later, place_most},
-  Words.{All, All-push, AreLeapSeconds, AreRising, FitsSigned, IsFromLast, IsLeapTime, IsLeapTimeRefused, IsValid, LeapSecond, List, Transition, Zone},
-  Words.{[], all_pairs_push, append-nil, arith, by_lt_z, cases_lt, get_or, get_or_append_left, get_or_default, get_or_push, index_of, last_else, le_false},
-  Words.{le_true, length, length_push, linear, map, nat_tests, passed, pos, refl, slice_get, slice_get-get_or, suc, sym, take, take_all, take_more, w64, zero},
-  Words.{ℕ, ℤ, ◌++◌, ◌+◌, ◌-◌, ◌<ℤ◌, ◌<◌, ◌==◌, ◌↔◌, ◌∷◌, ◌≡◌, ◌≢◌, ◌≤ℤ◌, ◌≤◌, ◌⊎◌},
+  Words.{All, All-push, AreLeapSeconds, AreRising, FitsSigned, IsFromLast, IsLeapTime, IsLeapTimeRefused, IsValid, LeapSecond, List, Transition, Zone, []},
+  Words.{all_pairs_push, append-nil, arith, by_lt_z, cases_lt, get_or, get_or_append_left, get_or_default, get_or_push, index_of, last_else, le_false, le_true},
+  Words.{length, length_push, linear, map, nat_tests, passed, pos, refl, slice_get, slice_get-get_or, suc, sym, take, take_all, take_more, w64, zero, ℕ, ℤ},
+  Words.{◌++◌, ◌+◌, ◌-◌, ◌<ℤ◌, ◌<◌, ◌==◌, ◌↔◌, ◌∷◌, ◌≡◌, ◌≢◌, ◌≤ℤ◌, ◌≤◌, ◌⊎◌},
   ZoneChanges.refused_on,
 }
 use Rattle.tz_info.specs.{
@@ -65,12 +65,6 @@ pub record AreMadeOf (z : Zone) (entries : List Transition) (k : ℕ) : Type 0 w
 pub kept_all : (P : Transition → Type 0) (entries kept : List Transition) (s : ℤ) → AreBefore entries s kept → All P entries → All P kept
 kept_all P entries kept s before all j d l = grind (linear, length_push, get_or_append_left, take-append-le, passed_out)
 
--- all of them come before it
-kept_earlier : (entries kept : List Transition) (s : ℤ) → AreRising entries → All (λ t. t.unix_leap_time ≤ℤ s) entries → AreBefore entries s kept
-    → All (λ t. t.unix_leap_time <ℤ s) kept
-kept_earlier entries kept s rising until before j d h =
-    let r = rising j (length entries - 1) d in grind (linear, slice_get-get_or, get_or_append_left, length_push)
-
 -- ---- one turn of the loop
 pub record IsTurn (z : Zone) (old kept entries : List Transition) (k : ℕ) (s : ℤ) (t : Transition) : Type 0 where
   pub valid : IsValid z
@@ -83,12 +77,14 @@ pub record IsTurn (z : Zone) (old kept entries : List Transition) (k : ℕ) (s :
 
 module _ (z : Zone) (old kept entries : List Transition) (k : ℕ) (s : ℤ) (t : Transition) (h : IsTurn z old kept entries k s t) where
   earlier : All (λ e. e.unix_leap_time <ℤ s) kept
-  earlier = kept_earlier old kept s h.made.rising (λ j d l.
+  earlier j d l =
+      let until : All (λ e. e.unix_leap_time ≤ℤ s) old = λ j d l.
       let (y, time) = h.start.leap_time in
       let (a, i, below, own, start) = h.made.own j d l in
       let r = h.valid.transitions.rising i k a below h.more in
       let b = start.reached s y time in
-      let c = h.start.reached s y time in grind (linear, get_or_default)) h.before
+      let c = h.start.reached s y time in grind (linear, get_or_default) in
+      let r = h.made.rising j (length old - 1) d in let before = h.before in grind (linear, slice_get-get_or, get_or_append_left, length_push)
 
   kept_same : (u : ℤ) → u <ℤ s → passed kept u ≡ passed old u
   kept_same u early = let before = h.before in grind (linear, passed_out)

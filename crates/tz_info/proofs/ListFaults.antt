@@ -10,7 +10,7 @@ use Rattle.tz_info.proofs.{
   Words.{Not_rising, Other_index, Other_leaps, Other_rule, Transition, Zone, [], arith, below_more, cases_lt, error_number, get_or-map, get_or_default, inl},
   Words.{inr, length, length-map, map, suc, zero, ℕ, ℤ, ◌+◌, ◌<ℤ◌, ◌<◌, ◌∷◌, ◌≡◌, ◌≤◌, ◌⊎◌},
 }
-use Rattle.tz_info.specs.{Leaps.IsFirstLeap, Transitions.NameTypes}
+use Rattle.tz_info.specs.Transitions.{NameTypes}
 
 -- ---- what can be tested holds or does not
 abbrev pub Known : Type 0 → Type 0

@@ -1,4 +1,4 @@
-use Rattle.tz_info.proofs.{FilePlaceOnce.{last_bytes, next_bytes}, Words.{arith, from_times, from_type_indexes, length-append, pieces_of, ◌∙◌, ◌≡◌}}
+use Rattle.tz_info.proofs.{TzFileLaws.{last_bytes, next_bytes}, Words.{arith, from_times, from_type_indexes, length-append, pieces_of, ◌∙◌, ◌≡◌}}
 use Rattle.tz_info.proofs.file.place.from_parts.Goals as goal
 
 pub returns : goal.returns

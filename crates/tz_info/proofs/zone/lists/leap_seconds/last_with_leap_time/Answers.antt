@@ -1,7 +1,7 @@
 use Rattle.tz_info.proofs.{
   Fits.fits,
-  LeapEntries.threshold_at,
-  LeapSearch.{last_with_leap_time, refused_more},
+  LeapOrder.threshold_at,
+  LeapStarts.{last_with_leap_time, refused_more},
   Prefixes.{any_leap, last_taken},
   Words.{SFits, add-one, get_or, linear, mapped_at, rules, sym, w32},
 }

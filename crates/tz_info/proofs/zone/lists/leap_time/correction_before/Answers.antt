@@ -1,4 +1,4 @@
-use Rattle.tz_info.proofs.{Fits.fits, LeapEntries.before_found, Prefixes.any_leap}
+use Rattle.tz_info.proofs.{Fits.fits, LeapOrder.before_found, Prefixes.any_leap}
 use Rattle.tz_info.proofs.zone.lists.leap_time.correction_before.Goals as goal
 
 pub returns : goal.returns

@@ -1,4 +1,4 @@
-use Rattle.tz_info.proofs.{Fits.fits, LeapSearch.{by_saturated, passed_here, since_epoch}, Prefixes.any_leap, Words.{SFits, arith, get_or, linear, rules, w64}}
+use Rattle.tz_info.proofs.{Fits.fits, LeapStarts.{by_saturated, passed_here, since_epoch}, Prefixes.any_leap, Words.{SFits, arith, get_or, linear, rules, w64}}
 use Rattle.tz_info.proofs.zone.lists.leap_time.is_passed.Goals as goal
 
 pub returns : goal.returns

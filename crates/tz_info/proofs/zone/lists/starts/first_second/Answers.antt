@@ -1,7 +1,6 @@
 use Rattle.tz_info.proofs.{
   Fits.fits,
-  LeapSearch.since_epoch,
-  LeapStarts.{reached_first, reached_later},
+  LeapStarts.{reached_first, reached_later, since_epoch},
   Prefixes.any_leap,
   Words.{SFits, arith, get_or, linear, rules, to_z-of_z, w128, w64, ◌-ℤ◌, ◌-◌},
 }

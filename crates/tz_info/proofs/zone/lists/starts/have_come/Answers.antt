@@ -1,4 +1,4 @@
-use Rattle.tz_info.proofs.{LeapEntries.times_rise, Words.{and_parts, arith, length, linear, to_z-of_z, ◌-◌, ◌≤◌}}
+use Rattle.tz_info.proofs.{LeapOrder.times_rise, Words.{and_parts, arith, length, linear, to_z-of_z, ◌-◌, ◌≤◌}}
 use Rattle.tz_info.proofs.zone.lists.starts.have_come.Goals as goal
 
 pub returns : goal.returns

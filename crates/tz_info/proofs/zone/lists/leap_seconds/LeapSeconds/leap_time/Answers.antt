@@ -1,4 +1,4 @@
-use Rattle.tz_info.proofs.{Fits.fits, LeapSearch.leap_time_fits, LeapStarts.passed_at_most, Words.{SFits, arith, refl, w64, ◌+ℤ◌}}
+use Rattle.tz_info.proofs.{Fits.fits, LeapStarts.{leap_time_fits, passed_at_most}, Words.{SFits, arith, refl, w64, ◌+ℤ◌}}
 use Rattle.tz_info.proofs.zone.lists.leap_seconds.LeapSeconds.leap_time.Goals as goal
 
 pub correction_after-requires : goal.correction_after-requires
