@@ -2,7 +2,6 @@
 use Rattle.std.proofs.lemmas.{List.{take-append-le, Elements.filter-append}}
 use Rattle.tz_info.proofs.{
   LeapStarts.own_leap_time,
-  Prefixes.index_within,
   SegmentLaws.{come_by_time, index_next, not_later, place_most},
   Words.{All, All-push, AreLeapSeconds, AreRising, FitsSigned, IsFromLast, IsLeapTime, IsLeapTimeRefused, IsValid, LeapSecond, List, Transition, Zone, []},
   Words.{all_pairs_push, append-nil, arith, by_lt_z, cases_lt, get_or, get_or_append_left, get_or_default, get_or_push, index_of, last_else, le_false, le_true},
@@ -196,12 +195,3 @@ module _ (leaps : List LeapSecond) (x start : ℤ) (reached : (u y : ℤ) → Is
 
   pub never_refused : AreLeapSeconds leaps → IsLeapTimeRefused leaps start → NeverComes leaps x
   never_refused valid refused u y f l = by_lt_z y x (λ h. h) (λ h. absurd (refused_on leaps start u y valid ((reached u y l).0 h) refused l))
-
-pub last_item : (entries : List Transition) (t : Transition) → 0 < length entries → t ≡ get_or entries (length entries - 1) t
-    → t.type_index ≡ last_index entries
-last_item entries t some item = grind (linear, take_all, index_next)
-
-pub last_below : (entries : List Transition) (n : ℕ) → 0 < n
-    → NameTypes n entries → last_index entries < n
-last_below entries n some named =
-    rw (take_all (length entries) entries (omega arith)) at (index_within n entries (length entries) some named (omega arith))

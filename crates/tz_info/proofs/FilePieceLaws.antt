@@ -76,9 +76,6 @@ end_file _ p h =
     let b = of_block p start _ size is in
     record { lengths = b.0; before = before; whole = rw (← b.1 refl) e }
 
-pub whole : (bytes : List ℕ) (p : FilePieces) → HasPieces bytes p → (before : List ℕ) × (bytes ≡ before ++ from_times p)
-whole bytes p h = let e = end_file bytes p h in (e.before, e.whole)
-
 -- ---- counts
 -- whole pieces have one pair of counts
 pub counted : (bytes : List ℕ) (p : FilePieces) (rest : List ℕ) (d c : FileCounts) → read file bytes ≡ Ok (p, rest)

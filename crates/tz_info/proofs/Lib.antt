@@ -51,7 +51,6 @@ pub mod ReachedLaws
 pub mod DifferenceLaws
 pub mod FilePieceLaws
 pub mod TrimLaws
-pub mod TypeLaws
 pub mod TzFileLaws
 pub mod WallTimes
 pub mod EntryLaws

@@ -1,12 +1,12 @@
 -- The laws of TZ strings: what they spell, and what they say of a reader; the zone of a string; that its numbers are in their limits.
-use Rattle.tz_base.specs.declared.parse_error.ParseError.{ParseError}
+use Rattle.tz_base.specs.{Refusals.{LocalTimeType as BadType}, declared.{error.Error.TheVariants.{LocalTimeType}, parse_error.ParseError.{ParseError}}}
 use Rattle.tz_info.proofs.{
-  TrimLaws.trimmed_fits,
-  Words.{Bool, DayForm, Decided, Err, Error, IfErr, IfOk, IsOkAnd, IsOutOfMemory, IsPosixFault, IsPosixZone, IsRule, IsRuleDay, IsRuleOrNone, IsTextFault},
-  Words.{IsTzFile, IsTzText, IsValid, IsWithinDay, IsWithinWeek, List, None, Ok, Option, Result, Some, Spells, TransitionRule, Zone, [], alternate, apart},
-  Words.{arith, date, day, days, dst_offset, duration, end, error_number, false, fault_low, fault_once, fixed, given_offset, inl, inr, julian_date, lawful},
-  Words.{length, like, linear, made, month_date, named, next_hour, nil_from_length, offset, optional_time, plain_zone, pos, posix_zone, refl, rule, rule_in},
-  Words.{said, sym, text, time, trimmed, true, value_once, ℕ, ℤ, ◌==◌, ◌>>=◌, ◌∙◌, ◌∷◌, ◌≡◌, ◌≢◌, ◌≤◌},
+  Words.{Bool, DayForm, Decided, Err, Error, Gives, IfErr, IfOk, IsNameOrNone, IsOkAnd, IsOutOfMemory, IsPosixFault, IsPosixZone, IsRule, IsRuleDay},
+  Words.{IsRuleOrNone, IsTextFault, IsTzFile, IsTzText, IsUtOffset, IsValid, IsWithinDay, IsWithinWeek, List, LocalType, MatchResult, None, Ok, Option, Result},
+  Words.{Some, Spells, TransitionRule, Zone, [], alternate, apart, arith, checked, date, day, days, dst_offset, duration, end, error_number, expected_of_name},
+  Words.{expected_of_type, false, fault_low, fault_once, fixed, given_offset, inl, inr, is_name, julian_date, lawful, length, like, linear, made, month_date},
+  Words.{name_test, named, named_type, next_hour, nil_from_length, offset, optional_time, plain_zone, pos, posix_zone, refl, rule, rule_in, said, sym, text},
+  Words.{time, trimmed, true, value_once, ℕ, ℤ, ◌==◌, ◌>>=◌, ◌∙◌, ◌∷◌, ◌≡◌, ◌≢◌, ◌≤◌},
   ZoneLaws.zone_of_rule_valid,
 }
 use Rattle.tz_info.specs.{
@@ -58,6 +58,13 @@ module _ (extended : Bool) (bytes : List ℕ) where
   pub fault_by : (r : Result Spelled ParseError) → IsParsed extended bytes r → IfErr r (λ e. IsTextFault extended bytes e.error)
   fault_by r g = let d = spelled_law extended bytes in grind arith
 
+-- the test of a name says whether a type can have it
+pub named_by : (name : List ℕ) (dst : Bool) (offset : ℤ) (r : Result LocalType Error)
+    → MatchResult r (λ t. IsUtOffset offset × IsNameOrNone (Some name) × (t ≡ named_type name dst offset))
+    (λ e. (e ≡ LocalTimeType (expected_of_type offset (Some name))) × ¬ (IsUtOffset offset × IsNameOrNone (Some name))) → IsUtOffset offset
+    → Gives (λ t. t) r (checked (is_name name) (BadType (expected_of_name name)) (named_type name dst offset))
+named_by name dst offset r h u = let e = (name_test name).decides in grind arith
+
 -- ---- zones
 unfoldable pub zone_in : List ℕ → Result Zone Error
 zone_in [] = Ok (plain_zone (pos 0))
@@ -106,12 +113,6 @@ module _ (text : List ℕ) where
   pub one_place : (a b : ℕ) → IsPosixFaultPlace text a → IsPosixFaultPlace text b → a ≡ b
   one_place a b p q = p ∙ sym q
 
-  pub place_within : (place : ℕ) → IsPosixFaultPlace text place → place ≤ length text
-  place_within _ p = omega (arith, trimmed_fits text)
-
-pub string_place_within : (extended : Bool) (bytes : List ℕ) → text_fault_position extended bytes ≤ length bytes
-string_place_within _ _ = omega arith
-
 pub string_placed : (bytes : List ℕ) (e : ParseError) → IsTextFault true bytes e.error → e.position ≡ Some (text_fault_position true bytes)
     → IsPlaced (IsExtendedFaultPlace bytes) e
 string_placed bytes e fault place = grind (arith, text_low)
@@ -136,8 +137,7 @@ pub ruleset string_answers = (extended_fault, string_placed, text_low)
 
 pub ruleset posix_answers = (fault_or_zone, fault_placed, fault_read, is_empty, not_empty, one_zone, posix_low, zone_read)
 
--- ---- limits
--- ---- offsets and times
+-- ---- the numbers of a rule are in their limits: offsets and times
 pub offset_fits : (bytes : List ℕ) (z : ℤ) (rest : List ℕ) → Spells offset bytes z rest → IsWithinDay z
 unfolding offset duration
 offset_fits bytes z rest h = grind linear
@@ -160,7 +160,7 @@ pub text_rule_fits : (extended : Bool) (bytes : List ℕ) (r : TransitionRule) �
 unfolding text rule fixed alternate named days day
 text_rule_fits extended bytes r h = grind (linear, offset_fits, dst_offset_fits, date_fits, time_fits)
 
--- ---- zones
+-- ---- a string's zone, and the rule of a footer
 -- types and a rule, without transitions and leap seconds, make a zone if there is a type
 pub posix_zone_valid : (text : List ℕ) (zone : Zone) → IsPosixZone text zone → IsValid zone × IsRuleOrNone zone.rule
 posix_zone_valid text zone h = grind (arith, zone_of_rule_valid, text_rule_fits)

@@ -2,10 +2,10 @@
 use Rattle.tz_base.specs.Grammar.{Each, Grammar, from_fault}
 use Rattle.tz_info.proofs.{
   Words.{AreOrdered, AreRising, Bool, Err, Error, LeapSecond, List, Ok, Spells, Stands, Transition, [], all_below, arith, cases_lt, false, filter_first},
-  Words.{get_or, get_or_default, index_of, inl, inr, last_else, length, linear, map, passed, pos, read, refl, suc, take, times_ordered, true, zero, ℕ, ℤ, ◌+◌},
-  Words.{◌-◌, ◌<ℤ◌, ◌<◌, ◌∙◌, ◌∷◌, ◌≡◌, ◌≤ℤ◌, ◌≤◌},
+  Words.{get_or, index_of, inl, inr, last_else, length, linear, map, passed, pos, read, refl, suc, take, times_ordered, true, zero, ℕ, ℤ, ◌+◌, ◌-◌, ◌<ℤ◌, ◌<◌},
+  Words.{◌∙◌, ◌∷◌, ◌≡◌, ◌≤ℤ◌, ◌≤◌},
 }
-use Rattle.tz_info.specs.{Steps.Entries.{entry_time}, Transitions.{NameTypes}}
+use Rattle.tz_info.specs.Transitions.{NameTypes}
 
 -- the last of the first i + 1 items
 pub last_taken : {X Y : Type 0} (f : X → Y) (d : Y) (xs : List X) (i : ℕ) (e : X) → i < length xs → last_else d (map f (take (suc i) xs)) ≡ f (get_or xs i e)
@@ -58,9 +58,6 @@ pub record Between (xs : List Transition) (v : ℤ) (low high : ℕ) : Type 0 wh
   pub below : (k : ℕ) (d : Transition) → k < low → (get_or xs k d).unix_leap_time ≤ℤ v
   pub above : (k : ℕ) (d : Transition) → high ≤ k → k < length xs → v <ℤ (get_or xs k d).unix_leap_time
 
-pub time_of_entry : (xs : List Transition) (k : ℕ) (t : Transition) → k < length xs → t ≡ get_or xs k t → t.unix_leap_time ≡ entry_time xs k
-time_of_entry xs k t below is = grind (arith, get_or_default)
-
 pub search_found : (xs : List Transition) (v : ℤ) (low high : ℕ) → high ≤ low → Between xs v low high → passed xs v ≡ take low xs
 search_found xs v low high h b = grind (arith, filter_first)
 
@@ -72,9 +69,6 @@ in_order xs rising = times_ordered (λ (t : Transition). t.unix_leap_time) xs an
 pub record StandUntil (types : ℕ) (xs : List Transition) (n : ℕ) : Type 0 where
   pub indexes : (k : ℕ) (d : Transition) → k < n → (get_or xs k d).type_index < types
   pub rising : (i j : ℕ) (d : Transition) → i < j → j < n → (get_or xs i d).unix_leap_time <ℤ (get_or xs j d).unix_leap_time
-
-pub stand_less : (types : ℕ) (xs : List Transition) (n : ℕ) → 0 < n → StandUntil types xs (n + 1) → StandUntil types xs n × Stands types xs n
-stand_less types xs n some s = grind arith
 
 pub stand_more : (types : ℕ) (xs : List Transition) (n : ℕ) → StandUntil types xs n → Stands types xs n → StandUntil types xs (n + 1)
 stand_more types xs n s here = record {

@@ -2,8 +2,8 @@
 use Rattle.std.specs.Prelude.{IfSome, if◌then◌else◌}
 use Rattle.tz_base.specs.declared.span.Span.{Span}
 use Rattle.tz_info.proofs.{
-  Words.{Bool, HaveOneTypeFrom, IsNear, IsNextRun, IsOutOfForce, IsRunUntil, LocalType, None, Option, Some, TypeAt, Zone, false, linear, pos, true, ℤ, ◌-ℤ◌},
-  Words.{◌<ℤ◌, ◌↔◌, ◌≡◌, ◌≤ℤ◌},
+  Words.{Bool, HaveOneTypeFrom, IsNear, IsNextRun, IsOutOfForce, IsRunUntil, LocalType, None, Option, Some, TypeAt, Zone, linear, pos, ℤ, ◌-ℤ◌, ◌<ℤ◌, ◌↔◌, ◌≡◌},
+  Words.{◌≤ℤ◌},
   ZoneLaws.type_once,
 }
 use Rattle.tz_info.specs.Spans.{IsInSpan, IsSince, IsSpan, IsSpanAt, IsUntil}

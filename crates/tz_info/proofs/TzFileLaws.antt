@@ -185,6 +185,3 @@ lists_once (At_rule _ _ _) (At_rule _ _ _) = refl
 
 pub file_place_once : (bytes : List ℕ) (m n : ℕ) → IsFilePlace bytes m → IsFilePlace bytes n → m ≡ n
 file_place_once bytes m n f g = grind (arith, spelled_apart, one_pieces, lists_once)
-
-pub file_place_within : (bytes : List ℕ) (n : ℕ) → IsFilePlace bytes n → n ≤ length bytes
-file_place_within bytes n place = grind arith

@@ -287,7 +287,7 @@ impl ChangeTable {
 
     // When the entry at that place comes.
     #[inline(always)]
-    #[tactic(auto, using(crate::proofs::Prefixes::time_of_entry))]
+    #[tactic(auto, using(crate::proofs::Words::get_or_default))]
     pub(in crate::zone) fn second(&self, place: usize) -> i64
         requires { place < length self.now.items }
         ensures { result ≡ entry_time self.now.items place }
