@@ -6,10 +6,7 @@ use Rattle.tz_info.proofs.{
   Words.{after_first_block, ap, append-nil, append_assoc, block, false_unless, file, first_version, footer_bytes, from_times, inl, inr, is_utf8-from_IsUtf8},
   Words.{later_version, lawful, linear, read, refl, subst, sym, ℕ, ◌++◌, ◌↔◌, ◌∙◌, ◌∷◌, ◌≡◌, ◌⊎◌},
 }
-use Rattle.tz_info.specs.{
-  FileHeaders.{header},
-  declared.file.header.{Counts.{Counts}, Place.TheVariants.{First, Second}, Version.TheVariants.{One}},
-}
+use Rattle.tz_info.specs.{FileHeaders.{header}, declared.file.header.{Counts.{Counts}, Place.TheVariants.{First, Second}, Version.TheVariants.{One}}}
 
 -- ---- what is spelled comes first, and what follows after it
 front : {X : Type 0} (g : Grammar X) (bytes : List ℕ) (x : X) (rest : List ℕ) → Spells g bytes x rest → (before : List ℕ) × (bytes ≡ before ++ rest)

@@ -22,8 +22,7 @@ any_leap = record { unix_leap_time = pos 0; correction = pos 0 }
 
 -- each index is one of a type
 pub index_within : (n : ℕ) (ts : List Transition) (k : ℕ) → 0 < n → NameTypes n ts → k ≤ length ts → index_of ts k < n
-index_within n ts zero some named h = some
-index_within n ts (suc k) some named h = rw (last_taken (λ a. a.type_index) 0 ts k any (omega arith)) (named k any (omega arith))
+index_within n ts k some named h = let last = last_taken (λ a. a.type_index) 0 ts (k - 1) any in grind arith
 
 -- ---- grammars and tests by places
 module _ {X : Type 0} (g : ℕ → Grammar X) where
@@ -47,8 +46,7 @@ one_false zero i _ l q = absurd (omega arith)
 one_false (suc n) i test l q = grind (arith, one_false n i test)
 
 pub one_true : (n i : ℕ) (test : ℕ → Bool) → i < n → all_below n test ≡ true → test i ≡ true
-one_true zero i _ l q = absurd (omega arith)
-one_true (suc n) i test l q = grind (arith, one_true n i test)
+one_true n i test l q = let f = one_false n i test l in grind arith
 
 -- ---- transitions whose times rise
 -- the transitions below `low` come at or before v, those from `high` on after it

@@ -128,14 +128,12 @@ module _ (z : Zone) (e : Entries) (s : ℤ) (none : length e.items ≡ 0) (begun
   abbrev plain : Shown → WallIndex
   plain b = record { before = b; pieces = []; maxima = []; rule_from = s }
 
-  is_plain : (b : Shown) → ((l : ℤ) → IsWide l → IsShownAmong z e.items 0 (top_of z.rule e) l b) → IsIndex z e (plain b)
-  is_plain b answers = grind arith
-
   pub no_segments : top_of z.rule e ≡ 0 → IsIndex z e (plain Less)
-  no_segments top = is_plain Less (grind arith)
+  no_segments top = grind arith
 
   pub one_segment : (a : Segment) → IsValid z → AreEntries z e → 0 < top_of z.rule e → IsSegment z.types e.items 0 a → IsIndex z e (plain (Once a.index))
   one_segment a valid made some is =
       let table = table_of z e valid made in
       let top : top_of z.rule e ≡ 1 = omega arith in
-      is_plain _ (rw top (grind (arith, shown_inside table some is)))
+      let answers : (l : ℤ) → IsWide l → IsShownAmong z e.items 0 (top_of z.rule e) l (Once a.index) = rw top (grind (arith, shown_inside table some is)) in
+      grind arith

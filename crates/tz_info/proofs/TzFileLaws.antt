@@ -54,9 +54,8 @@ fault_or_zone bytes e z fault file valid = grind (arith, spelled_apart, list_fau
 
 pub has_fault : (bytes : List ℕ) → ((z : Zone) → IsTzFile bytes z → ¬ (IsValid z)) → (e : Error) × IsFileFault bytes e
 has_fault bytes none = elim (either (lawful tz_file bytes)) [
-  | inl s ↦
-      let file : IsTzFile bytes s.0.0 = rw (zone_ends bytes s.0.0 s.0.1 s.1) at s.1 in
-      let f = has_list_fault s.0.0 (none s.0.0 file) in (_, Not_valid s.0.0 _ file f.1)
+  | inl s ↦ let file : IsTzFile bytes s.0.0 = rw (zone_ends bytes s.0.0 s.0.1 s.1) at s.1 in
+      (_, Not_valid s.0.0 _ file (has_list_fault s.0.0 (none s.0.0 file)).1)
   | inr f ↦ (f.0, Not_spelled f.0 f.1)
 ]
 
