@@ -89,10 +89,7 @@ pub start_begun : (z : Zone) (e : Entries) (s : ℤ) → IsValid z → AreEntrie
 start_begun z e s valid made begun u x near l = grind (linear, come_at_time z u x, segment_most, made.come u x (near_fits u near), begun u)
 
 pub begin_by : (z : Zone) (e : Entries) (s : ℤ) → IsValid z → AreEntries z e → least_time ≤ℤ s → IsBegun e s → IsBegin z s
-begin_by z e s valid made low begun = record {
-  comes = grind linear;
-  alone = grind (linear, made.some, made.few, place_most, begun least_time);
-}
+begin_by z e s valid made low begun = grind (linear, made.some, made.few, place_most, begun least_time)
 
 -- ---- the gap at the begin of a segment
 -- the gap that the index knows, or clocks show less at all the table's seconds
