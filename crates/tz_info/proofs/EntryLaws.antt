@@ -5,8 +5,8 @@ use Rattle.tz_info.proofs.{
   SegmentLaws.{come_by_time, index_next, not_later, place_most},
   Words.{All, All-push, AreLeapSeconds, AreRising, FitsSigned, IsFromLast, IsLeapTime, IsLeapTimeRefused, IsValid, LeapSecond, List, Transition, Zone, []},
   Words.{all_pairs_push, append-nil, arith, by_lt_z, cases_lt, get_or, get_or_append_left, get_or_default, get_or_push, index_of, last_else, le_false, le_true},
-  Words.{length, length_push, linear, map, nat_tests, passed, pos, refl, slice_get, slice_get-get_or, suc, sym, take, take_all, take_more, w64, zero, ℕ, ℤ},
-  Words.{◌++◌, ◌+◌, ◌-◌, ◌<ℤ◌, ◌<◌, ◌==◌, ◌↔◌, ◌∷◌, ◌≡◌, ◌≢◌, ◌≤ℤ◌, ◌≤◌, ◌⊎◌},
+  Words.{length, length_push, linear, map, nat_tests, passed, refl, slice_get, slice_get-get_or, suc, sym, take, take_all, take_more, w64, zero, ℕ, ℤ, ◌++◌},
+  Words.{◌+◌, ◌-◌, ◌<ℤ◌, ◌<◌, ◌==◌, ◌↔◌, ◌∷◌, ◌≡◌, ◌≢◌, ◌≤ℤ◌, ◌≤◌, ◌⊎◌},
   ZoneChanges.refused_on,
 }
 use Rattle.tz_info.specs.{
@@ -190,8 +190,5 @@ own_entries z valid none differ = grind (linear, own_leap_time)
 -- ---- the second at which a transition comes
 -- a leap time comes at no second if its first one is too late, or has no leap time
 module _ (leaps : List LeapSecond) (x start : ℤ) (reached : (u y : ℤ) → IsLeapTime leaps u y → (x ≤ℤ y) ↔ (start ≤ℤ u)) where
-  pub never_then : pos 9_223_372_036_854_775_807 <ℤ start → NeverComes leaps x
-  never_then late u y f l = let a = reached u y l in grind linear
-
   pub never_refused : AreLeapSeconds leaps → IsLeapTimeRefused leaps start → NeverComes leaps x
   never_refused valid refused u y f l = by_lt_z y x (λ h. h) (λ h. absurd (refused_on leaps start u y valid ((reached u y l).0 h) refused l))
