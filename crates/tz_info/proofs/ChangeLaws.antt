@@ -82,11 +82,6 @@ then_here f from last c cs once is at low h = record {
   );
 }
 
--- if no change comes at the last second, the list is that of those before it
-same_without : (f : InForce) (from last : ℤ) (cs : List Change) → HasNoChange f (λ u. u ≡ last) → AreChanges f from last cs
-    → AreChanges f from (last +ℤ pos 1) cs
-same_without f _ _ cs none h = grind linear
-
 -- ---- the list that is made second by second
 changes_made : (f : InForce) (types : ℤ → Option LocalType) (from : ℤ) (n : ℕ) → IsOnce f → AreTypes f types
     → AreChanges f from (from +ℤ pos n) (changes_in types from n)
@@ -96,7 +91,8 @@ changes_made f types from (suc n) once told =
     let earlier = changes_made f _ from n once told in
     let end : from +ℤ pos (suc n) ≡ last +ℤ pos 1 = omega linear in
     rw end (elim (here_listed f types last once told) [
-      | inl none ↦ rw none.0 (rw (append-nil (changes_in types from n)) (same_without f from last (changes_in types from n) none.1 earlier))
+      | inl none ↦ let without = none.1 in
+          rw none.0 (rw (append-nil (changes_in types from n)) (record { rising = earlier.rising; each = λ d. let e = earlier.each d in grind linear }))
       | inr one ↦ rw one.1 (then_here f _ _ _ _ once one.2 one.3 (omega linear) earlier)
     ])
 

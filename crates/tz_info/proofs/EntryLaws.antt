@@ -188,7 +188,7 @@ pub own_entries : (z : Zone) → IsValid z → length z.leaps ≡ 0 → AllChang
 own_entries z valid none differ = grind (linear, own_leap_time)
 
 -- ---- the second at which a transition comes
--- a leap time comes at no second if its first one is too late, or has no leap time
+-- a leap time comes at no second if its first one has no leap time
 module _ (leaps : List LeapSecond) (x start : ℤ) (reached : (u y : ℤ) → IsLeapTime leaps u y → (x ≤ℤ y) ↔ (start ≤ℤ u)) where
   pub never_refused : AreLeapSeconds leaps → IsLeapTimeRefused leaps start → NeverComes leaps x
   never_refused valid refused u y f l = by_lt_z y x (λ h. h) (λ h. absurd (refused_on leaps start u y valid ((reached u y l).0 h) refused l))

@@ -79,20 +79,14 @@ module _ (z : Zone) (valid : IsValid z) (limits : IsRuleOrNone z.rule) where
         let far = timed.far in
         let fits = timed.fits in
         let least : (pos 10_000_000_000_000 ≤ℤ r) × (r ≤ℤ l) = omega (linear, clamps) in record {
-          typed = typed_by r (omega linear) least.1 (λ x of_second last refused. elim (out_of_years r (rw rule at refused)) [
-            | inl early ↦ omega linear
-            | inr late ↦ elim (cases_lt 0 _) [
-              | inl some ↦ let b = (is.comes r x (omega linear) (of_second some)).0 last in omega (linear, clamps)
-              | inr none ↦ let b = is.alone (omega arith) in omega (linear, clamps)
-            ]
-          ]);
+          typed = typed_by r (omega linear) least.1 (λ x of_second last refused.
+              let out = out_of_years r (rw rule at refused) in
+              let b = is.comes r x in let alone = is.alone in grind (linear, clamps));
           none = λ v fits later there. by_lt_z l v (λ after. beyond v fits after there) (λ most.
-              let all : segment_of z v ≡ length z.transitions = elim (cases_lt 0 _) [
-                | inl some ↦
-                    let time = time_of z v _ some there.1 in
-                    all_come z v _ valid (λ _. time) ((is.comes v _ fits time).1 (omega (linear, clamps)))
-                | inr none ↦ let m = segment_most z v valid.transitions.rising in omega arith
-              ] in
+              let m = segment_most z v valid.transitions.rising in
+              let time = λ (some : 0 < length z.transitions). time_of z v _ some there.1 in
+              let come = is.comes v there.1.leap_time fits in let reached = all_come z v there.1.leap_time valid in
+              let all : segment_of z v ≡ length z.transitions = grind (linear, clamps) in
               let within = rule_second a v _ (to_rule z a v _ rule valid all there.1) in
               omega (linear, clamps));
           far = least.0;
