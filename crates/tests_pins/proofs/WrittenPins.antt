@@ -2,7 +2,7 @@
 use Rattle.tests_pins.proofs.Words.{AreInPairs, AreShortest, Bool, IsNamedIn, IsTzText, IsWrittenText, IsWrittenZone, LocalType, [], arith, codes, false}
 use Rattle.tests_pins.proofs.Words.{false≢true, get_or, hst, ints, length, new_york_long, new_york_rule, new_york_text, new_york_zone, refl, suc, sym, true}
 use Rattle.tests_pins.proofs.{Words.{utc_rule, utc_text, zero, ℕ, ◌<◌, ◌∷◌, ◌≡◌, ◌⊎◌}, Computed.{texts}, SpelledTexts.{spelled, zone_spelled}}
-use Rattle.tz_info.proofs.TextLaws.{one_rule}
+use Rattle.tz_info.proofs.PosixLaws.{one_rule}
 
 new_york : (extended : Bool) → IsTzText extended new_york_text new_york_rule
 unfolding texts

@@ -1,15 +1,13 @@
 -- What a zone's entries say of it: the types in force, the clock changes, and the spans between them.
 use Rattle.tz_info.proofs.{
   LeapOrder.leap_times_answer,
-  Prefixes.{any, index_within},
+  Prefixes.{any, index_within, search_found},
   SegmentLaws.{begin_next, come_at_time, come_by_time, come_from, not_later, place_before, place_begin, place_most, places_rise, segment_most, split_at},
-  SegmentLaws.split_count,
-  TableSearch.search_found,
-  Words.{AreLeapSeconds, AreRising, Bool, Change, Counts, HasNoChange, HasType, IsAhead, IsBeforeLast, IsChange, IsInTable, IsLeapTime, IsNear},
-  Words.{IsNearest, IsNearestChange, IsSpanAt, IsTrue, IsValid, LeapSecond, List, LocalType, None, Option, Precedes, RoseWithin, SFits, Some},
-  Words.{Transition, TypeAt, Zone, arith, begin_of, cases_lt, correction_at, digits, digits-le, digits-more, false, get_or, index_at, index_of, inl, inr},
-  Words.{leap_time_at, length, linear, passed, pos, refl, segment_of, slice_get, suc, sym, true, w64, zero, ℕ, ℤ, ◌+ℤ◌, ◌+◌, ◌-ℤ◌, ◌-◌},
-  Words.{◌<ℤ◌, ◌<◌, ◌↔◌, ◌∙◌, ◌≡◌, ◌≤ℤ◌, ◌≤◌},
+  SegmentLaws.{split_count},
+  Words.{AreLeapSeconds, AreRising, Bool, Change, Counts, HasNoChange, HasType, IsAhead, IsBeforeLast, IsChange, IsInTable, IsLeapTime, IsNear, IsNearest},
+  Words.{IsNearestChange, IsSpanAt, IsTrue, IsValid, LeapSecond, List, LocalType, None, Option, Precedes, RoseWithin, SFits, Some, Transition, TypeAt, Zone},
+  Words.{arith, begin_of, cases_lt, correction_at, digits, digits-le, digits-more, false, get_or, index_at, index_of, inl, inr, leap_time_at, length, linear},
+  Words.{passed, pos, refl, segment_of, slice_get, suc, sym, true, w64, zero, ℕ, ℤ, ◌+ℤ◌, ◌+◌, ◌-ℤ◌, ◌-◌, ◌<ℤ◌, ◌<◌, ◌↔◌, ◌∙◌, ◌≡◌, ◌≤ℤ◌, ◌≤◌},
   ZoneChanges.{out_before, out_from, refused_on, time_of},
   ZoneLaws.{before_or_from_last, inside_listed, last_index_below, leap_time_decided},
 }
@@ -163,17 +161,12 @@ module _ (z : Zone) (e : Entries) (valid : IsValid z) (made : AreEntries z e) wh
   -- no more than two entries are asked
   few_left : (w : Bool) (s : ℤ) (left : ℕ) → SFits w64 s → left ≡ count_ahead w (length e.items) (count_at e s) → IsAheadChange z e w left None
       → IsAheadChange z e w (left - 1) None → AreLeft z e w s (left - 1 - 1) → HasNoChange (TypeAt z) (IsInTable z (IsAhead w s))
-  few_left true s left fits is one two l d change inside =
-      let (k, below, time) = table_change d change inside.table in
-      let before = l.each k d below change time inside.inside in
-      let last = (one.1 (omega arith)).none refl in
-      let first = ahead_by true s (length e.items - left) (omega arith) in grind linear
-  few_left false s left fits is one two l d change inside =
+  few_left w s left fits is one two l d change inside =
       let (k, below, time) = table_change d change inside.table in
       let before = l.each k d below change time inside.inside in
       let most = place_most e.items s made.rising in
-      let last = (two.1 (omega arith)).none refl in
-      let rise = not_later e.items k (left - 2) any made.rising (omega arith) (omega arith) in grind linear
+      let first = ahead_by w s (length e.items - left) in
+      let rise = not_later e.items k (left - 2) any made.rising in grind linear
 
   pub first_found : (w : Bool) (s : ℤ) (left : ℕ) (c : Change) → left ≡ count_ahead w (length e.items) (count_at e s)
       → IsAheadChange z e w left (Some c) → IsNearestChange w (TypeAt z) (IsInTable z (IsAhead w s)) c

@@ -1,13 +1,12 @@
 -- How the entries of a zone are made, one transition after another.
 use Rattle.std.proofs.lemmas.{List.{take-append-le, Elements.filter-append}}
 use Rattle.tz_info.proofs.{
-  LeapSearch.own_leap_time,
-  Prefixes.index_within,
+  LeapStarts.own_leap_time,
   SegmentLaws.{come_by_time, index_next, not_later, place_most},
-  Words.{All, All-push, AreLeapSeconds, AreRising, FitsSigned, IsFromLast, IsLeapTime, IsLeapTimeRefused, IsValid, LeapSecond, List, Transition, Zone},
-  Words.{[], all_pairs_push, append-nil, arith, by_lt_z, cases_lt, get_or, get_or_append_left, get_or_default, get_or_push, index_of, last_else, le_false},
-  Words.{le_true, length, length_push, linear, map, nat_tests, passed, pos, refl, slice_get, slice_get-get_or, suc, sym, take, take_all, take_more, w64, zero},
-  Words.{ℕ, ℤ, ◌++◌, ◌+◌, ◌-◌, ◌<ℤ◌, ◌<◌, ◌==◌, ◌↔◌, ◌∷◌, ◌≡◌, ◌≢◌, ◌≤ℤ◌, ◌≤◌, ◌⊎◌},
+  Words.{All, All-push, AreLeapSeconds, AreRising, FitsSigned, IsFromLast, IsLeapTime, IsLeapTimeRefused, IsValid, LeapSecond, List, Transition, Zone, []},
+  Words.{all_pairs_push, append-nil, arith, by_lt_z, cases_lt, get_or, get_or_append_left, get_or_default, get_or_push, index_of, last_else, le_false, le_true},
+  Words.{length, length_push, linear, map, nat_tests, passed, refl, slice_get, slice_get-get_or, suc, sym, take, take_all, take_more, w64, zero, ℕ, ℤ, ◌++◌},
+  Words.{◌+◌, ◌-◌, ◌<ℤ◌, ◌<◌, ◌==◌, ◌↔◌, ◌∷◌, ◌≡◌, ◌≢◌, ◌≤ℤ◌, ◌≤◌, ◌⊎◌},
   ZoneChanges.refused_on,
 }
 use Rattle.tz_info.specs.{
@@ -65,12 +64,6 @@ pub record AreMadeOf (z : Zone) (entries : List Transition) (k : ℕ) : Type 0 w
 pub kept_all : (P : Transition → Type 0) (entries kept : List Transition) (s : ℤ) → AreBefore entries s kept → All P entries → All P kept
 kept_all P entries kept s before all j d l = grind (linear, length_push, get_or_append_left, take-append-le, passed_out)
 
--- all of them come before it
-kept_earlier : (entries kept : List Transition) (s : ℤ) → AreRising entries → All (λ t. t.unix_leap_time ≤ℤ s) entries → AreBefore entries s kept
-    → All (λ t. t.unix_leap_time <ℤ s) kept
-kept_earlier entries kept s rising until before j d h =
-    let r = rising j (length entries - 1) d in grind (linear, slice_get-get_or, get_or_append_left, length_push)
-
 -- ---- one turn of the loop
 pub record IsTurn (z : Zone) (old kept entries : List Transition) (k : ℕ) (s : ℤ) (t : Transition) : Type 0 where
   pub valid : IsValid z
@@ -83,12 +76,14 @@ pub record IsTurn (z : Zone) (old kept entries : List Transition) (k : ℕ) (s :
 
 module _ (z : Zone) (old kept entries : List Transition) (k : ℕ) (s : ℤ) (t : Transition) (h : IsTurn z old kept entries k s t) where
   earlier : All (λ e. e.unix_leap_time <ℤ s) kept
-  earlier = kept_earlier old kept s h.made.rising (λ j d l.
+  earlier j d l =
+      let until : All (λ e. e.unix_leap_time ≤ℤ s) old = λ j d l.
       let (y, time) = h.start.leap_time in
       let (a, i, below, own, start) = h.made.own j d l in
       let r = h.valid.transitions.rising i k a below h.more in
       let b = start.reached s y time in
-      let c = h.start.reached s y time in grind (linear, get_or_default)) h.before
+      let c = h.start.reached s y time in grind (linear, get_or_default) in
+      let r = h.made.rising j (length old - 1) d in let before = h.before in grind (linear, slice_get-get_or, get_or_append_left, length_push)
 
   kept_same : (u : ℤ) → u <ℤ s → passed kept u ≡ passed old u
   kept_same u early = let before = h.before in grind (linear, passed_out)
@@ -193,19 +188,7 @@ pub own_entries : (z : Zone) → IsValid z → length z.leaps ≡ 0 → AllChang
 own_entries z valid none differ = grind (linear, own_leap_time)
 
 -- ---- the second at which a transition comes
--- a leap time comes at no second if its first one is too late, or has no leap time
+-- a leap time comes at no second if its first one has no leap time
 module _ (leaps : List LeapSecond) (x start : ℤ) (reached : (u y : ℤ) → IsLeapTime leaps u y → (x ≤ℤ y) ↔ (start ≤ℤ u)) where
-  pub never_then : pos 9_223_372_036_854_775_807 <ℤ start → NeverComes leaps x
-  never_then late u y f l = let a = reached u y l in grind linear
-
   pub never_refused : AreLeapSeconds leaps → IsLeapTimeRefused leaps start → NeverComes leaps x
   never_refused valid refused u y f l = by_lt_z y x (λ h. h) (λ h. absurd (refused_on leaps start u y valid ((reached u y l).0 h) refused l))
-
-pub last_item : (entries : List Transition) (t : Transition) → 0 < length entries → t ≡ get_or entries (length entries - 1) t
-    → t.type_index ≡ last_index entries
-last_item entries t some item = grind (linear, take_all, index_next)
-
-pub last_below : (entries : List Transition) (n : ℕ) → 0 < n
-    → NameTypes n entries → last_index entries < n
-last_below entries n some named =
-    rw (take_all (length entries) entries (omega arith)) at (index_within n entries (length entries) some named (omega arith))

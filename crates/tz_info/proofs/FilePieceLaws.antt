@@ -2,14 +2,11 @@
 use Rattle.std.proofs.lemmas.Option.{same_Some}
 use Rattle.tz_base.specs.Grammar.{At, Byte, Check, Ended, Grammar, Here, Inside, Marked, Nothing, Number, Refused, Rest, Run, Then}
 use Rattle.tz_info.proofs.{
-  Words.{EndFile, Err, Error, Exact, FileCounts, FilePieces, HasCounts, HasLengths, HasPieces, List, Ok, Parts, Some, Spells, Version, [], after_first_block},
-  Words.{ap, append-nil, append_assoc, block, file, first_version, footer_bytes, from_times, inl, inr, later_version, lawful, linear, read, refl, subst},
-  Words.{sym, ℕ, ◌++◌, ◌↔◌, ◌∙◌, ◌∷◌, ◌≡◌, ◌⊎◌},
+  Words.{EndFile, Err, Error, Exact, FileCounts, FilePieces, HasCounts, HasLengths, HasPieces, IsUtf8-from_is_utf8, List, Ok, Parts, Some, Spells, Version, []},
+  Words.{after_first_block, ap, append-nil, append_assoc, block, false_unless, file, first_version, footer_bytes, from_times, inl, inr, is_utf8-from_IsUtf8},
+  Words.{later_version, lawful, linear, read, refl, subst, sym, ℕ, ◌++◌, ◌↔◌, ◌∙◌, ◌∷◌, ◌≡◌, ◌⊎◌},
 }
-use Rattle.tz_info.specs.{
-  FileHeaders.{header},
-  declared.file.header.{Counts.{Counts}, Place.TheVariants.{First, Second}, Version.TheVariants.{One}},
-}
+use Rattle.tz_info.specs.{FileHeaders.{header}, declared.file.header.{Counts.{Counts}, Place.TheVariants.{First, Second}, Version.TheVariants.{One}}}
 
 -- ---- what is spelled comes first, and what follows after it
 front : {X : Type 0} (g : Grammar X) (bytes : List ℕ) (x : X) (rest : List ℕ) → Spells g bytes x rest → (before : List ℕ) × (bytes ≡ before ++ rest)
@@ -76,9 +73,6 @@ end_file _ p h =
     let b = of_block p start _ size is in
     record { lengths = b.0; before = before; whole = rw (← b.1 refl) e }
 
-pub whole : (bytes : List ℕ) (p : FilePieces) → HasPieces bytes p → (before : List ℕ) × (bytes ≡ before ++ from_times p)
-whole bytes p h = let e = end_file bytes p h in (e.before, e.whole)
-
 -- ---- counts
 -- whole pieces have one pair of counts
 pub counted : (bytes : List ℕ) (p : FilePieces) (rest : List ℕ) (d c : FileCounts) → read file bytes ≡ Ok (p, rest)
@@ -91,3 +85,6 @@ counted bytes p rest d c is m n = (
 -- bytes of which a piece is missing or has a fault have none
 pub uncounted : (bytes : List ℕ) (e : Error) (c : FileCounts) → read file bytes ≡ Err e → HasCounts bytes c → ⊥
 uncounted bytes e c is k = let whole = (lawful file bytes).again (k.pieces, []) k.has in cc
+
+-- whether the bytes of a footer are UTF-8
+pub ruleset utf8_tests = (IsUtf8-from_is_utf8, is_utf8-from_IsUtf8, false_unless)

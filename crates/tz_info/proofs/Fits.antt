@@ -13,3 +13,6 @@ pub fits_128 : (z : ℤ) → mag z < 170_141_183_460_469_231_731_687_303_715_884
 fits_128 z h = record { sfits = h }
 
 pub ruleset fits = (to_z-of_z, fits_64, fits_32, fits_128)
+
+-- what a number in its range is read as
+pub ruleset in_range = to_z-of_z

@@ -1,13 +1,13 @@
 -- A rule's moments, counted from the first second of their year, depend on the year's kind alone.
 use Rattle.std.proofs.lemmas.List.FromFn.{get_or-map-range_with_len}
 use Rattle.tz_info.proofs.{
-  ListLaws.{one_true},
   Neighbours.{IsNear, KeepsMargin, ends_near, starts_near},
-  RuleDays.{rule_day_closed},
-  Words.{Alternate, Bool, DayForm, DayTime, IsAlternateRule, IsRuleDay, List, are_calm, arith, closed_day, cond, day_number, day_time_second},
-  Words.{days_of_months, end_in, false, floors, get_or, get_or-map, inr, int_le, is_calm, is_calm_kind, is_leap, kind_place, margin_of, moment},
-  Words.{nat_le, neg_ℤ, place_by, places_by_kind, pos, refl, second_in, seconds_by_kind, start_in, sym, true, weekday_below, weekday_later},
-  Words.{weekday_of, year_start, ℕ, ℤ, ◌%◌, ◌*ℤ◌, ◌+ℤ◌, ◌+◌, ◌-ℤ◌, ◌-◌, ◌<◌, ◌∙◌, ◌≡◌, ◌≤ℤ◌, ◌⊎◌},
+  Prefixes.one_true,
+  RuleDays.rule_day_closed,
+  Words.{Alternate, Bool, DayForm, DayTime, IsAlternateRule, IsRuleDay, List, are_calm, arith, closed_day, cond, day_number, day_time_second, days_of_months},
+  Words.{end_in, false, floors, get_or, get_or-map, inr, int_le, is_calm, is_calm_kind, is_leap, kind_place, margin_of, moment, nat_le, neg_ℤ, place_by},
+  Words.{places_by_kind, pos, refl, second_in, seconds_by_kind, start_in, sym, true, weekday_below, weekday_later, weekday_of, year_start, ℕ, ℤ, ◌%◌, ◌*ℤ◌},
+  Words.{◌+ℤ◌, ◌+◌, ◌-ℤ◌, ◌-◌, ◌<◌, ◌∙◌, ◌≡◌, ◌≤ℤ◌, ◌⊎◌},
 }
 use Rattle.tz_info.specs.Steps.{ChangingYears.{AreWithinYears}, Kinds.{ends_of, starts_of}}
 

@@ -10,7 +10,7 @@ use Rattle.tz_info.proofs.{
   Words.{Not_rising, Other_index, Other_leaps, Other_rule, Transition, Zone, [], arith, below_more, cases_lt, error_number, get_or-map, get_or_default, inl},
   Words.{inr, length, length-map, map, suc, zero, ℕ, ℤ, ◌+◌, ◌<ℤ◌, ◌<◌, ◌∷◌, ◌≡◌, ◌≤◌, ◌⊎◌},
 }
-use Rattle.tz_info.specs.{Leaps.IsFirstLeap, Transitions.NameTypes}
+use Rattle.tz_info.specs.Transitions.{NameTypes}
 
 -- ---- what can be tested holds or does not
 abbrev pub Known : Type 0 → Type 0
@@ -59,9 +59,6 @@ leaps_known (e ∷ es) = like_known (λ h. record { first = λ d l. h.0; next = 
 pub list_fault_or_valid : (z : Zone) (e : Error) → ListFault z e → IsValid z → ⊥
 list_fault_or_valid z e f v = grind arith
 
-pub with_fault : {z : Zone} {e : Error} → ListFault z e → ListFault z e × ¬ (IsValid z)
-with_fault {z = z} {e = e} f = (f, list_fault_or_valid z e f)
-
 pub list_fault_low : (z : Zone) (e : Error) → ListFault z e → error_number e ≤ 16
 list_fault_low z e f = grind arith
 
@@ -105,4 +102,4 @@ pub names_are : {X : Type 0} (n : ℕ) (f : X → Transition) (xs : List X) → 
 names_are n f = All-map (λ t. t.type_index < n) f
 
 -- what decides whether lists make a zone
-pub ruleset list_tests = (names_are, names_of, with_fault, No_type, Not_rising, Other_index, Other_leaps, Other_rule)
+pub ruleset list_tests = (names_are, names_of, No_type, Not_rising, Other_index, Other_leaps, Other_rule)

@@ -2,8 +2,8 @@
 use Rattle.std.specs.Prelude.{IfSome, if◌then◌else◌}
 use Rattle.tz_base.specs.declared.span.Span.{Span}
 use Rattle.tz_info.proofs.{
-  Words.{Bool, HaveOneTypeFrom, IsNear, IsNextRun, IsOutOfForce, IsRunUntil, LocalType, None, Option, Some, TypeAt, Zone, false, linear, pos, true, ℤ, ◌-ℤ◌},
-  Words.{◌<ℤ◌, ◌↔◌, ◌≡◌, ◌≤ℤ◌},
+  Words.{Bool, HaveOneTypeFrom, IsNear, IsNextRun, IsOutOfForce, IsRunUntil, LocalType, None, Option, Some, TypeAt, Zone, linear, pos, ℤ, ◌-ℤ◌, ◌<ℤ◌, ◌↔◌, ◌≡◌},
+  Words.{◌≤ℤ◌},
   ZoneLaws.type_once,
 }
 use Rattle.tz_info.specs.Spans.{IsInSpan, IsSince, IsSpan, IsSpanAt, IsUntil}
@@ -24,10 +24,7 @@ one_type z s low _ _ end near near_high is starts ends u from until =
 -- the part of a window that has its first second, or its last one
 pub next_run : (w : Bool) (s : Span) (low high start end : ℤ) → low <ℤ high → IsInSpan s (if w then low else high -ℤ pos 1) → StartsBy s.from low start
     → EndsBy s.until high end → IsNextRun w low high start end
-next_run true s low _ start end some here starts ends =
-    let b = starts start in let c = ends (end -ℤ pos 1) in grind linear
-next_run false s low high start end some here starts ends =
-    let c = ends (end -ℤ pos 1) in grind linear
+next_run w s low high start end some here starts ends = let b = starts start in let c = ends (end -ℤ pos 1) in grind linear
 
 -- a span that ends before the limit ends when its type is out of force
 turned : (z : Zone) (until : Option ℤ) (limit end : ℤ) (f : LocalType) → IfSome until (IsOutOfForce (TypeAt z) f) → EndsBy until limit end → end <ℤ limit

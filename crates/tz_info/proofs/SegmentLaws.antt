@@ -2,8 +2,7 @@
 use Rattle.tz_info.proofs.{
   LeapOrder.leap_sums_rise,
   PassedTransitions.no_items,
-  Prefixes.{any, last_taken},
-  TableSearch.{Between, search_found},
+  Prefixes.{Between, any, last_taken, search_found},
   Words.{AreLeapSeconds, AreRising, HasType, IsLeapTime, IsValid, List, LocalType, RuleOrType, Transition, TypeIn, Zone, [], ap, arith, begin_of},
   Words.{by_lt_z, correction_at, get_or, index_of, least_time, length, length-take, linear, passed, pos, refl, segment_of, suc, sym, take, zero, ℕ},
   Words.{ℤ, ◌+ℤ◌, ◌+◌, ◌-ℤ◌, ◌<ℤ◌, ◌<◌, ◌↔◌, ◌∙◌, ◌∷◌, ◌≡◌, ◌≤ℤ◌, ◌≤◌},

@@ -2,8 +2,7 @@
 use Rattle.tz_info.proofs.{
   ChangeSearch.{Typed, stays},
   LastType.last_is,
-  LeapEntries.{before_found, follow},
-  LeapOrder.none_counted,
+  LeapOrder.{before_found, follow, none_counted},
   RuleChanges.rule_second,
   RuleLaws.rule_year,
   SegmentLaws.{come_at_time, come_by_time, segment_most, segments_rise},

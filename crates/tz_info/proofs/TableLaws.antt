@@ -3,10 +3,10 @@ use Rattle.tz_info.proofs.{
   EntryChanges.index_there,
   ExtremeLaws.window_made,
   GapLaws.{IsNever, gap_found, not_less},
-  LeapSearch.own_leap_time,
+  LeapStarts.own_leap_time,
   PassedTransitions.no_items,
+  Prefixes.search_found,
   SegmentLaws.{come_at_time, come_from, place_before, place_begin, place_most, segment_here, segment_most},
-  TableSearch.search_found,
   WallSegments.{leap_time_of, near_fits, shown_inside, type_in_table, type_of_table, typed_answer},
   Words.{AreExtremes, AreLess, AreListed, Change, Extremes, HasGap, HasReach, IsBegin, IsBegun, IsBegunNear, IsIndex, IsJump, IsLeapTime, IsRuleOrNone},
   Words.{IsSegment, IsShownAmong, IsStart, IsTable, IsTableAnswer, IsTableLess, IsValid, IsWallAnswer, IsWide, IsWindowOf, LocalResult, LocalType, MatchOption},
@@ -89,10 +89,7 @@ pub start_begun : (z : Zone) (e : Entries) (s : ℤ) → IsValid z → AreEntrie
 start_begun z e s valid made begun u x near l = grind (linear, come_at_time z u x, segment_most, made.come u x (near_fits u near), begun u)
 
 pub begin_by : (z : Zone) (e : Entries) (s : ℤ) → IsValid z → AreEntries z e → least_time ≤ℤ s → IsBegun e s → IsBegin z s
-begin_by z e s valid made low begun = record {
-  comes = grind linear;
-  alone = grind (linear, made.some, made.few, place_most, begun least_time);
-}
+begin_by z e s valid made low begun = grind (linear, made.some, made.few, place_most, begun least_time)
 
 -- ---- the gap at the begin of a segment
 -- the gap that the index knows, or clocks show less at all the table's seconds
@@ -128,14 +125,12 @@ module _ (z : Zone) (e : Entries) (s : ℤ) (none : length e.items ≡ 0) (begun
   abbrev plain : Shown → WallIndex
   plain b = record { before = b; pieces = []; maxima = []; rule_from = s }
 
-  is_plain : (b : Shown) → ((l : ℤ) → IsWide l → IsShownAmong z e.items 0 (top_of z.rule e) l b) → IsIndex z e (plain b)
-  is_plain b answers = grind arith
-
   pub no_segments : top_of z.rule e ≡ 0 → IsIndex z e (plain Less)
-  no_segments top = is_plain Less (grind arith)
+  no_segments top = grind arith
 
   pub one_segment : (a : Segment) → IsValid z → AreEntries z e → 0 < top_of z.rule e → IsSegment z.types e.items 0 a → IsIndex z e (plain (Once a.index))
   one_segment a valid made some is =
       let table = table_of z e valid made in
       let top : top_of z.rule e ≡ 1 = omega arith in
-      is_plain _ (rw top (grind (arith, shown_inside table some is)))
+      let answers : (l : ℤ) → IsWide l → IsShownAmong z e.items 0 (top_of z.rule e) l (Once a.index) = rw top (grind (arith, shown_inside table some is)) in
+      grind arith

@@ -1,17 +1,16 @@
 -- The seconds at which a zone has a type.
 use Rattle.std.{proofs.lemmas.Int.clamps, specs.Int.{int_max, int_min}}
 use Rattle.tz_info.proofs.{
-  EntryChanges.{near_time},
+  EntryChanges.near_time,
   LeapOrder.leap_times_answer,
-  RuleChanges.{rule_second},
+  RuleChanges.rule_second,
   SegmentLaws.{segment_most, segments_rise},
   SpanLaws.{all_come, out_of_years},
   Words.{Alternate as AlternateRule, AreLeapSeconds, IsBegin, IsFirstTyped, IsFromLast, IsLastTimed, IsLastTyped, IsLeapTime, IsLeapTimeRefused, IsRefusedBy},
-  Words.{IsRuleOrNone, IsTyped, SFits, by_lt_z, cases_lt, ints, segment_of, w64},
-  Words.{IsTypeRefused, IsValid, LeapSecond, List, Option, Some, TransitionRule, Zone, arith, by_leap_time, by_rule, inl, inr, least_time, length},
-  Words.{linear, neg_ℤ, pos, refl, ℤ, ◌-ℤ◌, ◌<ℤ◌, ◌<◌, ◌≡◌, ◌≤ℤ◌},
+  Words.{IsRuleOrNone, IsTypeRefused, IsTyped, IsValid, LeapSecond, List, Option, SFits, Some, TransitionRule, Zone, arith, by_leap_time, by_lt_z, by_rule},
+  Words.{cases_lt, inl, inr, ints, least_time, length, linear, neg_ℤ, pos, refl, segment_of, w64, ℤ, ◌-ℤ◌, ◌<ℤ◌, ◌<◌, ◌≡◌, ◌≤ℤ◌},
   ZoneChanges.{refused_on, time_of, to_rule},
-  ZoneLaws.{type_decided},
+  ZoneLaws.type_decided,
 }
 use Rattle.tz_info.specs.{Steps.Starts.IsLastWithLeapTime, declared.rule.transition_rule.TransitionRule.TheVariants.{Alternate}}
 
@@ -61,10 +60,7 @@ module _ (z : Zone) (valid : IsValid z) (limits : IsRuleOrNone z.rule) where
     -- a second up to the last one with a leap time has a type, unless the rule refuses it
     typed_by : (u : ℤ) → SFits w64 u → u ≤ℤ l → ((x : ℤ) → (0 < length z.transitions → IsLeapTime z.leaps u x) → IsFromLast z x → IsRefusedBy z.rule u → ⊥)
         → IsTyped z u
-    typed_by u fits most not = elim (type_decided z u valid limits) [ inl typed ↦ typed | inr refused ↦ absurd (answers refused) ] where
-      answers : IsTypeRefused z u → ⊥
-      answers (by_leap_time some r) = refused_on z.leaps u u _ valid.leaps (omega linear) r (timed.has u fits most some).1
-      answers (by_rule x of_second last r) = not x of_second last r
+    typed_by u fits most not = let d = type_decided z u valid limits in let has = timed.has u fits most in grind (linear, refused_on)
 
     beyond : (v : ℤ) → SFits w64 v → l <ℤ v → IsTyped z v → ⊥
     beyond v fits later there = grind (linear, refused_on, time_of)
@@ -83,20 +79,14 @@ module _ (z : Zone) (valid : IsValid z) (limits : IsRuleOrNone z.rule) where
         let far = timed.far in
         let fits = timed.fits in
         let least : (pos 10_000_000_000_000 ≤ℤ r) × (r ≤ℤ l) = omega (linear, clamps) in record {
-          typed = typed_by r (omega linear) least.1 (λ x of_second last refused. elim (out_of_years r (rw rule at refused)) [
-            | inl early ↦ omega linear
-            | inr late ↦ elim (cases_lt 0 _) [
-              | inl some ↦ let b = (is.comes r x (omega linear) (of_second some)).0 last in omega (linear, clamps)
-              | inr none ↦ let b = is.alone (omega arith) in omega (linear, clamps)
-            ]
-          ]);
+          typed = typed_by r (omega linear) least.1 (λ x of_second last refused.
+              let out = out_of_years r (rw rule at refused) in
+              let b = is.comes r x in let alone = is.alone in grind (linear, clamps));
           none = λ v fits later there. by_lt_z l v (λ after. beyond v fits after there) (λ most.
-              let all : segment_of z v ≡ length z.transitions = elim (cases_lt 0 _) [
-                | inl some ↦
-                    let time = time_of z v _ some there.1 in
-                    all_come z v _ valid (λ _. time) ((is.comes v _ fits time).1 (omega (linear, clamps)))
-                | inr none ↦ let m = segment_most z v valid.transitions.rising in omega arith
-              ] in
+              let m = segment_most z v valid.transitions.rising in
+              let time = λ (some : 0 < length z.transitions). time_of z v _ some there.1 in
+              let come = is.comes v there.1.leap_time fits in let reached = all_come z v there.1.leap_time valid in
+              let all : segment_of z v ≡ length z.transitions = grind (linear, clamps) in
               let within = rule_second a v _ (to_rule z a v _ rule valid all there.1) in
               omega (linear, clamps));
           far = least.0;

@@ -1,19 +1,21 @@
--- The laws of a whole file, and what they say of a reader: a file is a zone's or has one first fault.
-use Rattle.tz_base.specs.declared.error.{Error.TheVariants.{InvalidTzFile, OutOfMemory}, Expected.TheVariants.{TZifAtFrontOfHeader}}
+-- The laws of a whole file, and what they say of a reader: a file is a zone's or has one first fault, which is at one place.
+use Rattle.tz_base.specs.{
+  Grammar.{HasFault, from_fault},
+  declared.error.{Error.TheVariants.{InvalidTzFile, OutOfMemory}, Expected.TheVariants.{TZifAtFrontOfHeader}},
+}
 use Rattle.tz_info.proofs.{
   FilePieceLaws.{file_ends, has_pieces},
   ListFaults.{has_list_fault, list_fault_low, list_fault_once, list_fault_or_valid},
-  ListLaws.each_keeps,
+  Prefixes.each_keeps,
   Words.{Err, Error, FilePieces, HasPieces, IfErr, IfOk, In_file, IsErrAnd, IsFaultAt, IsFileFault, IsOutOfMemory, IsTzFile, IsValid, IsZoneFault, List},
-  Words.{ListFault, MatchResult, No_memory, Not_spelled, Not_valid, Ok, Result, Spells, TimeZone, Zone, [], ap, apart, arith, drop},
-  Words.{either, error_number, fault_low as low, fault_once as one_fault, file, inl, inr, lawful, length-take, linear, read, refl, sym, take, take-append-drop},
-  Words.{value_once, ℕ, ◌∙◌, ◌≡◌, ◌≤◌, ◌⊎◌},
+  Words.{ListFault, MatchResult, No_memory, Not_spelled, Not_valid, Ok, Result, Spells, TimeZone, Zone, [], ap, apart, arith, below_more, drop, drop_front},
+  Words.{either, error_number, fault_low as low, fault_once as one_fault, file, inl, inr, lawful, length, length-append, length-take, linear, read, refl, sym},
+  Words.{take, take-append-drop, value_once, ℕ, ℤ, ◌++◌, ◌+◌, ◌-◌, ◌<ℤ◌, ◌<◌, ◌∙◌, ◌≡◌, ◌≤◌, ◌⊎◌},
 }
-use Rattle.tz_base.specs.Grammar.{HasFault, from_fault}
 use Rattle.tz_info.specs.{
-  FileContents.{indicators, pair_at, type_at},
+  FileContents.{indicators, pair_at, time_at, type_at},
   FileHeaders.{HasOtherMagic, header, tzif},
-  FilePlaces.{In_lists, In_spelling, IsListPlace},
+  FilePlaces.{At_index, At_leap, At_rule, At_time, HoldsOfNone, In_lists, In_spelling, IsFilePlace, IsFirstBelow, IsListPlace, IsNotLater},
   Footers.{optional_footer},
   TzFiles.{contents, tz_file},
 }
@@ -38,28 +40,28 @@ unfolding tz_file
 file_pieces bytes z (p, after, h, k) = (p, rw (file_ends bytes p after h).5 at h)
 
 -- ---- the first fault
+spelled_apart : (bytes : List ℕ) (z : Zone) (e : Error) → IsTzFile bytes z → HasFault tz_file bytes e → ⊥
+spelled_apart bytes z = apart (lawful tz_file bytes) (z, [])
+
 pub fault_once : (bytes : List ℕ) (d e : Error) → IsFileFault bytes d → IsFileFault bytes e → d ≡ e
 fault_once bytes d e (Not_spelled _ f) (Not_spelled _ g) = one_fault (lawful tz_file bytes) d e f g
-fault_once bytes d e (Not_spelled _ f) (Not_valid z _ file _) = absurd (apart (lawful tz_file bytes) (z, []) d file f)
-fault_once bytes d e (Not_valid z _ file _) (Not_spelled _ g) = absurd (apart (lawful tz_file bytes) (z, []) e file g)
+fault_once bytes d e (Not_spelled _ f) (Not_valid z _ file _) = absurd (spelled_apart bytes z d file f)
+fault_once bytes d e (Not_valid z _ file _) (Not_spelled _ g) = absurd (spelled_apart bytes z e file g)
 fault_once bytes d e (Not_valid y _ of f) (Not_valid z _ file g) = list_fault_once z d e (rw (one_zone bytes y z of file) at f) g
 
 pub fault_or_zone : (bytes : List ℕ) (e : Error) (z : Zone) → IsFileFault bytes e → IsTzFile bytes z → IsValid z → ⊥
-fault_or_zone bytes e z (Not_spelled _ f) file valid = apart (lawful tz_file bytes) (z, []) e file f
-fault_or_zone bytes e z (Not_valid y _ of bad) file valid = list_fault_or_valid y e bad (rw (one_zone bytes z y file of) at valid)
+fault_or_zone bytes e z fault file valid = grind (arith, spelled_apart, list_fault_or_valid, one_zone)
 
 pub has_fault : (bytes : List ℕ) → ((z : Zone) → IsTzFile bytes z → ¬ (IsValid z)) → (e : Error) × IsFileFault bytes e
 has_fault bytes none = elim (either (lawful tz_file bytes)) [
-  | inl s ↦
-      let file : IsTzFile bytes s.0.0 = rw (zone_ends bytes s.0.0 s.0.1 s.1) at s.1 in
-      let f = has_list_fault s.0.0 (none s.0.0 file) in (_, Not_valid s.0.0 _ file f.1)
+  | inl s ↦ let file : IsTzFile bytes s.0.0 = rw (zone_ends bytes s.0.0 s.0.1 s.1) at s.1 in
+      (_, Not_valid s.0.0 _ file (has_list_fault s.0.0 (none s.0.0 file)).1)
   | inr f ↦ (f.0, Not_spelled f.0 f.1)
 ]
 
 -- it is not running out of memory
 pub fault_low : (bytes : List ℕ) (e : Error) → IsFileFault bytes e → error_number e ≤ 16
-fault_low bytes e (Not_spelled _ f) = low (lawful tz_file bytes) e f
-fault_low bytes e (Not_valid z _ _ f) = list_fault_low z e f
+fault_low bytes e f = let spelled = low (lawful tz_file bytes) e in grind (arith, list_fault_low)
 
 -- bytes that do not begin with the magic
 magic_fault : (bytes : List ℕ) → HasOtherMagic bytes → HasFault file bytes (InvalidTzFile TZifAtFrontOfHeader)
@@ -105,7 +107,7 @@ module _ (bytes : List ℕ) (e : Error) (left : List ℕ) (fault : IsFaultAt byt
 
   -- of a file of a zone, or with a fault
   pub no_memory : (z : Zone) → IsTzFile bytes z → IsValid z → e ≡ OutOfMemory
-  no_memory z file valid = elim fault [ inl f ↦ absurd (fault_or_zone bytes e z f.0 file valid) | inr m ↦ m.0 ]
+  no_memory z file valid = grind (arith, fault_or_zone)
 
   pub named : (d : Error) → IsFileFault bytes d → (e ≡ d) ⊎ IsOutOfMemory e
   named d f = elim fault [ inl g ↦ inl (fault_once bytes e d g.0 f) | inr m ↦ inr (ap error_number m.0) ]
@@ -127,8 +129,7 @@ module _ (bytes : List ℕ) (r : Result TimeZone Error) (left : List ℕ) (found
 
 module _ (bytes : List ℕ) where
   pub fault_of : (r : Result TimeZone Error) (left : List ℕ) → IfErr r (λ e. IsFaultAt bytes e left) → IfErr r (λ e. IsZoneFault bytes e)
-  fault_of (Ok z) left fault = tt
-  fault_of (Err e) left fault = zone_fault bytes e left fault
+  fault_of r left fault = let f = λ (e : Error). zone_fault bytes e left in grind arith
 
   pub other_magic : (r : Result TimeZone Error) (left : List ℕ) → IfOk r (λ z. IsTzFile bytes z × IsValid z) → IfErr r (λ e. IsFaultAt bytes e left)
       → HasOtherMagic bytes → IsErrAnd r (λ e. e ≡ InvalidTzFile TZifAtFrontOfHeader)
@@ -144,3 +145,42 @@ pub ruleset reader = (fault_or_zone, memory, named, no_memory, one_zone, zone_fa
 
 -- a file has a zone or one fault
 pub ruleset file_faults = (fault_low, fault_once, fault_or_zone, has_fault)
+
+-- ---- where a file is at fault: the bytes from a part on
+-- ---- the bytes from a part on
+pub last_bytes : (bytes front rest : List ℕ) (n : ℕ) → bytes ≡ front ++ rest → n + length rest ≡ length bytes → drop n bytes ≡ rest
+last_bytes bytes front rest n whole at =
+    let same : length front ≡ n = grind (arith, length-append) in rw (whole, ← same) (drop_front front rest)
+
+pub next_bytes : {bytes after : List ℕ} (x rest : List ℕ) → after ≡ drop (length x) bytes → bytes ≡ x ++ rest → after ≡ rest
+next_bytes x rest is whole = is ∙ ap (drop _) whole ∙ drop_front x rest
+
+-- ---- what the loops keep
+pub next_later : (p : FilePieces) (k : ℕ) (here before : ℤ) → HoldsOfNone (IsNotLater p) k → here ≡ time_at p k → before ≡ time_at p (k - 1) → before <ℤ here
+    → HoldsOfNone (IsNotLater p) (k + 1)
+next_later p k here before none is was later = grind (linear, below_more)
+
+-- ---- one place
+first_once : (P : ℕ → Type 0) (n j k : ℕ) → IsFirstBelow P n j → IsFirstBelow P n k → j ≡ k
+first_once P n j k a b = grind arith
+
+lists_once : {p : FilePieces} {a b : List ℕ} → IsListPlace p a → IsListPlace p b → a ≡ b
+lists_once (At_index j f) (At_index k g) = rw (first_once _ _ j k f g) refl
+lists_once (At_index j f) (At_time _ none _) = absurd (none j f.below f.here)
+lists_once (At_index j f) (At_leap _ none _ _) = absurd (none j f.below f.here)
+lists_once (At_index j f) (At_rule none _ _) = absurd (none j f.below f.here)
+lists_once (At_time _ none _) (At_index k g) = absurd (none k g.below g.here)
+lists_once (At_time j _ f) (At_time k _ g) = rw (first_once _ _ j k f g) refl
+lists_once (At_time j _ f) (At_leap _ _ t _) = absurd (t j f.below f.here)
+lists_once (At_time j _ f) (At_rule _ t _) = absurd (t j f.below f.here)
+lists_once (At_leap _ none _ _) (At_index k g) = absurd (none k g.below g.here)
+lists_once (At_leap _ _ t _) (At_time k _ g) = absurd (t k g.below g.here)
+lists_once (At_leap j _ _ f) (At_leap k _ _ g) = rw (first_once _ _ j k f g) refl
+lists_once (At_leap j _ _ f) (At_rule _ _ l) = absurd (l j f.below f.here)
+lists_once (At_rule none _ _) (At_index k g) = absurd (none k g.below g.here)
+lists_once (At_rule _ t _) (At_time k _ g) = absurd (t k g.below g.here)
+lists_once (At_rule _ _ l) (At_leap k _ _ g) = absurd (l k g.below g.here)
+lists_once (At_rule _ _ _) (At_rule _ _ _) = refl
+
+pub file_place_once : (bytes : List ℕ) (m n : ℕ) → IsFilePlace bytes m → IsFilePlace bytes n → m ≡ n
+file_place_once bytes m n f g = grind (arith, spelled_apart, one_pieces, lists_once)

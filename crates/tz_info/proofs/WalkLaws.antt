@@ -5,7 +5,7 @@ use Rattle.tz_info.proofs.{
   Candidates.offset_of_rule,
   ExtremeLaws.{at_least_least, at_most_greatest},
   SegmentLaws.{between_of, later_segment, segment_at, segment_here, segment_is, segments_rise, type_from, within_of},
-  TableSearch.Between,
+  Prefixes.Between,
   WallSegments.{leap_time_of, near_of, rule_begun, type_in_table, type_of_table},
   Words.{AreUtOffsets, Bool, Counts, IsNear, IsShownIn, IsStart, IsTried, IsValid, IsWallAnswer, IsWide, IsWindow, List, LocalResult, LocalType, None, Option},
   Words.{RoseByWalk, RoseWithin, RuleAt, Shows, Some, Transition, TransitionRule, TypeAt, TypeFrom, Zone, [], arith, begin_of, cases_lt, come_between, digits},

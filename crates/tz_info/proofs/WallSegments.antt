@@ -6,7 +6,7 @@ use Rattle.tz_info.proofs.{
   LeapOrder.leap_times_answer,
   LeapStarts.saturated,
   SegmentLaws.{begins_rise, come_at_time, come_from, place_most, places_rise, segment_most, type_before, type_from, type_in_before, type_in_from},
-  TableSearch.Between,
+  Prefixes.Between,
   Words.{AreBelow, AreListed, ArePieces, AreRising, HasType, IsLeapTime, IsMerged, IsNear, IsSegment, IsShownAmong, IsShownIn, IsStart, IsTable, IsUtOffset},
   Words.{IsValid, IsWallAnswer, IsWide, List, ListedAmong, LocalResult, LocalType, None as none, Option, Piece, SFits, Segment, Shown, ShownAmong, Shows},
   Words.{Some as some, Transition, TransitionRule, TypeAt, TypeIn, Zone, [], arith, by_lt_z, cases_lt, cut_of, index_of, inl, inr, joined, le_false, le_true},

@@ -1,7 +1,7 @@
 -- Years of one key have changes at the same places.
 use Rattle.std.{proofs.{Math.Dec.eqb, lemmas.Bool.eqb-true}}
 use Rattle.tz_info.proofs.{
-  ListLaws.one_true,
+  Prefixes.one_true,
   Words.{Bool, IsRuleYear, List, SFits, all_below, ap, arith, false, floor_div, floor_mod, floor_mod_parts, floors, get_or, int_le, int_lt, is_leap},
   Words.{kind_place, length, linear, pos, refl, true, w32, weekday_below, weekday_of, year_start, year_step, ℕ, ℤ, ◌&&◌, ◌*ℤ◌, ◌+ℤ◌, ◌-ℤ◌},
   Words.{◌<◌, ◌∙◌, ◌≡◌, ◌≤ℤ◌, ◌↔◌},

@@ -40,10 +40,7 @@ fits_or_not a = grind arith
 -- all of n numbers fit 64 bits, or one does not
 all_fit_or_not : (f : ℕ → ℤ) (n : ℕ) → ((k : ℕ) → k < n → SFits w64 (f k)) ⊎ ((k : ℕ) × (k < n) × (SFits w64 (f k) → ⊥))
 all_fit_or_not f zero = grind linear
-all_fit_or_not f (suc n) = elim (all_fit_or_not f n) [
-  | inl all ↦ elim (fits_or_not (f n)) [ inl here ↦ inl (grind linear) | inr out ↦ inr (n, omega arith, out) ]
-  | inr some ↦ inr (grind linear)
-]
+all_fit_or_not f (suc n) = let before = all_fit_or_not f n in let here = fits_or_not (f n) in grind linear
 
 pub leap_time_decided : (leaps : List LeapSecond) (u : ℤ) → ((x : ℤ) × IsLeapTime leaps u x) ⊎ IsLeapTimeRefused leaps u
 leap_time_decided leaps u = elim (all_fit_or_not _ _) [

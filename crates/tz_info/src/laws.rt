@@ -71,7 +71,7 @@ pub fn rule_moments_law()
 /// If the corrections are 1, 2, 3 and so on, the Unix time of a Unix time's leap time is that
 /// Unix time. At the first entry's own leap time the Unix time is equal to it, and at a later one's
 /// it is less by the correction of the entry before.
-#[tactic(auto, using(crate::proofs::LeapEntries::before_first, crate::proofs::LeapEntries::before_later))]
+#[tactic(auto, using(crate::proofs::LeapOrder::before_first, crate::proofs::LeapOrder::before_later))]
 pub fn leap_times_law()
     ensures rise { (leaps : List LeapSecond) (u v x y : ℤ) → AreLeapSeconds leaps → u ≤ℤ v
         → IsLeapTime leaps u x → IsLeapTime leaps v y → x ≤ℤ y }

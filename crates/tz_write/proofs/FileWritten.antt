@@ -8,7 +8,7 @@ use Rattle.std.proofs.{
 use Rattle.std.specs.Str.{IsAscii}
 use Rattle.tz_base.specs.{Grammar.{At, Byte, Check, Each, Ended, Exact, Grammar, Here, IsRun, Marked, Nothing, Number, Rest, Run, Then}, LocalTypes.plain_type}
 use Rattle.tz_info.{
-  proofs.{FilePieceLaws.file_ends, PosixZoneLaws.in_footer, TrimLaws.trim_whole, TzFileLaws.one_pieces},
+  proofs.{FilePieceLaws.file_ends, PosixLaws.in_footer, TrimLaws.trim_whole, TzFileLaws.one_pieces},
   proofs.Words.{All-push, FilePieces, FitsSigned, IsTzFile, cases_lt, designation_of, drop-drop, drop_front, exact_cut, is_not_zero, leap_at, length-drop},
   proofs.Words.{length-take, nil_from_length, record_at, take-append-drop, take-suc, take_all, take_more, transition_at, values_below, w32, w64, ◌-◌},
   specs.declared.file.header.{Counts.Counts, Header.Header, Place.{TheVariants.{First, Second}, Place}, Version.{TheVariants.{Three, Two}, Version}},

@@ -1,5 +1,5 @@
 -- A call that is rejected has one number, unless memory runs out.
-use Rattle.tz_info.proofs.{TextLaws.{one_fault as string_fault_once}, ForCallers.{file_fault_once, text_fault_once}}
+use Rattle.tz_info.proofs.{ForCallers.{file_fault_once, text_fault_once}, PosixLaws.{one_fault as string_fault_once}}
 use Rattle.tz_info.specs.TzFiles.IsZoneFault.{In_file as Of_file}
 use Rattle.zoned_ffi.proofs.Words.{IsErrorOfKind, IsExtendedFault, IsFault, IsFileError, IsStringError, Kind, List, ap, arith, detail_number, error_number, inl}
 use Rattle.zoned_ffi.{proofs.Words.{inr, refl, ℕ, ◌≡◌, ◌⊎◌}, specs.Refusals.{IsFileError.{In_file}, IsStringError.{In_text, No_memory, Not_utf8}}}

@@ -68,7 +68,7 @@ fn read_footer(extended: bool, cursor: &mut Cursor<'_>) -> Result<Option<Spelled
     }
 }
 
-#[tactic(auto, using(crate::proofs::FooterLaws::utf8_tests), unfolding(crate::specs::Footers::utf8))]
+#[tactic(auto, using(crate::proofs::FilePieceLaws::utf8_tests), unfolding(crate::specs::Footers::utf8))]
 fn check_utf8(cursor: &mut Cursor<'_>) -> Result<(), Error>
     ensures { IsRead utf8 cursor.old (λ unit. unit) result cursor.new }
 {

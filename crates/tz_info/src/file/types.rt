@@ -18,7 +18,7 @@ use std::alloc::Global;
 use tz_base::{Cursor, Error, Expected, LocalTimeType};
 
 /// The types of the last block.
-#[tactic(auto, using(crate::proofs::Words::err_from_is_err_and, crate::proofs::ListLaws::each_fails))]
+#[tactic(auto, using(crate::proofs::Words::err_from_is_err_and, crate::proofs::Prefixes::each_fails))]
 pub fn read_types<'a>(
     alloc: Global,
     bytes: &'a [u8],
@@ -150,7 +150,7 @@ fn type_place<'a>(at_offset: &'a [u8], at_place: &'a [u8], offset: i32) -> &'a [
 
 // The type of an offset, a DST flag and a text: a function of its own, so that its clause says what
 // is returned for one.
-#[tactic(auto, using(crate::proofs::TypeLaws::type_answers, crate::proofs::Ranges::in_range))]
+#[tactic(auto, using(crate::proofs::Words::name_or_none_decided, crate::proofs::Fits::in_range))]
 fn local_type(offset: i32, is_dst: bool, text: &[u8]) -> Result<LocalTimeType, Error>
     ensures { Gives (λ t. t) result
         (checked (int_lt least_offset offset && is_name_or_none (designation_of text.now))

@@ -16,7 +16,7 @@ pub fn one_zone()
 {}
 
 /// The numbers of a file's rule are in their limits.
-#[tactic(auto, using(crate::proofs::PosixZoneLaws::file_rule_fits))]
+#[tactic(auto, using(crate::proofs::PosixLaws::file_rule_fits))]
 pub fn rule_is_in_limits()
     ensures { (bytes : List ℕ) (zone : Zone) → IsTzFile bytes zone → IsRuleOrNone zone.rule }
 {}
@@ -35,7 +35,7 @@ pub fn fault_or_zone()
 {}
 
 /// The fault of a file has one position, in the file or at its end.
-#[tactic(auto, using(crate::proofs::FilePlaceOnce::file_place_once, crate::proofs::FilePlaceOnce::file_place_within,))]
+#[tactic(auto, using(crate::proofs::TzFileLaws::file_place_once))]
 pub fn fault_place()
     ensures once { (bytes : List ℕ) (a b : ℕ) → IsFilePlace bytes a → IsFilePlace bytes b
         → a ≡ b }
@@ -44,7 +44,7 @@ pub fn fault_place()
 {}
 
 /// The parts of the last block, in order, and the footer end the file.
-#[tactic(auto, using(crate::proofs::FilePieceLaws::whole))]
+#[tactic(auto, using(crate::proofs::FilePieceLaws::end_file))]
 pub fn parts_end_file()
     ensures { (bytes : List ℕ) (p : FilePieces) → HasPieces bytes p
         → (before : List ℕ) × (bytes ≡ before ++ from_times p) }

@@ -12,7 +12,7 @@ use crate::rule::TransitionRule;
 use tz_base::Error;
 
 /// No bytes spell two rules.
-#[tactic(auto, using(crate::proofs::TextLaws::one_rule))]
+#[tactic(auto, using(crate::proofs::PosixLaws::one_rule))]
 pub fn one_rule()
     ensures { (extended : Bool) (bytes : List ℕ) (a b : TransitionRule) → IsTzText extended bytes a
         → IsTzText extended bytes b → a ≡ b }
@@ -31,7 +31,7 @@ pub fn zone_is_valid()
 
 /// A text with a fault spells no rule. It has one first fault, and that is not running out of
 /// memory.
-#[tactic(auto, using(crate::proofs::TextLaws::one_fault, crate::proofs::TextLaws::refused_or_spelled, crate::proofs::TextLaws::text_low,))]
+#[tactic(auto, using(crate::proofs::PosixLaws::one_fault, crate::proofs::PosixLaws::refused_or_spelled, crate::proofs::PosixLaws::text_low,))]
 pub fn fault_or_rule()
     ensures apart { (extended : Bool) (bytes : List ℕ) (e : Error) (rule : TransitionRule)
         → IsTextFault extended bytes e → ¬ (IsTzText extended bytes rule) }
@@ -51,7 +51,7 @@ pub fn fault_or_zone()
 {}
 
 /// The fault of a text has one place, in the text or at its end.
-#[tactic(auto, using(crate::proofs::PosixLaws::one_place, crate::proofs::PosixLaws::place_within, crate::proofs::PosixLaws::string_place_within))]
+#[tactic(auto, using(crate::proofs::PosixLaws::one_place, crate::proofs::TrimLaws::trimmed_fits))]
 pub fn fault_place()
     ensures once { (text : List ℕ) (a b : ℕ) → IsPosixFaultPlace text a → IsPosixFaultPlace text b
         → a ≡ b }

@@ -92,7 +92,7 @@ impl AlternateTime {
 
     // The same by the year's own two moments.
     #[inline(always)]
-    #[tactic(auto, using(crate::proofs::Ranges::in_range, crate::proofs::ChangingYears::none_of_one, crate::proofs::ChangingYears::nearest_of_two))]
+    #[tactic(auto, using(crate::proofs::Fits::in_range, crate::proofs::ChangingYears::none_of_one, crate::proofs::ChangingYears::nearest_of_two))]
     fn nearest_amid(&self, asked: AskedYear, stretch: Stretch, forward: bool) -> Option<Moment>
         requires asked { IsAskedYear self.now asked }
         requires calm { IsCalmRule self.now }

@@ -105,7 +105,7 @@ impl AlternateTime {
 
     // The nearest year beyond that one in which clocks change. Every 400 years the rule does the
     // same, so that no more years are looked at. The rule isn't asked about them.
-    #[tactic(auto, using(crate::proofs::Ranges::in_range))]
+    #[tactic(auto, using(crate::proofs::Fits::in_range))]
     fn changing_year(&self, first: i32, forward: bool) -> Option<i32>
         requires { IsRuleYear first }
         ensures { MatchOption result (HasNoneBeyond self.now forward first)

@@ -166,7 +166,7 @@ fn turns_in(starts: &[i64; 14], ends: &[i64; 14], year: i32) -> Turns
 
 impl YearsNear {
     // Whether daylight saving time begins or ends in the year, or as the next one begins.
-    #[tactic(auto, using(crate::proofs::Ranges::in_range))]
+    #[tactic(auto, using(crate::proofs::Fits::in_range))]
     fn has_flip(self) -> bool
         ensures { result ≡ has_flip self }
     {

@@ -167,7 +167,7 @@ impl RuleDay {
     /// let second = day.unix_time(2021, 7_200);       // 1615687200, 2021-03-14 02:00:00
     /// ```
     #[inline(always)]
-    #[tactic(auto, using(crate::proofs::Ranges::in_range, crate::proofs::RuleDays::rule_day_closed))]
+    #[tactic(auto, using(crate::proofs::Fits::in_range, crate::proofs::RuleDays::rule_day_closed))]
     pub fn unix_time(&self, year: i32, day_time: i64) -> i64
         requires { (neg_ℤ (pos 4_611_686_018_427_387_904) ≤ℤ day_time)
             × (day_time ≤ℤ pos 4_611_686_018_427_387_904) }

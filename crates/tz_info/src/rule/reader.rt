@@ -55,7 +55,7 @@ impl TransitionRule {
     /// on; at the end if the string ends too soon; and at the first byte of a number, a time or a name
     /// that is out of its limits. If the offset of daylight saving time is left out, and an hour more
     /// than that of standard time is no offset, the fault is at the comma.
-    #[tactic(auto, using(crate::proofs::TextLaws::fault_by, crate::proofs::TextLaws::found_by, crate::proofs::TextLaws::only_by))]
+    #[tactic(auto, using(crate::proofs::PosixLaws::fault_by, crate::proofs::PosixLaws::found_by, crate::proofs::PosixLaws::only_by))]
     pub fn parse_tz_string(bytes: &[u8], extended: bool) -> Result<TransitionRule, ParseError>
         // What is read is spelled so.
         ensures found { IfOk result (λ rule. IsTzText extended bytes.now rule) }

@@ -41,7 +41,7 @@ impl AlternateTime {
     /// [`Error::OutOfRange`] if the second's UTC year is below `i32::MIN + 2` or above
     /// `i32::MAX - 2`.
     #[inline(always)]
-    #[tactic(auto, using(crate::proofs::Ranges::in_range, crate::proofs::RuleLaws::refused_outside))]
+    #[tactic(auto, using(crate::proofs::Fits::in_range, crate::proofs::RuleLaws::refused_outside))]
     pub fn find_local_time_type(&self, unix_time: i64) -> Result<&LocalTimeType, Error>
         ensures { MatchResult result
             (λ t. AlternateAt self.now unix_time t.now)
@@ -72,7 +72,7 @@ impl AlternateTime {
 
     // The type in force at the second, by the season's moments if these decide.
     #[inline(always)]
-    #[tactic(auto, using(crate::proofs::Ranges::in_range))]
+    #[tactic(auto, using(crate::proofs::Fits::in_range))]
     pub(super) fn type_in(&self, season: Season, unix_time: i64) -> &LocalTimeType
         requires season { IsSeason self.now season }
         requires time { IsRuleTime unix_time }

@@ -31,7 +31,7 @@ impl TransitionRule {
     /// # Errors
     ///
     /// None: the `Result` is that of chrono's signature, and is always `Ok`.
-    #[tactic(auto, using(crate::proofs::Ranges::in_range, crate::proofs::Candidates::from_least))]
+    #[tactic(auto, using(crate::proofs::Fits::in_range, crate::proofs::Candidates::from_least))]
     pub fn find_local_time_type_from_local(
         &self,
         local: NaiveDateTime,
@@ -172,7 +172,7 @@ impl AlternateTime {
 
     // Asks for the one second that could show the local time at the offset, unless it comes before that one.
     #[inline(always)]
-    #[tactic(auto, using(crate::proofs::Ranges::in_range, crate::proofs::Candidates::asked_found, crate::proofs::Candidates::asked_other))]
+    #[tactic(auto, using(crate::proofs::Fits::in_range, crate::proofs::Candidates::asked_found, crate::proofs::Candidates::asked_other))]
     fn ask<'a>(
         &'a self,
         season: Season,

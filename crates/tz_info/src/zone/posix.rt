@@ -173,7 +173,6 @@ impl TimeZone {
 }
 
 // What a text spells without the white space at its ends.
-#[tactic(auto, using(crate::proofs::PosixLaws::string_place_within))]
 fn read_trimmed(text: &[u8]) -> Result<Spelled, ParseError>
     ensures { IsTrimmedRule text.now result }
 {

@@ -169,7 +169,7 @@ fn read_named<'a>(
     checked_at(at_name, cursor, named_type(name, dst, offset))
 }
 
-#[tactic(auto, using(crate::proofs::TypeLaws::named_by))]
+#[tactic(auto, using(crate::proofs::PosixLaws::named_by))]
 fn named_type(name: &[u8], dst: bool, offset: i32) -> Result<LocalTimeType, Error>
     requires { IsWithinDay offset }
     ensures value { Gives (λ t. t) result (checked (is_name name.now)

@@ -90,7 +90,7 @@ impl<'a> Iterator for Changes<'a> {
 
     ghost remaining = { item_count changes_left };
 
-    #[tactic(auto, using(crate::proofs::ChangeLists::steps_first, crate::proofs::Fits::fits, crate::proofs::ChangeLists::steps_none))]
+    #[tactic(auto, using(crate::proofs::ChangeLaws::steps_first, crate::proofs::Fits::fits, crate::proofs::ChangeLaws::steps_none))]
     fn next(&mut self) -> Option<Change> {
         let mut near = self.near_after;
         let change = self.nearest(true, &mut near)?;

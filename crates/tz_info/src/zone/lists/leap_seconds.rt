@@ -90,7 +90,7 @@ impl LeapSeconds {
 }
 
 // The last second that no entry refuses, or the last one of 64 bits.
-#[tactic(auto, using(crate::proofs::Fits::fits, crate::proofs::SearchWords::ints, crate::proofs::LeapSearch::since_epoch))]
+#[tactic(auto, using(crate::proofs::Fits::fits, crate::proofs::SearchWords::ints, crate::proofs::LeapStarts::since_epoch))]
 fn last_with_leap_time(entries: &[LeapSecond]) -> i64
     requires { AreLeapSeconds entries.now }
     ensures { IsLastWithLeapTime entries.now result }

@@ -64,7 +64,7 @@ impl PartialEq for Table {
 
 impl Table {
     // The table of those transitions.
-    #[tactic(auto, using(crate::proofs::TableSearch::in_order))]
+    #[tactic(auto, using(crate::proofs::Prefixes::in_order))]
     pub(in crate::zone) fn new(alloc: Global, entries: Vec<Kept>) -> Result<Table, Error>
         requires { AreRising entries.items }
         ensures { MatchResult result (λ t. t ≡ entries.items) (λ e. e ≡ Error.OutOfMemory) }
@@ -74,7 +74,7 @@ impl Table {
     }
 
     // The same for transitions as they are listed, without hints: lookups search a zone's entries.
-    #[tactic(auto, using(crate::proofs::TableSearch::in_order))]
+    #[tactic(auto, using(crate::proofs::Prefixes::in_order))]
     pub(in crate::zone) fn listed(alloc: Global, entries: Vec<Kept>) -> Table
         requires { AreRising entries.items }
         ensures { result ≡ entries.items }

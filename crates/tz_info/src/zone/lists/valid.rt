@@ -100,7 +100,7 @@ fn name_types<T: AsTransition>(type_count: usize, transitions: &[T]) -> bool
 
 // Whether a zone of that many types may have the transitions, in one pass over them. The pass goes
 // on after an invalid one, so that the loop has no branch.
-#[tactic(auto, using(crate::proofs::TableSearch::stand_more, crate::proofs::TableSearch::stand_less))]
+#[tactic(auto, using(crate::proofs::Prefixes::stand_more))]
 fn are_transitions<T: AsTransition>(type_count: usize, transitions: &[T]) -> bool
     ensures { IsTrue result ↔ AreTransitions type_count (map T.transition transitions.now) }
 {

@@ -231,7 +231,7 @@ fn is_in_force(entries: &[Kept], types: &[LocalTimeType], index: usize) -> bool
 }
 
 // The type index of the last entry, or 0 if the list is empty.
-#[tactic(auto, using(crate::proofs::EntryLaws::last_item, crate::proofs::EntryLaws::last_below))]
+#[tactic(auto, using(crate::proofs::SegmentLaws::index_next, crate::proofs::Prefixes::index_within, crate::proofs::Words::take_all))]
 fn latest_index(entries: &[Kept], types: &[LocalTimeType]) -> usize
     requires some { 0 < length types.now }
     requires named { NameTypes (length types.now) entries.now }

@@ -287,7 +287,7 @@ impl ChangeTable {
 
     // When the entry at that place comes.
     #[inline(always)]
-    #[tactic(auto, using(crate::proofs::TableSearch::time_of_entry))]
+    #[tactic(auto, using(crate::proofs::Words::get_or_default))]
     pub(in crate::zone) fn second(&self, place: usize) -> i64
         requires { place < length self.now.items }
         ensures { result ≡ entry_time self.now.items place }
@@ -349,7 +349,7 @@ impl ChangeTable {
     // The seconds between two entries that have the second, if one comes after it. If `near` entries have
     // come by then, it is found without a search.
     #[inline(always)]
-    #[tactic(auto, using(crate::proofs::SearchWords::ints, crate::proofs::EntryChanges::begin_at))]
+    #[tactic(auto, using(crate::proofs::SearchWords::ints, crate::proofs::EntryChanges::begin_at, crate::proofs::Fits::fits))]
     pub(in crate::zone) fn between(
         &self,
         types: &[LocalTimeType],

@@ -1,5 +1,5 @@
 use Rattle.std.proofs.Common.{inl}
-use Rattle.tz_info.proofs.TextLaws.{one_fault, one_rule, refused_or_spelled}
+use Rattle.tz_info.proofs.PosixLaws.{one_fault, one_rule, refused_or_spelled}
 use Rattle.zoned.proofs.Answered.{answered_ok, refused}
 use Rattle.zoned.proofs.headline.by_rule_of_string.Goals as goal
 

@@ -1,4 +1,4 @@
-use Rattle.tz_info.proofs.{PosixLaws.{fault_or_zone as text_fault_or_zone, one_zone as one_text_zone}, PosixZoneLaws.{posix_zone_valid}}
+use Rattle.tz_info.proofs.PosixLaws.{fault_or_zone as text_fault_or_zone, one_zone as one_text_zone, posix_zone_valid}
 use Rattle.tz_info.proofs.TzFileLaws.{fault_once, fault_or_zone as file_fault_or_zone, has_fault, one_zone as one_file_zone}
 use Rattle.zoned.proofs.headline.one_zone.Goals as goal
 

@@ -1,5 +1,5 @@
 use Rattle.tz_base.specs.declared.error.{Error.TheVariants.{InvalidTzFile}, Expected.TheVariants.{StandardTimeWhereTimeIsUt}}
-use Rattle.tz_info.proofs.{ListLaws.{each_fails}, Words.{arith, drop, from_ut_local, pair_test, pieces_of, refl, ap, sym, ◌∙◌, ◌≡◌, false}}
+use Rattle.tz_info.proofs.{Prefixes.each_fails, Words.{ap, drop, false, pair_test, pieces_of, refl, sym, ◌∙◌, ◌≡◌}}
 use Rattle.tz_info.specs.FileContents.{indicators, pair_at}
 use Rattle.tz_info.proofs.file.contents.check_indicators.Goals as goal
 

@@ -1,4 +1,4 @@
-use Rattle.tz_info.proofs.PosixZoneLaws.{posix_zone_valid}
+use Rattle.tz_info.proofs.PosixLaws.{posix_zone_valid}
 use Rattle.tz_info.proofs.laws.texts.zone_is_valid.Goals as goal
 
 pub returns : goal.returns

@@ -1,4 +1,4 @@
-use Rattle.tz_info.proofs.{ListLaws.one_false, Words.{are_calm, arith, is_calm_kind, sym, ◌≡◌}}
+use Rattle.tz_info.proofs.{Prefixes.one_false, Words.{are_calm, arith, is_calm_kind, sym, ◌≡◌}}
 use Rattle.tz_info.proofs.rule.kinds.are_calm.Goals as goal
 
 pub returns-then-not-is_calm_kind : goal.returns-then-not-is_calm_kind

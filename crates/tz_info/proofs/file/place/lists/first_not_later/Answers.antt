@@ -1,4 +1,4 @@
-use Rattle.tz_info.proofs.{FilePlaceOnce.{next_later}, Words.{linear, pieces_of}}
+use Rattle.tz_info.proofs.{TzFileLaws.next_later, Words.{linear, pieces_of}}
 use Rattle.tz_info.proofs.file.place.lists.first_not_later.Goals as goal
 
 pub loop-k-preserved : goal.loop-k-preserved

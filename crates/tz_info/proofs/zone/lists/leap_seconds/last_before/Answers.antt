@@ -1,7 +1,4 @@
-use Rattle.{
-  std.proofs.lemmas.Int.clamps,
-  tz_info.proofs.Words.{arith, ints},
-}
+use Rattle.{std.proofs.lemmas.Int.clamps, tz_info.proofs.Words.{arith, ints}}
 use Rattle.tz_info.proofs.zone.lists.leap_seconds.last_before.Goals as goal
 
 pub returns : goal.returns

@@ -1,9 +1,9 @@
 use Rattle.tz_info.proofs.{
   Fits.fits,
-  LeapEntries.threshold_at,
-  LeapSearch.{last_with_leap_time, refused_more},
+  LeapOrder.threshold_at,
+  LeapStarts.{last_with_leap_time, refused_more},
   Prefixes.{any_leap, last_taken},
-  Words.{SFits, add-one, get_or, linear, mapped_at, rules, sym, w32},
+  Words.{SFits, add-one, get_or, linear, mapped_at, rules, w32},
 }
 use Rattle.tz_info.proofs.zone.lists.leap_seconds.last_with_leap_time.Goals as goal
 
@@ -15,7 +15,7 @@ loop-entry-preserved c =
     simp fits (record {
       refused = refused_more _ _ _ _ _ c.loop-entry.invariant.refused
           (λ u most. let last = c.last_before.ensures u most in grind (linear, fits, threshold_at, mapped_at)) (simp fits at c.min-last.ensures.value);
-      before = sym (rw add-one (last_taken (λ e. e.correction) _ _ _ any_leap c.loop-entry-test.true));
+      before = grind (linear, add-one, last_taken);
     })
 
 pub returns : goal.returns

@@ -1,4 +1,4 @@
-use Rattle.tz_info.proofs.{LeapSearch.AreRefusedAfter, LeapStarts.correction_after, Words.◌≡◌}
+use Rattle.tz_info.proofs.{LeapStarts.{AreRefusedAfter, correction_after}, Words.◌≡◌}
 use Rattle.tz_info.proofs.zone.lists.leap_seconds.last_with_leap_time.Given as goal
 
 abbrev pub invariant-loop-entry : goal.invariant-loop-entry

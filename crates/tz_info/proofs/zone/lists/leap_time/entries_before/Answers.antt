@@ -1,4 +1,4 @@
-use Rattle.tz_info.proofs.{LeapEntries.times_rise, Words.{IsPartitionPoint-from_clause, arith, int_lt, rules}}
+use Rattle.tz_info.proofs.{LeapOrder.times_rise, Words.{IsPartitionPoint-from_clause, arith, int_lt, rules}}
 use Rattle.tz_info.proofs.zone.lists.leap_time.entries_before.Goals as goal
 
 pub returns : goal.returns

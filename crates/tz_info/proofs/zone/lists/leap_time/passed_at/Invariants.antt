@@ -1,4 +1,4 @@
-use Rattle.tz_info.proofs.{LeapSearch.ArePassedBetween, Words.◌+◌}
+use Rattle.tz_info.proofs.{LeapStarts.ArePassedBetween, Words.◌+◌}
 use Rattle.tz_info.proofs.zone.lists.leap_time.passed_at.Given as goal
 
 abbrev pub invariant-loop-count : goal.invariant-loop-count

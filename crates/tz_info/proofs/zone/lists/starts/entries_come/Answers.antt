@@ -1,4 +1,4 @@
-use Rattle.tz_info.proofs.{LeapEntries.times_rise, Words.{IsPartitionPoint-from_clause, arith, int_le, rules}}
+use Rattle.tz_info.proofs.{LeapOrder.times_rise, Words.{IsPartitionPoint-from_clause, arith, int_le, rules}}
 use Rattle.tz_info.proofs.zone.lists.starts.entries_come.Goals as goal
 
 pub returns-then-not-have_come : goal.returns-then-not-have_come

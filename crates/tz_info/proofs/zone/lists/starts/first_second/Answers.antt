@@ -1,18 +1,13 @@
 use Rattle.tz_info.proofs.{
   Fits.fits,
-  LeapSearch.since_epoch,
-  LeapStarts.{reached_first, reached_later},
+  LeapStarts.{reached_first, reached_later, since_epoch},
   Prefixes.any_leap,
-  Words.{SFits, arith, get_or, linear, rules, to_z-of_z, w128, w64, ◌-ℤ◌, ◌-◌},
+  Words.{SFits, arith, get_or, linear, rules, w128, w64, ◌-ℤ◌, ◌-◌},
 }
 use Rattle.tz_info.proofs.zone.lists.starts.first_second.Goals as goal
 
 pub returns-then-come-eq0-clause-reached : goal.returns-then-come-eq0-clause-reached
-returns-then-come-eq0-clause-reached c = λ u y l.
-    let fx = c.ranges.leap_time in
-    let fw : SFits w128 c.args.leap_time = omega arith in
-    let no_entry = rw c.if-come-eq0.true at (simp to_z-of_z at c.entries_come-come.ensures) in
-    simp to_z-of_z (reached_first _ _ u y c.requires no_entry l)
+returns-then-come-eq0-clause-reached c = λ u y l. let r = reached_first _ c.args.leap_time u y c.requires in grind (linear, fits)
 
 pub returns : goal.returns
 returns c =

@@ -1,4 +1,4 @@
-use Rattle.tz_info.proofs.{TableSearch.StandUntil, Words.{IsTrue, map, ◌↔◌}}
+use Rattle.tz_info.proofs.{Prefixes.StandUntil, Words.{IsTrue, map, ◌↔◌}}
 use Rattle.tz_info.proofs.zone.lists.valid.are_transitions.Given as goal
 
 abbrev pub invariant-loop-place : goal.invariant-loop-place

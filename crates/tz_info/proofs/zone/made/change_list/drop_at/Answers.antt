@@ -1,5 +1,5 @@
 use Rattle.std.proofs.lemmas.Option.{slice_get_within}
-use Rattle.tz_info.proofs.Words.{arith, length, rules, slice_get-get_or, to_z-of_z, vec_len, ◌≡◌}
+use Rattle.tz_info.proofs.Words.{arith, slice_get-get_or, to_z-of_z}
 use Rattle.tz_info.specs.Steps.Entries.{one_there}
 use Rattle.tz_info.proofs.zone.made.change_list.drop_at.Goals as goal
 
@@ -8,5 +8,4 @@ returns-then-ends_at-clause-before c =
     let fs = c.ranges.second in
     let (t, is, at) = rw c.deref.ensures.value at (simp to_z-of_z at (c.ends_at.ensures.0 c.if-ends_at.true)) in
     let some = slice_get_within c.args.entries.now.items _ t is in
-    let n : vec_len c.args.entries.now ≡ length c.args.entries.now.items = search rules in
-    let v = rw n at (c.pop.ensures.value t (omega arith)) in one_there t (grind (arith, slice_get-get_or)) at
+    let v = c.pop.ensures.value t in one_there t (grind (arith, slice_get-get_or)) at

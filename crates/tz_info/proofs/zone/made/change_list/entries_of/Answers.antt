@@ -16,15 +16,7 @@ loop-place-preserved c =
     let at = rw (← c.index-lists-place.is) at (simp fits at c.at.ensures) in
     record {
       made = turned (zone_in c.args.lists) c.loop-place.entries.items c.drop_at.new.entries.items _ c.loop-place.place c.in-Some.start
-          c.index-lists-place.result (record {
-            valid = c.requires;
-            more = omega arith;
-            item = c.index-lists-place.is;
-            made = grind (linear, fits);
-            start = grind (linear, fits);
-            before = grind (linear, fits);
-            change = grind (linear, fits);
-          });
+          c.index-lists-place.result (grind (linear, fits));
       count = grind arith;
       room = grind arith;
     }

@@ -1,4 +1,4 @@
-use Rattle.tz_info.proofs.{WallPieces.merging_more, Words.{SFits, arith, linear, rules, to_z-of_z, w64, ⊎_elim}}
+use Rattle.tz_info.proofs.{WallPieces.merging_more, Words.{SFits, arith, linear, rules, to_z-of_z, w64}}
 use Rattle.tz_info.proofs.zone.made.pieces.merged.Goals as goal
 
 pub loop-step-preserved : goal.loop-step-preserved
@@ -8,5 +8,5 @@ loop-step-preserved c =
       merging = merging_more c.requires.first c.requires.last c.loop-step.invariant.merging c.next_start-start.ensures
           (grind (linear, fits))
           (rw (simp to_z-of_z at c.in_ok-piece.ensures) at c.in_ok-push.ensures.items);
-      step = ⊎_elim (λ s. omega arith) (λ s. omega arith) c.next_start-start.ensures;
+      step = let next = c.next_start-start.ensures in grind arith;
     }

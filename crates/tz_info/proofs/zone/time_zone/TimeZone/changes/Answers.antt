@@ -1,4 +1,4 @@
-use Rattle.tz_info.proofs.{ChangeLists.all_left, Fits.fits}
+use Rattle.tz_info.proofs.{ChangeLaws.all_left, Fits.fits}
 use Rattle.tz_info.proofs.zone.time_zone.TimeZone.changes.Goals as goal
 
 pub returns : goal.returns

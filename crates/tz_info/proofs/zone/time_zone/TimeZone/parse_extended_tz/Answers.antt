@@ -1,5 +1,4 @@
-use Rattle.tz_info.proofs.PosixLaws.{extended_fault, extended_law, extended_read, zone_memory}
-use Rattle.tz_info.proofs.{TextLaws.text_low, Words.{apart, arith, value_once}}
+use Rattle.tz_info.proofs.{PosixLaws.{extended_fault, extended_law, extended_read, text_low, zone_memory}, Words.{apart, arith, value_once}}
 use Rattle.tz_info.proofs.zone.time_zone.TimeZone.parse_extended_tz.Goals as goal
 
 pub returns-in_err-spelled-clause-only : goal.returns-in_err-spelled-clause-only

@@ -1,9 +1,9 @@
 use Rattle.tz_info.proofs.{
   Fits.fits,
+  Prefixes.Between,
   QuestionLaws.asked_for_window,
   SegmentLaws.{begin_next, between_passed, index_next},
-  TableSearch.Between,
-  WalkLaws.{none_before, none_after, rose_by_walk, tried_segment, walked_more},
+  WalkLaws.{none_after, none_before, rose_by_walk, tried_segment, walked_more},
   WallSegments.all_segments,
   Words.{IsShownIn, IsWallAnswer, IsWindow, SFits, ap, arith, digits-le, length, linear, map_of, rules, sym, w32, ◌+◌, ◌∙◌, ◌≡◌},
   zone.time_zone.TimeZone.walked_answer.Goals.{After-passed_count-first, After-try_until-answer},

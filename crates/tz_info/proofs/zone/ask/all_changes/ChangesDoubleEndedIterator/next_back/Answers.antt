@@ -1,4 +1,4 @@
-use Rattle.tz_info.proofs.{ChangeLists.{shorter, steps_last, steps_none}, Fits.fits, Words.linear}
+use Rattle.tz_info.proofs.{ChangeLaws.{shorter, steps_last, steps_none}, Fits.fits, Words.linear}
 use Rattle.tz_info.proofs.zone.ask.all_changes.ChangesDoubleEndedIterator.next_back.Goals as goal
 
 pub returns-clause-steps : goal.returns-clause-steps
