@@ -3,8 +3,8 @@ use Rattle.offset_core.specs.declared.local_result.LocalResult.TheVariants.{None
 use Rattle.tz_info.proofs.{
   AnswerLaws.same_answer,
   RuleLaws.rule_once,
-  Words.{Alternate as AlternateRule, AlternateAt, Contains, FitsSigned, IsAskedLast, IsWallAnswer, LocalResult, LocalType, RuleAt, Shows, Some},
-  Words.{TransitionRule, TypeFrom, arith, inl, inr, joined, linear, rule_offsets, w64, ℤ, ◌+ℤ◌, ◌-ℤ◌, ◌<ℤ◌, ◌≡◌, ◌≤ℤ◌, ◌⊎◌},
+  Words.{Alternate as AlternateRule, AlternateAt, Contains, FitsSigned, IsAskedLast, IsWallAnswer, LocalResult, LocalType, RuleAt, Shows, Some, TransitionRule},
+  Words.{TypeFrom, arith, inl, inr, joined, linear, rule_offsets, w64, ℤ, ◌+ℤ◌, ◌-ℤ◌, ◌<ℤ◌, ◌≡◌, ◌≤ℤ◌, ◌⊎◌},
 }
 use Rattle.tz_info.specs.declared.rule.transition_rule.TransitionRule.TheVariants.{Alternate}
 
@@ -36,7 +36,7 @@ module _ (a : AlternateRule) (t : LocalType) where
   std_or_dst _ l u s = grind (arith, shown_at)
 
   pub dst_or_std : (from l u : ℤ) → Shows (TypeFrom (Alternate a) from) l u t → (u ≡ l -ℤ a.dst.offset) ⊎ (u ≡ l -ℤ a.std.offset)
-  dst_or_std _ l u s = elim (std_or_dst _ l u s) [ inl e ↦ inr e | inr e ↦ inl e ]
+  dst_or_std from l u s = let o = std_or_dst from l u s in grind arith
 
 -- the offset of a rule's type is one of the rule's offsets
 pub offset_of_rule : (rule : TransitionRule) (u : ℤ) (t : LocalType) → RuleAt rule u t → Contains (rule_offsets (Some rule)) t.offset
@@ -45,10 +45,7 @@ offset_of_rule rule u t k = grind (linear, one_of_two)
 -- if both offsets are equal
 pub one_second : (a : AlternateRule) (from l : ℤ) → a.std.offset ≡ a.dst.offset → (u : ℤ) (t : LocalType)
     → Shows (TypeFrom (Alternate a) from) l u t → u ≡ l -ℤ a.std.offset
-one_second a from l same u t s = elim (std_or_dst a t _ l u s) [
-  | inl e ↦ e
-  | inr e ↦ omega linear
-]
+one_second a from l same u t s = let o = std_or_dst a t from l u s in grind linear
 
 -- the rule's type decides at a candidate
 pub asked_found : (rule : TransitionRule) (from l o : ℤ) (t : LocalType) (before : LocalResult LocalType) → FitsSigned w64 (l -ℤ o) → from ≤ℤ (l -ℤ o)

@@ -29,16 +29,7 @@ module _ (z : Zone) (local first last end : ℤ) (s : Span) (ends : AreEndsOfFol
   first_outside : IsSince s.from first → ⊥
   first_outside since =
       let is_first = ends.is_first in
-      let inside : IsInSpan s first = record {
-        fits = rw is_first at ends.several.at_first.fits;
-        since = since;
-        until = until_less _ _ end at.inside.until (omega linear);
-      } in
-      grind (
-        linear,
-        not_more z _ _ _ end _ ends back at.in_force_then,
-        same_offset z _ _ _ (rw is_first at ends.several.at_first.type) (at.span.each first inside),
-      )
+      grind (linear, not_more z _ _ _ end _ ends back at.in_force_then, same_offset, until_less s.until first end)
 
   -- so the span of `end` begins after it
   pub begins : s.from ≡ None → ⊥
@@ -70,12 +61,7 @@ module _ (z : Zone) (local first last end from : ℤ) (s : Span) (before : Local
         last_type = ends.last_type;
         several = ends.several;
         not_later = omega linear;
-        here = at.span.each from (record {
-          fits = omega linear;
-          since = rw is (omega linear);
-          until = by_lt_z from end (λ l. until_less _ _ end at.inside.until (omega linear))
-              (λ m. let same : end ≡ from = omega linear in rw same at at.inside.until);
-        });
+        here = at.span.each from (record { fits = omega linear; since = rw is (omega linear); until = until_less _ _ end at.inside.until (omega linear) });
         earlier = earlier;
         reached = reached;
         less = λ u t since until. less_from z _ _ _ end s ends back at _ near_first near_last is u t since (omega linear);

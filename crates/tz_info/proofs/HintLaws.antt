@@ -3,9 +3,9 @@ use Rattle.std.proofs.{Common.◌↔◌, lemmas.Nat.le-div}
 use Rattle.tz_info.proofs.{
   SearchSteps.not_before,
   SearchWords.{AreEnds, AreHints, AreMarked, AreNonDecreasing, AreOrdered, AreRaised, AreRaisedUntil, AreStepsUntil, Ends, Hints, IsHinted, IsNarrowedTo, List},
-  SearchWords.{Near, RiseFromZero, arith, cases_eq, div-lt_iff_lt-mul, div-mul-le_self, get_or-set_at, get_or-set_other, inl, inr, item_time, length},
-  SearchWords.{length-set, linear, nat_abs, nat_cmp, ord_max, pos, pow_pos, set, slice_index, stretch_of, suc, ℕ, ℤ, ◌*◌, ◌+ℤ◌, ◌+◌, ◌-ℤ◌, ◌-◌, ◌/◌, ◌<ℤ◌, ◌<◌},
-  SearchWords.{◌^◌, ◌≡◌, ◌≢◌, ◌≤ℤ◌, ◌≤◌, ◌⊎◌},
+  SearchWords.{Near, RiseFromZero, arith, cases_eq, div-lt_iff_lt-mul, div-mul-le_self, get_or-set_at, get_or-set_other, item_time, length, length-set, linear},
+  SearchWords.{nat_abs, nat_cmp, ord_max, pos, pow_pos, set, slice_index, stretch_of, suc, ℕ, ℤ, ◌*◌, ◌+ℤ◌, ◌+◌, ◌-ℤ◌, ◌-◌, ◌/◌, ◌<ℤ◌, ◌<◌, ◌^◌, ◌≡◌, ◌≢◌},
+  SearchWords.{◌≤ℤ◌, ◌≤◌, ◌⊎◌},
 }
 
 -- the latest item is one of those of the hint
@@ -50,19 +50,10 @@ pub raising_more : (before after : List ℕ) (greatest n here : ℕ) → Raising
     → Raising before (set after n here) here (n + 1)
 raising_more before after greatest n here r h rise is_here =
     let last = r.raised.some (n - 1) in
-    let long = length-set after n here in
     let at : (b : ℕ) → b ≡ n → slice_index (set after n here) b ≡ here = grind (linear, get_or-set_at) in
     let other : (b : ℕ) → b ≢ n → slice_index (set after n here) b ≡ slice_index after b = grind (linear, get_or-set_other) in
-    record {
-      raised = record {
-        count = omega arith;
-        above = grind arith;
-        some = λ b l. let this = r.raised.some b in elim (cases_eq b n) [ inl same ↦ grind linear | inr differs ↦ grind linear ];
-      };
-      rest = grind linear;
-      up_to = grind arith;
-      is = grind arith;
-    }
+    let some : (b : ℕ) → b < n + 1 → (j : ℕ) × (j ≤ b) × (slice_index (set after n here) b ≡ slice_index before j) =
+    λ b l. let this = r.raised.some b in grind (linear, cases_eq b n) in grind (arith, length-set)
 
 -- a later time has no earlier stretch
 stretch_rise : (first x y : ℤ) (shift : ℕ) → first ≤ℤ x → x ≤ℤ y → stretch_of first x shift ≤ stretch_of first y shift

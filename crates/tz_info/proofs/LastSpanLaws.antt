@@ -50,9 +50,7 @@ module _ (z : Zone) (last : LastSpan) (e : Extremes) (extremes : AreExtremes (of
   last_spans local_after begin = record {
     each = each;
     none = none;
-    begins = λ u is l. nearest_moved false _ (TypeAt z) _ (λ v. v ≤ℤ u) _
-        (λ d c k. grind (linear, by_lt_z))
-        (λ d c k. (c, by_lt_z u d.at (λ m. absurd (none u is l d c m)) (λ m. m))) begin;
+    begins = λ u is l. nearest_moved false _ (TypeAt z) _ (λ v. v ≤ℤ u) _ (grind linear) (grind (linear, none u is l)) begin;
     shown = λ local wide later.
         let near = (saturated (last.after +ℤ e.greatest) (local -ℤ pos 1) (omega linear)).0 (omega linear) in grind (linear, shown_once);
   }

@@ -9,7 +9,6 @@ pub mod Fits
 pub mod RuleDays
 pub mod Neighbours
 pub mod RuleLaws
-pub mod RuleTurns
 pub mod KindLaws
 pub mod YearKeys
 pub mod SeasonLaws
@@ -22,7 +21,6 @@ pub mod Prefixes
 pub mod LeapEntries
 pub mod LeapOrder
 pub mod TableSearch
-pub mod PassedTransitions
 pub mod ListFaults
 pub mod ZoneLaws
 pub mod TextLaws
@@ -37,10 +35,8 @@ pub mod LeapSearch
 pub mod WallPieces
 pub mod WallSegments
 pub mod ExtremeLaws
-pub mod LastType
 pub mod WalkLaws
 pub mod QuestionLaws
-pub mod SeasonAnswers
 pub mod GapLaws
 pub mod ZoneChanges
 pub mod OffsetChanges
@@ -48,11 +44,9 @@ pub mod SpanLaws
 pub mod TypedLaws
 pub mod LastSpanLaws
 pub mod FoldLaws
-pub mod SpanSearch
 pub mod RunLaws
 pub mod ShownSecondLaws
 pub mod RuleReached
-pub mod RuleSegments
 pub mod ReachedLaws
 pub mod DifferenceLaws
 pub mod PosixZoneLaws
@@ -63,7 +57,6 @@ pub mod TrimLaws
 pub mod TypeLaws
 pub mod FooterLaws
 pub mod TzFileLaws
-pub mod WallTimes
 pub mod EntryLaws
 pub mod EntryChanges
 pub mod TableLaws

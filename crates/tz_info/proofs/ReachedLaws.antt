@@ -1,20 +1,21 @@
 -- The last local time that clocks have shown up to a second: that of the segment that it lies in, or of the segments before.
 use Rattle.tz_info.proofs.{
-  EntryChanges.{index_below},
+  EntryChanges.index_below,
   ExtremeLaws.{at_most_greatest, listed_at_most},
-  LeapStarts.{saturated},
+  LeapStarts.saturated,
   SegmentEndLaws.{begun_by, come_by, end_at, shows_less},
-  SegmentLaws.{come_from, place_before, place_begin, places_rise},
-  TableLaws.{table_of, top_least},
-  WallSegments.{type_there},
-  Words.{HasType, IsFirstAtOrAfter, IsGreatest, IsNear, IsUtOffset, IsValid, IsWide, LocalType, SFits, Shows, TypeAt, Zone, ap, arith, begin_of},
-  Words.{by_lt_z, cases_lt, index_of, inl, inr, length, linear, offsets, place_at, pos, refl, suc, top_of, w32, w64, zero, ℕ, ℤ, ◌+ℤ◌},
-  Words.{◌-ℤ◌, ◌<ℤ◌, ◌<◌, ◌↔◌, ◌≡◌, ◌≤ℤ◌, ◌≤◌},
-  ZoneLaws.{inside_listed},
+  SegmentLaws.{come_from, place_before, place_begin, places_rise, segment_at, segment_most, type_from, type_in_from},
+  TableLaws.{same_table, table_of, top_least},
+  WallSegments.{leap_time_of, near_wide, type_there},
+  Words.{HasType, IsFirstAtOrAfter, IsGreatest, IsLeapTime, IsNear, IsUtOffset, IsValid, IsWide, LocalType, RuleAt, SFits, Shows, Some, TransitionRule, TypeAt},
+  Words.{Zone, arith, begin_of, by_lt_z, cases_lt, index_of, length, linear, offsets, place_at, pos, refl, segment_of, suc, top_of, w32, w64, zero, ℕ, ℤ},
+  Words.{⊎_elim, ◌+ℤ◌, ◌-ℤ◌, ◌<ℤ◌, ◌<◌, ◌↔◌, ◌≡◌, ◌≤ℤ◌, ◌≤◌},
+  ZoneChanges.time_of,
+  ZoneLaws.inside_listed,
 }
 use Rattle.tz_info.specs.{
   ShownSeconds.{IsLastReached},
-  Steps.{Entries.{AreEntries, Entries}, SegmentEnds.{IsLatestEnd, IsReached, end_of}, Since.{IsReachedSince}},
+  Steps.{Entries.{AreEntries, Entries}, SegmentEnds.{IsFirstSegment, IsLatestEnd, IsReached, end_of}, Since.{IsFirstSince, IsReachedSince}},
 }
 
 -- ---- the segment of the table in which the second lies
@@ -24,21 +25,17 @@ module _ (z : Zone) (e : Entries) (k : ℕ) (t : ℤ) (valid : IsValid z) (made 
       → l ≡ t +ℤ s.offset → IsReachedSince (TypeAt z) (begin_of e.items k) t l
   reached_in l s place own has offset is =
       let table = table_of z e valid made in
-      let within : k ≤ length e.items = omega arith in
       let fits : SFits w64 t = omega linear in
-      let near : IsNear t = (omega linear, omega linear) in
       record {
         at = t;
         local_type = s;
-        near = near;
-        from = begun_by _ k t made.rising within (omega arith) fits;
+        near = (omega linear, omega linear);
+        from = begun_by _ k t made.rising (omega arith) (omega arith) fits;
         not_after = omega linear;
         shown = grind linear;
         last = λ m u r from come shows.
-            let low = come_by _ k u made.rising within from in
-            let high = places_rise _ u t made.rising come in
-            let same = type_there z _ _ k u r s table own shows.fits has (omega arith) shows.type in
-            let o = ap (λ x. x.offset) same in omega linear;
+            let low = come_by _ k u made.rising (omega arith) from in let high = places_rise _ u t made.rising come in
+            let same = type_there z _ _ k u r s table own shows.fits has (omega arith) shows.type in grind linear;
         least = omega linear;
       }
 
@@ -49,18 +46,17 @@ module _ (z : Zone) (e : Entries) (k : ℕ) (t : ℤ) (valid : IsValid z) (made 
     -- no clock shows a later local time than one that is not before that of the segment, nor before the last one of those before it
     none_later : (l m u : ℤ) (s : LocalType) → reached ≤ℤ l → end ≤ℤ (l +ℤ pos 1) → u ≤ℤ t → Shows (TypeAt z) m u s → m ≤ℤ l
     none_later l m u s low high come shows = by_lt_z l m
-        (λ more. elim (cases_lt (place_at _ u) k) [
-          | inl before ↦
-              let top = top_least z.rule e made.more in
-              let most = at_most_greatest z u g s greatest shows.type in
-              let near : IsNear m = (omega linear, omega linear) in
-              let fits : SFits w64 m = omega linear in
-              let none : IsReached _ e.items k m → ⊥ = λ r. let less = (latest m fits).1 r in omega linear in
-              let less = shows_less z e.items _ k m u s (table_of z e valid made) within near none shows.fits before (omega arith) shows.type in
-              omega linear
-          | inr not ↦
-              let most = since.last m u s (begun_by _ k u made.rising within (omega arith) shows.fits) come shows in omega linear
-        ])
+        (λ more. ⊎_elim
+        (λ before.
+        let top = top_least z.rule e made.more in
+        let most = at_most_greatest z u g s greatest shows.type in
+        let near : IsNear m = (omega linear, omega linear) in
+        let fits : SFits w64 m = omega linear in
+        let none : IsReached _ e.items k m → ⊥ = λ r. let less = (latest m fits).1 r in omega linear in
+        let less = shows_less z e.items _ k m u s (table_of z e valid made) within near none shows.fits before (omega arith) shows.type in
+        omega linear)
+        (λ not. let most = since.last m u s (begun_by _ k u made.rising within (omega arith) shows.fits) come shows in omega linear)
+        (cases_lt (place_at _ u) k))
         (λ not. not)
 
     -- the last second of the segment whose end is the latest shows the local time before that end
@@ -74,18 +70,15 @@ module _ (z : Zone) (e : Entries) (k : ℕ) (t : ℤ) (valid : IsValid z) (made 
         let order = (come_from e.items (suc j) (begin_of e.items k) made.rising some (omega arith)).0
         (let all = place_begin _ k made.rising (omega arith) within in omega arith) in
         let next : ℤ = begin_of e.items (suc j) in
-        let limit : IsNear (t +ℤ pos 2_147_483_648) = (omega linear, omega linear) in
-        let ahead = (saturated (next +ℤ s.offset) _ limit).1 (omega linear) in
+        let ahead = (saturated (next +ℤ s.offset) (t +ℤ pos 2_147_483_648) (omega linear, omega linear)).1 (omega linear) in
         let ends = rw (end_at _ _ j s has) at later in
-        let near : IsNear (end -ℤ pos 1) = (omega linear, omega linear) in
         let past : (end -ℤ pos 1) <ℤ (next +ℤ s.offset) = by_lt_z (end -ℤ pos 1) (next +ℤ s.offset) (λ m. m)
-        (λ m. let back = (saturated _ _ near).1 m in omega linear) in
-        let near_at : IsNear (next -ℤ pos 1) = (omega linear, omega linear) in
+        (λ m. let back = (saturated _ (end -ℤ pos 1) (omega linear, omega linear)).1 m in omega linear) in
         let fits : SFits w64 (next -ℤ pos 1) = omega linear in
         let place = place_before e.items j made.rising (omega arith) in
         let top = top_least z.rule e made.more in
         let last = none_later (end -ℤ pos 1) in
-        let type = (table_of z e valid made).in_force (next -ℤ pos 1) s near_at (omega arith) (rw place has) in
+        let type = (table_of z e valid made).in_force (next -ℤ pos 1) s (omega linear, omega linear) (omega arith) (rw place has) in
         let most = last _ (next -ℤ pos 1) s (omega linear) (omega linear) (omega linear) (record { fits = fits; type = type; shown = refl }) in
         record {
           at = next -ℤ pos 1;
@@ -120,11 +113,49 @@ one_reached z t l m h k =
     let up = reached_rises z t t l m (omega linear) h k in let down = reached_rises z t t m l (omega linear) k h in omega linear
 
 pub adjoint : (z : Zone) (local u t m : ℤ) (s : LocalType) → IsFirstAtOrAfter (TypeAt z) local u s → IsLastReached (TypeAt z) t m → (u ≤ℤ t) ↔ (local ≤ℤ m)
-adjoint z _ u t m s first h = (
-  λ come.
-      let most = h.last (u +ℤ s.offset) u s come (grind linear) in
-      omega linear,
-  λ less.
-      let least = first.first h.at h.local_type (grind linear) in
-      omega linear,
+adjoint z local u t m s first h = (
+  λ come. let most = h.last (u +ℤ s.offset) u s come (grind linear) in omega linear,
+  λ less. let least = first.first h.at h.local_type (grind linear) in omega linear,
 )
+
+-- ---- the segment whose types the rule gives: from the last transition on
+module _ (z : Zone) (e : Entries) (rule : TransitionRule) (k : ℕ) (valid : IsValid z) (made : AreEntries z e) (is : z.rule ≡ Some rule)
+    (within : k ≤ length e.items) (beyond : top_of z.rule e ≤ k) where
+  -- at its seconds all transitions have come
+  all_come : (u : ℤ) → begin_of e.items k ≤ℤ u → SFits w64 u → (0 < length z.transitions → (x : ℤ) × IsLeapTime z.leaps u x)
+      → segment_of z u ≡ length z.transitions
+  all_come u from fits time =
+      let same = same_table z e valid made u fits time in
+      grind (arith, come_by, segment_most)
+
+  to_rule : (u : ℤ) (t : LocalType) → begin_of e.items k ≤ℤ u → SFits w64 u → TypeAt z u t → RuleAt rule u t
+  to_rule u t from fits here =
+      rw is at (type_from z u t valid.transitions.rising (record { type = here; segment = all_come u from fits (grind (arith, time_of)) }))
+
+  from_rule : (u : ℤ) (t : LocalType) → begin_of e.items k ≤ℤ u → IsNear u → RuleAt rule u t → TypeAt z u t
+  from_rule u t from near here =
+      let (x, l) = leap_time_of z u valid near in
+      (type_in_from z u x t l (rw (← l.sum) at (segment_at z u _ valid.transitions.rising (all_come u from (omega linear) (λ _. (x, l))))) (rw is here)).type
+
+  -- what the rule's clocks show there the zone's clocks do
+  pub reached_by_rule : (t l : ℤ) → IsReachedSince (RuleAt rule) (begin_of e.items k) t l → IsReachedSince (TypeAt z) (begin_of e.items k) t l
+  reached_by_rule t l h = record {
+    at = h.at;
+    local_type = h.local_type;
+    near = h.near;
+    from = h.from;
+    not_after = h.not_after;
+    shown = grind (linear, from_rule);
+    last = λ m u s from come shows. h.last m u s from come (grind (linear, to_rule));
+    least = h.least;
+  }
+
+  pub first_by_rule : (l u : ℤ) (t : LocalType) → IsWide l → IsFirstSegment z.types e.items l k → IsFirstSince (RuleAt rule) (begin_of e.items k) l u t
+      → IsFirstAtOrAfter (TypeAt z) l u t
+  first_by_rule l u t wide first h =
+      record {
+        shown = grind (linear, from_rule);
+        first = λ v s shows. ⊎_elim
+            (λ before. grind (linear, shows_less z e.items _ k l v s (table_of z e valid made) within (near_wide l wide) first.before shows.fits before))
+            (λ not. grind (linear, begun_by, to_rule)) (cases_lt (place_at e.items v) k);
+      }

@@ -3,7 +3,7 @@ use Rattle.std.specs.Prelude.{⊤}
 use Rattle.tz_info.proofs.{
   GapLaws.{IsNever, gap_found},
   RuleLaws.alternate_once,
-  SeasonAnswers.{amid, greater},
+  SeasonLaws.{amid, greater},
   WallSegments.{not_begun, rule_begun},
   Words.{Alternate as AlternateRule, AlternateAt, AreLess, Bool, Change, HasGap, IsAlternateRule, IsDecidedIn, IsNear, IsNeverFrom, IsRuleGap, IsSeason},
   Words.{IsSeasonFor, IsSeasonIn, IsSeasonOf, IsStart, IsTableLess, IsValid, IsWide, IsWindowOf, LocalType, MatchOption, None, Option, Season, Some},

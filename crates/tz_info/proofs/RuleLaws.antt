@@ -1,10 +1,10 @@
 -- A rule has one type at a second, or is refused there, and never both.
 use Rattle.tz_info.proofs.{
   Neighbours.{dst_by_three, ends_near, starts_near},
-  Words.{Agrees, Alternate as AlternateRule, AlternateAt, Bool, IsAlternateRefused, IsDstAt, IsRule, IsRuleRefused, IsRuleTime, IsRuleYear, IsTrue},
-  Words.{IsUnixTime, IsUnixTimeRefused, IsYearOf, LeapSecond, LiesIn, List, Some, Transition, slice_get, ◌↔◌},
-  Words.{LocalType, MatchOption, RuleAt, TransitionRule, arith, end_in, floor_div, floors, lies_in, linear, neg_ℤ, one_year, pos, refl, rule_type, start_in},
-  Words.{starts_rise, type_when, year_of, year_start, ℤ, ◌+ℤ◌, ◌≡◌, ◌⊎◌},
+  Words.{Agrees, Alternate as AlternateRule, AlternateAt, Bool, IsAlternateRefused, IsDstAt, IsRule, IsRuleRefused, IsRuleTime, IsRuleYear, IsTrue, IsUnixTime},
+  Words.{IsUnixTimeRefused, IsYearOf, LeapSecond, LiesIn, List, LocalType, MatchOption, RuleAt, Some, Transition, TransitionRule, arith, end_in, floor_div},
+  Words.{floors, lies_in, linear, neg_ℤ, one_year, pos, refl, rule_type, slice_get, start_in, starts_rise, type_when, year_of, year_start, ℤ, ◌+ℤ◌, ◌↔◌, ◌≡◌},
+  Words.◌⊎◌,
 }
 use Rattle.tz_info.specs.declared.rule.transition_rule.TransitionRule.TheVariants.{Alternate, Fixed}
 
@@ -45,9 +45,7 @@ rule_time u year of_second inside =
 
 pub rule_year : (u year : ℤ) → IsYearOf u year → IsRuleTime u → IsRuleYear year
 rule_year u year of_second within =
-    let low = starts_rise (year +ℤ pos 1) (neg_ℤ (pos 2_147_483_646)) in
-    let high = starts_rise (pos 2_147_483_646) year in
-    grind (arith, floors, bounds)
+    grind (arith, floors, bounds, starts_rise (year +ℤ pos 1) (neg_ℤ (pos 2_147_483_646)), starts_rise (pos 2_147_483_646) year)
 
 -- outside of them an alternate rule is refused
 pub refused_outside : (u : ℤ) → (IsRuleTime u → ⊥) → IsAlternateRefused u

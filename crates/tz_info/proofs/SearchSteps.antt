@@ -44,14 +44,8 @@ module _ (times : List ℤ) (v : ℤ) where
   -- a look at one that has come
   pub left_later : (first middle high : ℕ) → IsLeft times v first high → middle < high → item_time times middle ≤ℤ v
       → IsLeft times v (middle + 1) high
-  left_later _ middle _ left h le = record {
-    ordered = left.ordered;
-    rising = omega arith;
-    within = left.within;
-    fits = left.fits;
-    before = λ k l. grind (linear, not_before times k middle);
-    after = left.after;
-  }
+  left_later first middle high left h le =
+      let before : (k : ℕ) → k < middle + 1 → item_time times k ≤ℤ v = λ k l. grind (linear, not_before times k middle) in grind linear
 
   -- and at one that has not
   pub left_earlier : (first middle high : ℕ) → IsLeft times v first high → first ≤ middle → middle < high

@@ -3,8 +3,8 @@ use Rattle.std.specs.Prelude.{if◌then◌else◌}
 use Rattle.tz_info.proofs.{
   ExtremeLaws.{at_least_least, at_most_greatest},
   Words.{AreEndsWithin, AreShownWithin, AreWithin, Bool, HaveOneTypeFrom, IsEndWithin, IsFirstAtOrAfter, IsGreatest, IsLeast, IsNeverWithin, IsNextRun},
-  Words.{IsWindowOf, IsWithinRun, LocalType, Option, Precedes, SFits, ShownSeconds, ShowsWithin, TypeAt, Zone, arith, linear, offsets, pos},
-  Words.{subst, unsigned_abs, w64, ℤ, ◌+ℤ◌, ◌-ℤ◌, ◌<ℤ◌, ◌<◌, ◌≡◌, ◌≤ℤ◌},
+  Words.{IsWindowOf, IsWithinRun, LocalType, Option, Precedes, SFits, ShownSeconds, ShowsWithin, TypeAt, Zone, arith, linear, offsets, pos, subst},
+  Words.{unsigned_abs, w64, ℤ, ◌+ℤ◌, ◌-ℤ◌, ◌<ℤ◌, ◌<◌, ◌≡◌, ◌≤ℤ◌},
   ZoneLaws.type_once,
 }
 
@@ -62,13 +62,11 @@ ordinary z from until _ _ t s fits fits_last g l all h =
     let last = by_type _ _ h.last.shown in
     let most = at_most_greatest z _ _ t g first.type in let fewest = at_least_least z _ _ t l first.type in
     let since = first.since in let before = last.before in
-    let low = h.first.first (from -ℤ t.offset) t
-    (record { fits = fits; type = all _ (omega linear) (omega linear); since = omega linear; before = omega linear }) in
-    let high = h.last.last ((until -ℤ t.offset) -ℤ pos 1) t
-    (record { fits = fits_last; type = all _ (omega linear) (omega linear); since = omega linear; before = omega linear }) in
+    let a = all (from -ℤ t.offset) (omega linear) (omega linear) in let b = all ((until -ℤ t.offset) -ℤ pos 1) (omega linear) (omega linear) in
+    let low = h.first.first (from -ℤ t.offset) t (grind linear) in
+    let high = h.last.last ((until -ℤ t.offset) -ℤ pos 1) t (grind linear) in
     (omega linear, omega linear)
   where
-    -- a second that shows a local time of the stretch does so by that type
     by_type : (u : ℤ) (s : LocalType) → ShowsWithin (TypeAt z) from until u s → ShowsWithin (TypeAt z) from until u t
     by_type u s h =
         let most = at_most_greatest z u _ s g h.type in let fewest = at_least_least z u _ s l h.type in
@@ -77,7 +75,3 @@ ordinary z from until _ _ t s fits fits_last g l all h =
 -- ---- laws of the first second at or after a local time
 pub one_first : (z : Zone) (local u v : ℤ) (s t : LocalType) → IsFirstAtOrAfter (TypeAt z) local u s → IsFirstAtOrAfter (TypeAt z) local v t → (u ≡ v) × (s ≡ t)
 one_first z local u v s t h k = grind (linear, one_end)
-
-pub first_rises : (z : Zone) (local later u v : ℤ) (s t : LocalType) → local ≤ℤ later → IsFirstAtOrAfter (TypeAt z) local u s
-    → IsFirstAtOrAfter (TypeAt z) later v t → u ≤ℤ v
-first_rises z l m u v s t rise h k = grind linear

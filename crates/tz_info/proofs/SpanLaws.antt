@@ -1,18 +1,18 @@
 -- Spans: at each second between two that have a type there is one, and from the last change to the next one it is the same.
 use Rattle.tz_info.proofs.{
-  ChangeSearch.{Typed, stays},
-  LastType.last_is,
+  ChangeSearch.{Typed, nearest_moved, stays},
   LeapEntries.{before_found, follow},
   LeapOrder.none_counted,
   RuleChanges.rule_second,
   RuleLaws.rule_year,
+  SecondTypes.last_is,
   SegmentLaws.{come_at_time, come_by_time, segment_most, segments_rise},
-  Words.{Alternate as AlternateRule, AreLeapSeconds, Change, HasNoChange, IfSome, IsAlternateRefused, IsBeginBy, IsChange, IsEndBy, IsFirst, IsFromLast},
-  Words.{IsInSpan, IsLast, IsLeapTime, IsOutOfForce, IsRefusedBy, IsRuleOrNone, IsRuleTime, IsSince, IsSpan, IsSpanAt, IsTypeRefused, IsTyped, IsUnixTime},
-  Words.{IsUntil, IsValid, LeapSecond, List, LocalType, None, Option, SFits, Some, Span, TransitionRule, TypeAt, Zone, ap, arith, by_leap_time},
-  Words.{by_lt_z, by_rule, cases_lt, correction_before, floor_div, inl, inr, length, lies_in, linear, neg_ℤ, option_map, pos, refl},
-  Words.{segment_of, sym, w64, ℤ, ◌-ℤ◌, ◌-◌, ◌<ℤ◌, ◌<◌, ◌∙◌, ◌≡◌, ◌≤ℤ◌, ◌⊎◌},
-  ZoneChanges.{out_before, out_from, refused_on, time_of, to_rule},
+  Words.{Alternate as AlternateRule, AlternateAt, AreLeapSeconds, Change, HasNoChange, IfSome, IsAhead, IsAlternateRefused, IsBegin, IsBeginBy, IsChange},
+  Words.{IsEndBy, IsFirst, IsFromLast, IsInSpan, IsLast, IsLeapTime, IsOutOfForce, IsRefusedBy, IsRuleOrNone, IsRuleTime, IsSecondOfNearest, IsSince, IsSpan},
+  Words.{IsSpanAt, IsTypeRefused, IsTyped, IsUnixTime, IsUntil, IsValid, LeapSecond, List, LocalType, None, Option, SFits, Some, Span, TransitionRule, TypeAt},
+  Words.{Zone, arith, by_leap_time, by_lt_z, by_rule, cases_lt, correction_before, false, floor_div, length, lies_in, linear, neg_ℤ, option_map, pos, refl},
+  Words.{segment_of, sym, true, w64, ℤ, ⊎_elim, ◌-ℤ◌, ◌-◌, ◌<ℤ◌, ◌<◌, ◌∙◌, ◌≡◌, ◌≤ℤ◌, ◌⊎◌},
+  ZoneChanges.{begins, farther_first, from_rule, nearer_first, out_before, out_from, refused_on, rule_found, time_of, to_rule},
   ZoneLaws.{inside_listed, type_decided, type_once},
 }
 use Rattle.tz_info.specs.declared.rule.transition_rule.TransitionRule.TheVariants.{Alternate}
@@ -39,33 +39,23 @@ module _ (z : Zone) (a : AlternateRule) (v : ℤ) (valid : IsValid z) (rule : z.
       let within : IsRuleTime agrees.unix_time = rule_second a _ _ agrees.of_rule in
       let count = come_at_time z v y l in
       let come = (come_by_time _ y (length z.transitions - 1) last.0 valid.transitions.rising (omega arith)).0 (omega arith) in
-      let is = last_is z.transitions last.0 last.1 in
-      let time : last.0.unix_leap_time ≤ℤ y = rw is at come in
+      let time : last.0.unix_leap_time ≤ℤ y = rw (last_is z.transitions last.0 last.1) at come in
       let same = early z.leaps v y valid.leaps (omega linear) l in
       let unix = early_unix _ _ _ valid.leaps (omega linear) agrees.of_transition in
       omega linear
 
   not_before_second : (u y : ℤ) (t : LocalType) → (0 < length z.transitions → IsLeapTime z.leaps v y) → u ≤ℤ v → TypeAt z u t
       → v <ℤ neg_ℤ (pos 67_768_100_504_812_800) → ⊥
-  not_before_second u y t l h k low = elim (cases_lt 0 _) [
-    | inl some ↦ not_before y some (l some) low
-    | inr none ↦
-        let m = segment_most z u valid.transitions.rising in
-        let within = rule_second a u t (to_rule z a u t rule valid (omega arith) k) in grind arith
-  ]
+  not_before_second u y t l h k low =
+      let m = segment_most z u valid.transitions.rising in
+      grind (linear, cases_lt 0 (length z.transitions), not_before y, rule_second a u t, to_rule z a u t rule valid)
 
   not_after_second : (u : ℤ) (t : LocalType) → v ≤ℤ u → TypeAt z u t → pos 67_767_976_170_460_799 <ℤ v → ⊥
   not_after_second u t h k high =
-      let m = segment_most z u valid.transitions.rising in
-      let within = rule_second a u t (grind (linear, to_rule, segments_rise)) in grind (arith, segments_rise)
+      let m = segment_most z u valid.transitions.rising in grind (linear, rule_second a u t, to_rule z a u t rule valid, segments_rise)
 
 pub out_of_years : (u : ℤ) → IsAlternateRefused u → (u <ℤ neg_ℤ (pos 67_768_100_504_812_800)) ⊎ (pos 67_767_976_170_460_799 <ℤ u)
-out_of_years u refused = by_lt_z u _
-    (λ low. inl low)
-    (λ from. by_lt_z (pos 67_767_976_170_460_799) u
-    (λ high. inr high)
-    (λ until. let lies = lies_in (floor_div u 86_400) in
-    grind (linear, rule_year)))
+out_of_years u refused = let lies = lies_in (floor_div u 86_400) in grind (linear, rule_year)
 
 -- all transitions have come by the leap time of the second
 pub all_come : (z : Zone) (v x : ℤ) → IsValid z → (0 < length z.transitions → IsLeapTime z.leaps v x) → IsFromLast z x → segment_of z v ≡ length z.transitions
@@ -77,17 +67,11 @@ module _ (z : Zone) (a b v : ℤ) (s t : LocalType) (valid : IsValid z) (low : a
       → IsRefusedBy rule v → ⊥
   rule_between (Some (Alternate r)) x is l last refused =
       let all = all_come z v x valid l last in
-      elim (out_of_years v refused) [
-        | inl early ↦ not_before_second z r v valid is all a x s l low h early
-        | inr late ↦ not_after_second z r v valid is all b t high k late
-      ]
+      ⊎_elim (not_before_second z r v valid is all a x s l low h) (not_after_second z r v valid is all b t high k) (out_of_years v refused)
   rule_between _ x is l last refused = refused
 
   pub typed_between : IsRuleOrNone z.rule → Typed (TypeAt z) v
-  typed_between limits = elim (type_decided z v valid limits) [
-    | inl found ↦ found
-    | inr refused ↦ absurd (between refused)
-  ] where
+  typed_between limits = ⊎_elim (λ found. found) (λ refused. absurd (between refused)) (type_decided z v valid limits) where
     between : IsTypeRefused z v → ⊥
     between (by_leap_time some r) = refused_on _ v b _ valid.leaps high r (time_of z b t some k)
     between (by_rule x of_second last r) = rule_between _ x refl of_second last r
@@ -191,19 +175,31 @@ same_begin (Some x) (Some y) h k = let a = h x refl in let b = k y refl in grind
 same_end : (p q : Option ℤ) → ((x : ℤ) → p ≡ Some x → IsUntil q x → ⊥) → ((x : ℤ) → q ≡ Some x → IsUntil p x → ⊥) → p ≡ q
 same_end None q h k = grind linear
 same_end (Some x) None h k = grind linear
-same_end (Some x) (Some y) h k = ap Some (by_lt_z x y (grind linear) (λ m. by_lt_z y x (λ l. grind linear) (λ n. omega linear)))
+same_end (Some x) (Some y) h k = let a = h x refl in let b = k y refl in grind linear
 
 pub span_once : (z : Zone) (a b : Span) (u : ℤ) → IsSpan (TypeAt z) a → IsSpan (TypeAt z) b → IsInSpan a u → IsInSpan b u → a ≡ b
 span_once z a b u h k i j =
     let same = type_once z u _ _ (h.each u i) (k.each u j) in
-    let from = same_begin a.from b.from (λ x is since. grind linear) (λ x is since. grind linear) in
-    let until = same_end a.until b.until (λ x is until. grind linear) (λ x is until. grind linear) in grind linear
+    let from = same_begin a.from b.from (λ x is. grind linear) (λ x is. grind linear) in
+    let until = same_end a.until b.until (λ x is. grind linear) (λ x is. grind linear) in grind linear
 
--- ---- at an end of a span clocks change, if the zone has a type beyond it
-pub begin_changes : (z : Zone) (s : Span) (u : ℤ) (t : LocalType) → IsSpan (TypeAt z) s → s.from ≡ Some u → TypeAt z (u -ℤ pos 1) t
-    → IsChange (TypeAt z) (record { at = u; before = t; after = s.local_time_type })
-begin_changes z s u t h is before = grind linear
-
-pub end_changes : (z : Zone) (s : Span) (u : ℤ) (t : LocalType) → IsSpan (TypeAt z) s → s.until ≡ Some u → TypeAt z u t
-    → IsChange (TypeAt z) (record { at = u; before = s.local_time_type; after = t })
-end_changes z s u t h is after = grind linear
+-- ---- by a rule of two types
+-- from its last change up to u, if that comes after `begin`, to its next one
+pub span_of_rule : (z : Zone) (a : AlternateRule) (u begin from until : ℤ) (t : LocalType) (previous : Option ℤ) → IsValid z → IsRuleOrNone z.rule → SFits w64 u
+    → z.rule ≡ Some (Alternate a) → IsBegin z begin → AlternateAt a u t → IsSecondOfNearest false (AlternateAt a) (IsAhead false u) previous
+    → (begin <ℤ from) × (previous ≡ Some from) → IsSecondOfNearest true (AlternateAt a) (IsAhead true u) (Some until)
+    → IsSpanAt (TypeAt z) u (record { local_time_type = t; from = Some from; until = Some until })
+span_of_rule z a u begin from until t previous valid limits fits rule h at (Some c, is, e) after (Some d, nearest, ends) =
+    let same = sym e ∙ after.1 in
+    let at_from : from ≡ c.at = cc in
+    let late = rw at_from at after.0 in
+    let up_to = is.inside in
+    let all = begins z _ u valid h (rule_second a u t at) (omega linear) in
+    let last = rule_found z a false u _ (Some c) valid rule h
+    (record { is = is.is; inside = (late, up_to); nearest = λ d is_d inside. is.nearest d is_d inside.1 }) in
+    let first = rule_found z a true u begin (Some d) valid rule h (nearest_moved true _ _ _ (λ v.
+    (begin <ℤ v) × IsAhead true u v) (Some d) (λ d is_d l. (is_d, l.1)) (λ d is_d l. (is_d, (omega linear, l))) nearest) in
+    span_between z u t (Some c) (Some d) (Some from) (Some until) valid limits fits (from_rule z a u t rule valid all at)
+    (nearer_first z (λ v. v ≤ℤ u) false c valid last) (farther_first z (λ v. u <ℤ v) true (Some d) valid (λ v is_v inside.
+    let rise = segments_rise z u (v.at -ℤ pos 1) valid.transitions.rising valid.leaps (omega linear) in omega linear) first) (sym same) ends
+span_of_rule z a u begin from until t previous valid limits fits rule h at one after two = cc

@@ -2,12 +2,12 @@
 use Rattle.tz_info.proofs.{
   Fits.fits,
   Prefixes.last_taken,
-  WallSegments.{piece, shown_before, shown_after, shown_inside, shown_joined},
-  Words.{All-push, AreCutsCrossed, AreInOrder, AreOrdered, ArePassed, ArePieces, ArePiecesAt, IsCutAt, IsLastOf, IsNext, IsSegment, IsShownAmong},
-  Words.{IsStep, IsTable, IsWide, List, LocalType, None as none, Piece, Segment, Shown, Some, Transition, Zone, [], all_pairs_push, answer_at},
-  Words.{answer_before, ap, arith, by_lt_z, cases_lt, cut_of, first_come, get_or, get_or_append_left, get_or_push, index_of, inl, inr, ints},
-  Words.{le_false, le_true, length, length-map, length_push, linear, map, pos, refl, slice_get, slice_get_read, suc, take, take_more, times_ordered},
-  Words.{together, ℕ, ℤ, ⊎_elim, ◌*◌, ◌++◌, ◌+◌, ◌-◌, ◌<ℤ◌, ◌<◌, ◌∷◌, ◌≡◌, ◌≤ℤ◌, ◌≤◌},
+  WallSegments.{piece, shown_after, shown_before, shown_inside, shown_joined},
+  Words.{All-push, AreCutsCrossed, AreInOrder, AreOrdered, ArePassed, ArePieces, ArePiecesAt, IsCutAt, IsLastOf, IsNext, IsSegment, IsShownAmong, IsStep},
+  Words.{IsTable, IsWide, List, LocalType, None as none, Piece, Segment, Shown, Some, Transition, Zone, [], all_pairs_push, answer_at, answer_before, ap},
+  Words.{arith, by_lt_z, cases_lt, cut_of, first_come, get_or, get_or_append_left, get_or_push, index_of, inl, inr, ints, le_false, le_true, length},
+  Words.{length-map, length_push, linear, map, pos, refl, slice_get, slice_get_read, suc, take, take_more, times_ordered, together, ℕ, ℤ, ⊎_elim, ◌*◌, ◌++◌},
+  Words.{◌+◌, ◌-◌, ◌<ℤ◌, ◌<◌, ◌∷◌, ◌≡◌, ◌≤ℤ◌, ◌≤◌},
 }
 use Rattle.tz_info.specs.{Steps.SegmentEnds.end_of, declared.zone.made.shown.Shown.TheVariants.{Less, Once, Skipped}}
 
@@ -102,13 +102,7 @@ module _ (b : Shown) (ps : List Piece) (l : ℤ) (n : ℕ) (passed : ArePassed (
   none_answers latest = grind (arith, started)
 
   pub latest_answers : (p : Piece) → IsLastOf ps n (Some p) → p.answer ≡ answer_at b ps l
-  latest_answers p latest = elim (cases_lt 0 n) [
-    | inl h ↦
-        let (x, is, at) = latest.some h in
-        let e : n ≡ suc (n - 1) = omega arith in
-        let begun = rw e at started in grind (arith, length-map, passed.within, last_taken)
-    | inr g ↦ grind (arith, latest.none, last_taken)
-  ]
+  latest_answers p latest = grind (arith, started, length-map, passed.within, last_taken, cases_lt 0 n)
 
 -- ---- in one pass
 pub end_before : (types : List LocalType) (ts : List Transition) (place : ℕ) (t : LocalType) → slice_get types (index_of ts (place - 1)) ≡ Some t

@@ -1,6 +1,6 @@
 use Rattle.tz_info.proofs.{
   QuestionLaws.{asked_in_turn, asked_neither, asked_once},
-  SeasonAnswers.{found_both, found_none, found_one, same_offset, too_early},
+  SeasonLaws.{found_both, found_none, found_one, same_offset, too_early},
   Words.{SFits, ap, int_lt, linear, not, refl, rules, to_z-of_z, true, type_when, w32, w64, ◌-ℤ◌, ◌<ℤ◌, ◌∙◌, ◌≡◌},
   rule.alternate.AlternateTime.answer_from.Goals.{After-offset-last},
 }

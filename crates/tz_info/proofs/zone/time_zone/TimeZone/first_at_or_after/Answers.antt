@@ -2,7 +2,7 @@ use Rattle.tz_info.proofs.{
   DigitLaws.digits-less,
   EntryChanges.{rose_less, rose_then},
   Fits.fits,
-  RuleSegments.first_by_rule,
+  ReachedLaws.first_by_rule,
   SegmentEndLaws.{begun_near, first_there},
   TableLaws.{reach_of, table_of, top_least},
   Words.{HasReach, IsRuleOrNone, IsValid, SFits, ap, arith, cases_eq, digits, digits-more, inl, inr, linear, rules, w64, ℕ, ◌*◌, ◌+◌, ◌<◌, ◌≤◌},
