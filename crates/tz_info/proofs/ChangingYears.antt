@@ -46,13 +46,8 @@ module _ (a : Alternate) (year : ℤ) (dst : ℤ → Bool) (tells : Tells a year
       → IsChange (AlternateAt a) (record { at = u; before = type_when a (dst (u -ℤ pos 1)); after = type_when a (dst u) })
   turn u inside time of_year types differ =
       let before = rule_time _ _ of_year inside in let (low, high) = in_year _ _ of_year in
-      record {
-        fits = omega linear;
-        fits_before = omega linear;
-        before = tells _ before low (omega linear);
-        after = tells _ time (omega linear) (omega linear);
-        differ = grind arith;
-      }
+      let then = tells _ before low (omega linear) in let here = tells _ time (omega linear) (omega linear) in
+      record { fits = omega linear; fits_before = omega linear; before = then; after = here; differ = grind arith }
 
 -- ---- by the moments of years near it
 -- it begins or ends

@@ -2,7 +2,6 @@ pub mod SearchWords
 pub mod FirstItems
 pub mod DigitLaws
 pub mod SearchSteps
-pub mod HintLaws
 pub mod Words
 pub mod Ranges
 pub mod Fits
@@ -13,7 +12,6 @@ pub mod KindLaws
 pub mod YearKeys
 pub mod SeasonLaws
 pub mod RuleChanges
-pub mod RuleGaps
 pub mod ChangeSearch
 pub mod ChangingYears
 pub mod AskedYears
@@ -42,12 +40,10 @@ pub mod ZoneChanges
 pub mod OffsetChanges
 pub mod SpanLaws
 pub mod TypedLaws
-pub mod LastSpanLaws
 pub mod FoldLaws
 pub mod RunLaws
 pub mod ShownSecondLaws
 pub mod RuleReached
-pub mod ReachedLaws
 pub mod DifferenceLaws
 pub mod PosixZoneLaws
 pub mod FilePieceLaws

@@ -3,8 +3,8 @@ use Rattle.std.proofs.lemmas.Bool.Decides.{Decides-like}
 use Rattle.tz_info.proofs.{
   RuleDays.day_within,
   Words.{Alternate, Bool, DayTime, Decides, Decides-or, IsAlternateRule, IsDstAt, IsInSomeYear, IsRuleDay, IsWithinDay, IsWithinWeek, IsYearOf, arith, by_lt_z},
-  Words.{cond, days_at_least, end_in, floors, int_le, is_between, is_in_three, linear, moment, neg_ℤ, new_year, not, pos, refl, start_in, starts_rise},
-  Words.{year_start, year_step, ℤ, ◌*ℤ◌, ◌+ℤ◌, ◌-ℤ◌, ◌<ℤ◌, ◌≡◌, ◌≤ℤ◌, ◌⊎◌},
+  Words.{cond, days_at_least, end_in, floors, int_le, is_between, is_in_three, linear, moment, neg_ℤ, new_year, not, pos, start_in, starts_rise, year_start},
+  Words.{year_step, ℤ, ◌*ℤ◌, ◌+ℤ◌, ◌-ℤ◌, ◌<ℤ◌, ◌≡◌, ◌≤ℤ◌, ◌⊎◌},
 }
 
 -- the moments of each year keep that margin from its ends
@@ -96,6 +96,5 @@ decides_dst _ _ _ own u dst _ _ same is on off = grind arith
 -- the moments of three years decide everywhere
 pub dst_by_three : (starts ends : ℤ → ℤ) (year u : ℤ) (dst : Bool) → IsNear starts → IsNear ends → IsYearOf u year
     → dst ≡ cond (int_le (starts year) (ends year)) (is_in_three starts ends year u) (not (is_in_three ends starts year u)) → IsDstAt starts ends year u dst
-dst_by_three _ _ _ u dst near_start near_end of_second is =
-    decides_dst _ _ _ _ u dst _ _ refl is (by_three _ _ _ u near_start near_end of_second)
-    (by_three _ _ _ u near_end near_start of_second)
+dst_by_three starts ends year u dst near_start near_end of_second is =
+    grind (arith, decides_dst, by_three starts ends year u near_start near_end of_second, by_three ends starts year u near_end near_start of_second)

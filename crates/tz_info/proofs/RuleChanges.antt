@@ -8,10 +8,9 @@ use Rattle.tz_info.proofs.{
   RuleDays.{day_rises, one_rule_day, rule_day_is},
   RuleLaws.{alternate_at, alternate_once, rule_time, rule_year},
   Words.{Alternate, AlternateAt, Bool, Change, Contains, DayTime, IsAlternateRule, IsBetween, IsChange, IsDayOf, IsDstAt, IsEarlierOf, IsInSomeYear, IsLaterOf},
-  Words.{IsNearest, IsOfYear, IsOneOf, IsRuleDay, IsRuleTime, IsRuleYear, IsYearOf, LocalType, Option, Precedes, ap, arith, by_lt_z, cond, days_at_least},
-  Words.{end_in, false, floor_div, floors, get_or_default, inl, inr, is_leap, kind_place, length, linear, moment, moments_near, new_year, not, one_year, pos},
-  Words.{refl, rule_day, start_in, starts_rise, subst, true, weekday_of, year_at, year_start, year_step, ℕ, ℤ, ⊎_elim, ◌*ℤ◌, ◌+ℤ◌, ◌+◌, ◌-ℤ◌, ◌<ℤ◌, ◌↔◌, ◌≡◌},
-  Words.{◌≢◌, ◌≤ℤ◌, ◌⊎◌},
+  Words.{IsNearest, IsOfYear, IsOneOf, IsRuleDay, IsRuleTime, IsRuleYear, IsYearOf, LocalType, Option, Precedes, arith, by_lt_z, cond, days_at_least, end_in},
+  Words.{false, floor_div, floors, get_or_default, inl, inr, is_leap, kind_place, length, linear, moment, moments_near, new_year, not, one_year, pos, refl},
+  Words.{start_in, starts_rise, subst, true, weekday_of, year_at, year_start, year_step, ℕ, ℤ, ⊎_elim, ◌*ℤ◌, ◌+ℤ◌, ◌+◌, ◌-ℤ◌, ◌<ℤ◌, ◌↔◌, ◌≡◌, ◌≢◌, ◌≤ℤ◌, ◌⊎◌},
 }
 
 pub rule_second : (a : Alternate) (u : ℤ) (t : LocalType) → AlternateAt a u t → IsRuleTime u
@@ -185,18 +184,14 @@ Rise f = (x y : ℤ) → x ≤ℤ y → f x ≤ℤ f y
 
 moments_rise : (t : DayTime) (offset : ℤ) → IsRuleDay t.day → Rise (moment t offset)
 unfolding moment
-moments_rise t _ fits x y h =
-    by_lt_z x y
-    (λ l. let r = day_rises _ x y fits l in omega (arith, floors))
-    (λ l. let e : x ≡ y = omega linear in let g = ap (rule_day t.day) e in omega (arith, floors))
+moments_rise t offset fits x y h =
+    by_lt_z x y (λ l. let r = day_rises _ x y fits l in omega (arith, floors)) (λ l. let e : x ≡ y = omega linear in rw e (omega linear))
 
 -- the second at which a clock shows the day's time is the year's moment
 moment_is : (t : DayTime) (offset year day u : ℤ) → IsRuleDay t.day → IsDayOf t.day year day
     → (u +ℤ offset) ≡ (pos 86_400 *ℤ day +ℤ t.time) → u ≡ moment t offset year
 unfolding moment
-moment_is t _ year day u fits of_year shown =
-    let e : day ≡ rule_day t.day year = one_rule_day _ _ day _ fits of_year (rule_day_is _ _ fits) in
-    omega (arith, floors)
+moment_is t offset year day u fits of_year shown = let e = one_rule_day t.day year day _ fits of_year (rule_day_is _ _ fits) in omega (arith, floors)
 
 -- where a moment of f comes between those of g, it begins what f and g enclose, or ends what g and f do
 sides : (f g : ℤ → ℤ) (year u : ℤ) → Rise f → Rise g → u ≡ f year → IsBetween g f year
@@ -227,9 +222,8 @@ module _ (a : Alternate) (year day u : ℤ) (rule : IsAlternateRule a) (inside :
   pub starts : IsDayOf a.start.day year day → (u +ℤ a.std.offset) ≡ (pos 86_400 *ℤ day +ℤ a.start.time) → IsBetween (end_in a) (start_in a) year
       → (IsYearOf u year → AlternateAt a u a.dst) × (IsYearOf (u -ℤ pos 1) year → AlternateAt a (u -ℤ pos 1) a.std)
   starts of_year clock between =
-      let turn = turns _ _ year u true (moments_rise _ _ rule.start_day) (moments_rise _ _ rule.end_day)
-      (moment_is _ _ _ day u rule.start_day of_year clock) between in
-      (λ own. alternate_at a u _ year true refl own inside turn.0, λ own. alternate_at a _ _ year false refl own inside turn.1)
+      grind (arith, alternate_at, turns (start_in a) (end_in a) year u true (moments_rise _ _ rule.start_day) (moments_rise _ _ rule.end_day)
+      (moment_is _ _ _ day u rule.start_day of_year clock) between)
 
   pub ends : IsDayOf a.end.day year day → (u +ℤ a.dst.offset) ≡ (pos 86_400 *ℤ day +ℤ a.end.time) → IsBetween (start_in a) (end_in a) year
       → (IsYearOf u year → AlternateAt a u a.std) × (IsYearOf (u -ℤ pos 1) year → AlternateAt a (u -ℤ pos 1) a.dst)

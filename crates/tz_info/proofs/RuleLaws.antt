@@ -39,9 +39,7 @@ bounds = (refl, refl)
 -- the seconds of the years that a rule answers in
 pub rule_time : (u year : ℤ) → IsYearOf u year → IsRuleYear year → IsRuleTime u
 rule_time u year of_second inside =
-    let low = starts_rise (neg_ℤ (pos 2_147_483_646)) year in
-    let high = starts_rise (year +ℤ pos 1) (pos 2_147_483_646) in
-    grind (arith, floors, bounds)
+    grind (arith, floors, bounds, starts_rise (neg_ℤ (pos 2_147_483_646)) year, starts_rise (year +ℤ pos 1) (pos 2_147_483_646))
 
 pub rule_year : (u year : ℤ) → IsYearOf u year → IsRuleTime u → IsRuleYear year
 rule_year u year of_second within =

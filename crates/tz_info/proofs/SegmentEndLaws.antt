@@ -107,5 +107,5 @@ pub maxima_more : (types : List LocalType) (ts : List Transition) (k : ℕ) (max
 maxima_more types ts k maxima out latest next made is e =
     let more : (l : ℤ) → SFits w64 l → (l <ℤ next) ↔ IsReached types ts (suc k) l = λ l fits.
     let r = reached_more types ts k l in let a = made.all l fits in let m = is l in
-    ((λ h. r.1 (by_lt_z l latest (λ b. inl (a.0 b)) (λ b. grind linear))), (λ s. grind linear)) in
+    (λ h. r.1 (by_lt_z l latest (λ b. inl (a.0 b)) (λ b. grind linear)), λ s. grind linear) in
     grind (linear, length_push, get_or_append_left, get_or_push)

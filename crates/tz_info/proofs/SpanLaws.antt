@@ -1,17 +1,20 @@
--- Spans: at each second between two that have a type there is one, and from the last change to the next one it is the same.
+-- Spans: at each second between two that have a type there is one, and from the last change to the next one it is the same; the last span.
 use Rattle.tz_info.proofs.{
   ChangeSearch.{Typed, nearest_moved, stays},
+  ExtremeLaws.{at_least_least, at_most_greatest},
   LeapEntries.{before_found, follow},
   LeapOrder.none_counted,
+  LeapStarts.saturated,
   RuleChanges.rule_second,
   RuleLaws.rule_year,
   SecondTypes.last_is,
   SegmentLaws.{come_at_time, come_by_time, segment_most, segments_rise},
-  Words.{Alternate as AlternateRule, AlternateAt, AreLeapSeconds, Change, HasNoChange, IfSome, IsAhead, IsAlternateRefused, IsBegin, IsBeginBy, IsChange},
-  Words.{IsEndBy, IsFirst, IsFromLast, IsInSpan, IsLast, IsLeapTime, IsOutOfForce, IsRefusedBy, IsRuleOrNone, IsRuleTime, IsSecondOfNearest, IsSince, IsSpan},
-  Words.{IsSpanAt, IsTypeRefused, IsTyped, IsUnixTime, IsUntil, IsValid, LeapSecond, List, LocalType, None, Option, SFits, Some, Span, TransitionRule, TypeAt},
-  Words.{Zone, arith, by_leap_time, by_lt_z, by_rule, cases_lt, correction_before, false, floor_div, length, lies_in, linear, neg_ℤ, option_map, pos, refl},
-  Words.{segment_of, sym, true, w64, ℤ, ⊎_elim, ◌-ℤ◌, ◌-◌, ◌<ℤ◌, ◌<◌, ◌∙◌, ◌≡◌, ◌≤ℤ◌, ◌⊎◌},
+  Words.{Alternate as AlternateRule, AlternateAt, AreExtremes, AreLeapSeconds, Change, Extremes, HasNoChange, IfSome, IsAhead, IsAlternateRefused, IsBegin},
+  Words.{IsBeginBy, IsChange, IsEndBy, IsFirst, IsFromLast, IsInSpan, IsLast, IsLastSpan, IsLastTyped, IsLeapTime, IsOutOfForce, IsRefusedBy, IsRuleOrNone},
+  Words.{IsRuleTime, IsSecondOfNearest, IsShownOnce, IsSince, IsSpan, IsSpanAt, IsTypeRefused, IsTyped, IsUnixTime, IsUntil, IsValid, IsWide, LastSpan},
+  Words.{LeapSecond, List, LocalType, None, Option, SFits, Shows, Some, Span, TransitionRule, TypeAt, Zone, arith, by_leap_time, by_lt_z, by_rule, cases_lt},
+  Words.{correction_before, false, floor_div, length, lies_in, linear, neg_ℤ, offsets, option_map, pos, refl, saturate_signed, segment_of, sym, true, w32, w64},
+  Words.{ℤ, ⊎_elim, ◌+ℤ◌, ◌-ℤ◌, ◌-◌, ◌<ℤ◌, ◌<◌, ◌∙◌, ◌≡◌, ◌≤ℤ◌, ◌⊎◌},
   ZoneChanges.{begins, farther_first, from_rule, nearer_first, out_before, out_from, refused_on, rule_found, time_of, to_rule},
   ZoneLaws.{inside_listed, type_decided, type_once},
 }
@@ -24,10 +27,8 @@ early es v x valid h l = let none = none_counted _ v es (follow es valid) (grind
 
 early_unix : (es : List LeapSecond) (x u : ℤ) → AreLeapSeconds es → x <ℤ pos 0 → IsUnixTime es x u → u ≡ x
 early_unix es x u valid h is =
-    let none : pos 0 ≡ correction_before es x = before_found es (record { unix_leap_time = pos 0; correction = pos 0 }) valid 0 x _ (omega arith)
-    (grind linear)
-    (grind linear) in
-    omega linear
+    let none : pos 0 ≡ correction_before es x =
+    before_found es (record { unix_leap_time = pos 0; correction = pos 0 }) valid 0 x _ (omega arith) (grind linear) (grind linear) in omega linear
 
 -- a second after all transitions of a zone with a rule
 module _ (z : Zone) (a : AlternateRule) (v : ℤ) (valid : IsValid z) (rule : z.rule ≡ Some (Alternate a)) (all : segment_of z v ≡ length z.transitions) where
@@ -51,8 +52,7 @@ module _ (z : Zone) (a : AlternateRule) (v : ℤ) (valid : IsValid z) (rule : z.
       grind (linear, cases_lt 0 (length z.transitions), not_before y, rule_second a u t, to_rule z a u t rule valid)
 
   not_after_second : (u : ℤ) (t : LocalType) → v ≤ℤ u → TypeAt z u t → pos 67_767_976_170_460_799 <ℤ v → ⊥
-  not_after_second u t h k high =
-      let m = segment_most z u valid.transitions.rising in grind (linear, rule_second a u t, to_rule z a u t rule valid, segments_rise)
+  not_after_second u t h k high = grind (linear, segment_most z u valid.transitions.rising, rule_second a u t, to_rule z a u t rule valid, segments_rise)
 
 pub out_of_years : (u : ℤ) → IsAlternateRefused u → (u <ℤ neg_ℤ (pos 67_768_100_504_812_800)) ⊎ (pos 67_767_976_170_460_799 <ℤ u)
 out_of_years u refused = let lies = lies_in (floor_div u 86_400) in grind (linear, rule_year)
@@ -113,10 +113,7 @@ module _ (z : Zone) (u : ℤ) (t : LocalType) (valid : IsValid z) (limits : IsRu
     later = grind linear;
     begins = grind linear;
   }
-  low_of (Some c) from last k =
-      let same = no_change z _ u _ t valid limits last.is.fits fits last.inside
-      (grind linear) last.is.after h in
-      grind (linear, out_before)
+  low_of (Some c) from last k = grind (linear, out_before, no_change z c.at u c.after t valid limits last.is.fits fits last.inside)
 
   high_of : (next : Option Change) (until : Option ℤ) → IsFirst (TypeAt z) (λ v. u <ℤ v) next → IsEndBy z next until → IsHigh z u t next until
   high_of None None next k = grind linear
@@ -127,10 +124,7 @@ module _ (z : Zone) (u : ℤ) (t : LocalType) (valid : IsValid z) (limits : IsRu
     earlier = grind linear;
     ends = grind linear;
   }
-  high_of (Some c) until next k =
-      let same = no_change z u _ t _ valid limits fits next.is.fits_before (omega linear)
-      (grind linear) h next.is.before in
-      grind (linear, out_from)
+  high_of (Some c) until next k = grind (linear, out_from, no_change z u (c.at -ℤ pos 1) t c.before valid limits fits next.is.fits_before (omega linear))
 
 pub span_between : (z : Zone) (u : ℤ) (t : LocalType) (last next : Option Change) (from until : Option ℤ) → IsValid z → IsRuleOrNone z.rule → SFits w64 u
     → TypeAt z u t
@@ -191,8 +185,7 @@ pub span_of_rule : (z : Zone) (a : AlternateRule) (u begin from until : ℤ) (t 
     → IsSpanAt (TypeAt z) u (record { local_time_type = t; from = Some from; until = Some until })
 span_of_rule z a u begin from until t previous valid limits fits rule h at (Some c, is, e) after (Some d, nearest, ends) =
     let same = sym e ∙ after.1 in
-    let at_from : from ≡ c.at = cc in
-    let late = rw at_from at after.0 in
+    let late : begin <ℤ c.at = let at_from : from ≡ c.at = cc in rw at_from at after.0 in
     let up_to = is.inside in
     let all = begins z _ u valid h (rule_second a u t at) (omega linear) in
     let last = rule_found z a false u _ (Some c) valid rule h
@@ -203,3 +196,49 @@ span_of_rule z a u begin from until t previous valid limits fits rule h at (Some
     (nearer_first z (λ v. v ≤ℤ u) false c valid last) (farther_first z (λ v. u <ℤ v) true (Some d) valid (λ v is_v inside.
     let rise = segments_rise z u (v.at -ℤ pos 1) valid.transitions.rising valid.leaps (omega linear) in omega linear) first) (sym same) ends
 span_of_rule z a u begin from until t previous valid limits fits rule h at one after two = cc
+
+-- ---- the last span, and the local times that only one of its seconds shows
+-- the offsets of a zone, the last second that has a type, and its span
+module _ (z : Zone) (last : LastSpan) (e : Extremes) (extremes : AreExtremes (offsets z.types z.rule) e) (low : SFits w32 e.least) (high : SFits w32 e.greatest)
+    (fits : SFits w64 last.after) (last_fits : SFits w64 last.last) (typed : IsLastTyped z last.last) (h : IsSpanAt (TypeAt z) last.last last.span)
+    (after : (u : ℤ) → SFits w64 u → last.after <ℤ u → IsSince last.span.from u) where
+  each : (u : ℤ) → SFits w64 u → last.after <ℤ u → u ≤ℤ last.last → IsSpanAt (TypeAt z) u last.span
+  each u is l most =
+      let inside : IsInSpan last.span u = grind linear in
+      grind linear
+
+  -- a second that shows a later local time by a type of the zone comes after that one
+  shows_after : (local u v : ℤ) (t : LocalType) → IsWide local → (last.after +ℤ e.greatest) <ℤ local → TypeAt z v t → u +ℤ t.offset ≡ local
+      → SFits w64 u × (last.after <ℤ u) × (u ≤ℤ last.last)
+  shows_after _ _ v t wide later type shown =
+      let most = at_most_greatest z v _ t extremes.greatest type in
+      let fewest = at_least_least z v _ t extremes.least type in
+      omega linear
+
+  shown_once : (local : ℤ) → IsWide local → (last.after +ℤ e.greatest) <ℤ local → IsShownOnce (Shows (TypeAt z) local) last.span.local_time_type
+  shown_once local wide later =
+      let u = local -ℤ last.span.local_time_type.offset in
+      let b = shows_after _ u _ _ wide later h.in_force_then (omega linear) in
+      record {
+        second = u;
+        shown = record { fits = b.0; type = (each u b.0 b.1 b.2).in_force_then; shown = omega linear };
+        only = λ v t k.
+            let c = shows_after _ v v t wide later k.type k.shown in
+            let same = type_once z v t _ k.type (each v c.0 c.1 c.2).in_force_then in grind linear;
+      }
+
+  none : (u : ℤ) → SFits w64 u → last.after <ℤ u → HasNoChange (TypeAt z) (λ v. u <ℤ v)
+  none u is l d change later = by_lt_z _ d.at (λ beyond. grind linear) (λ within.
+      let this = each (d.at -ℤ pos 1) change.fits_before (omega linear) (omega linear) in
+      let that = each d.at change.fits (omega linear) within in
+      grind (linear, no_change_within))
+
+  -- the span of the last second that has a type is the last one
+  pub last_spans : last.local_after ≡ saturate_signed w64 (last.after +ℤ e.greatest) → IsLast (TypeAt z) (λ v. v ≤ℤ last.last) last.begin → IsLastSpan z last
+  last_spans local_after begin = record {
+    each = each;
+    none = none;
+    begins = λ u is l. nearest_moved false _ (TypeAt z) _ (λ v. v ≤ℤ u) _ (grind linear) (grind (linear, none u is l)) begin;
+    shown = λ local wide later.
+        let near = (saturated (last.after +ℤ e.greatest) (local -ℤ pos 1) (omega linear)).0 (omega linear) in grind (linear, shown_once);
+  }

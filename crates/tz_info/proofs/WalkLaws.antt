@@ -61,7 +61,7 @@ with_rule z rule start l valid is begun wide offsets = record {
       (λ h.
       let there : segment_of z u ≡ length z.transitions = let b = k.below in omega arith in
       let type = rw is at (type_from z u t valid.transitions.rising (record { type = k.shows.type; segment = there })) in
-      let n = rule_begun z u start valid (near u t type k.shows.shown) begun in grind linear) (cases_lt (segment_of z u) (length z.transitions));
+      grind (linear, rule_begun z u start valid (near u t type k.shows.shown) begun)) (cases_lt (segment_of z u) (length z.transitions));
   order = λ u v s t a b. let n = near v t b.type.type b.shown in grind (linear, rule_begun z v start valid, later_segment z u v);
 } where
   near : (u : ℤ) (t : LocalType) → RuleAt rule u t → u +ℤ t.offset ≡ l → IsNear u

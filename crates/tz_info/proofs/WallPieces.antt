@@ -83,10 +83,8 @@ pub merging_more : {bx : Shown} {xs : List Piece} {by : Shown} {ys out after : L
     → AreInOrder ys → Merging together bx xs by ys out i j → IsStep xs i ys j start i_after j_after
     → a ≡ together (answer_before bx (take i_after xs)) (answer_before by (take j_after ys)) → after ≡ out ++ (record { start = start; answer = a } ∷ [])
     → Merging together bx xs by ys after i_after j_after
-merging_more in_x in_y m (inl s) is e =
-    rw (e, s.passed, s.stays) (merging_x m _ in_x s.next s.starts (rw (s.passed, s.stays) at is))
-merging_more in_x in_y m (inr s) is e =
-    rw (e, s.passed, s.stays) (merging_turned (merging_x (merging_turned m) _ in_y s.next s.starts (rw (s.stays, s.passed) at is)))
+merging_more in_x in_y m step is e = ⊎_elim (λ s. rw (e, s.passed, s.stays) (merging_x m _ in_x s.next s.starts (rw (s.passed, s.stays) at is)))
+    (λ s. rw (e, s.passed, s.stays) (merging_turned (merging_x (merging_turned m) _ in_y s.next s.starts (rw (s.stays, s.passed) at is)))) step
 
 -- pieces in order, by the list of their starts
 pub starts_in_order : (ps : List Piece) → AreInOrder ps → AreOrdered (map (λ (p : Piece). p.start) ps)

@@ -9,9 +9,9 @@ use Rattle.tz_info.proofs.{
   TableSearch.Between,
   Words.{AreBelow, AreListed, ArePieces, AreRising, HasType, IsLeapTime, IsMerged, IsNear, IsSegment, IsShownAmong, IsShownIn, IsStart, IsTable, IsUtOffset},
   Words.{IsValid, IsWallAnswer, IsWide, List, ListedAmong, LocalResult, LocalType, None as none, Option, Piece, SFits, Segment, Shown, ShownAmong, Shows},
-  Words.{Some as some, Transition, TransitionRule, TypeAt, TypeIn, Zone, [], answer_at, arith, by_lt_z, cases_lt, cut_of, index_of, inl, inr, joined, le_false},
-  Words.{le_true, length, linear, place_at, segment_of, shown_indexes, suc, table_count, table_count_by, together, w64, ℕ, ℤ, ⊎_elim, ◌+◌, ◌-ℤ◌, ◌<ℤ◌, ◌<◌},
-  Words.{◌↔◌, ◌∷◌, ◌≡◌, ◌≤ℤ◌, ◌≤◌, ◌⊎◌},
+  Words.{Some as some, Transition, TransitionRule, TypeAt, TypeIn, Zone, [], answer_at, arith, by_lt_z, cases_lt, cut_of, index_of, joined, le_false, le_true},
+  Words.{length, linear, place_at, segment_of, shown_indexes, suc, table_count, table_count_by, together, w64, ℕ, ℤ, ⊎_elim, ◌+◌, ◌-ℤ◌, ◌<ℤ◌, ◌<◌, ◌↔◌, ◌∷◌},
+  Words.{◌≡◌, ◌≤ℤ◌, ◌≤◌, ◌⊎◌},
   ZoneLaws.leap_time_decided,
 }
 use Rattle.tz_info.specs.declared.zone.made.shown.Shown.TheVariants.{Less, Once, Skipped}
@@ -58,7 +58,7 @@ shown_joined z ts low middle high l a b rising h k x y =
       wall = rw e (joined_answer (ListedAmong z ts low middle l) (ListedAmong z ts middle high l) _ _ _ (record {
         first = grind arith;
         last = grind arith;
-        all = λ u i m. ⊎_elim (λ b. inl (grind arith)) (λ b. inr (grind arith)) (cases_lt (place_at ts u) middle);
+        all = λ u i m. grind (arith, cases_lt (place_at ts u) middle);
         order = grind (linear, places_rise);
       }) x.wall y.wall);
       side = grind arith;
@@ -122,12 +122,10 @@ module _ {z : Zone} {ts : List Transition} {top k : ℕ} {s : Segment} (table : 
     pub shown_inside : (0 < k → k ≤ length ts → cut_of ts k s.offset ≤ℤ l) → (k < length ts → l <ℤ cut_of ts (suc k) s.offset)
         → IsShownAmong z ts k (suc k) l (Once s.index)
     shown_inside from until =
-        let u = l -ℤ s.offset in
-        let near = near_here in
-        let most = place_most ts u table.rising in
-        let here : place_at ts u ≡ k = grind (linear, cut_begun k, cut_begun (suc k)) in
-        let index = is.index in let offset = is.offset in
-        record { wall = record { second = u; shown = grind linear; only = second_of }; side = tt }
+        let most = place_most ts (l -ℤ s.offset) table.rising in
+        let here : place_at ts (l -ℤ s.offset) ≡ k = grind (linear, cut_begun k, cut_begun (suc k)) in
+        let near = near_here in let index = is.index in let offset = is.offset in
+        record { wall = record { second = l -ℤ s.offset; shown = grind linear; only = second_of }; side = tt }
 
   -- the pieces of the first segment, which has no start
   pub first_pieces : k ≡ 0 → 0 < length ts → ArePieces z ts k (suc k) (Once s.index) (piece (cut_of ts (suc k) s.offset) Less ∷ [])

@@ -122,10 +122,9 @@ module _ (x y q : ℤ) (leaps : LeapsAlike x y) (start : year_start y ≡ year_s
 
 -- they change alike
 pub changing_alike : (starts ends : List ℤ) (calm : Bool) (x y : ℤ) → year_key x ≡ year_key y → is_changing starts ends calm y ≡ is_changing starts ends calm x
-changing_alike _ _ _ x y e =
-    let places : leap_place x ≡ leap_place y = grind arith in let weekday : weekday_of (year_start x) ≡ weekday_of (year_start y) = grind arith in
-    let leaps = leaps_alike x y places in
-    let (q, start) = weeks _ _ weekday in
+changing_alike starts ends calm x y e =
+    let leaps = leaps_alike x y (grind arith) in
+    let (q, start) = weeks (year_start x) (year_start y) (grind arith) in
     by_calm x y q leaps start _ _ _
 
 abbrev fits_key : ℕ → Bool

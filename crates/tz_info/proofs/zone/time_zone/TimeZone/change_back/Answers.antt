@@ -40,9 +40,7 @@ returns-then-has_reached c =
     (simp fits at c.type_at-before.ensures) reached)
 
 pub loop-at-smaller : goal.loop-at-smaller
-loop-at-smaller c =
-    let (fl, ff, fe, fa, fb, later, most) = before (goal.at.loop-at-smaller c).In-Some in
-    simp fits (omega linear)
+loop-at-smaller c = grind (linear, fits, before)
 
 pub loop-at-preserved : goal.loop-at-preserved
 loop-at-preserved c =
