@@ -13,11 +13,6 @@ pub shown_at : (u l : ℤ) (t s : LocalType) → u +ℤ t.offset ≡ l → t ≡
 shown_at u l t s h e = grind linear
 
 -- ---- all candidates, none before them
--- one
-pub asked_one : (at : ℤ → LocalType → Type 0) (l o : ℤ) (after : LocalResult LocalType) → ((u : ℤ) (t : LocalType) → Shows at l u t → u ≡ l -ℤ o)
-    → IsAskedLast at l o None after → IsWallAnswer (Shows at l) after
-asked_one at l o after only h = grind linear
-
 -- two, the greater offset first, since its second is the earlier one
 pub asked_both : (at : ℤ → LocalType → Type 0) (l o p : ℤ) (one two : LocalResult LocalType) → p <ℤ o
     → ((u : ℤ) (t : LocalType) → Shows at l u t → (u ≡ l -ℤ o) ⊎ (u ≡ l -ℤ p)) → IsAskedLast at l o None one → IsAskedLast at l p one two

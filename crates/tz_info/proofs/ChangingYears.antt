@@ -113,7 +113,7 @@ module _ (a : Alternate) (rule : IsAlternateRule a) where
         (season_made a _ _ _ _ calm_margin refl refl refl refl refl).decided u time (omega (arith, floors))
 
     inside : (year : ℤ) (to_dst : Bool) → IsYearOf (turn_of a to_dst year) year × IsYearOf (turn_of a to_dst year -ℤ pos 1) year
-    inside year to_dst = let s = amid _ year calm_margin.start in let e = amid _ year calm_margin.end in grind arith
+    inside year to_dst = grind (arith, amid _ year calm_margin.start, amid _ year calm_margin.end)
 
     -- if they are two, clocks change at each
     pub turn_change : (year : ℤ) (to_dst : Bool) → IsRuleYear year → a.std ≢ a.dst → start_in a year ≢ end_in a year

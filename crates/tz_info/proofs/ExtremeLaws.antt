@@ -1,8 +1,8 @@
 -- The least and the greatest of some offsets.
 use Rattle.tz_info.proofs.{
   Words.{All-contains, All-push, AreExtremes, AreJoined, AreJoinedByRule, Contains, Contains-append_left, Contains-append_right, Contains-push, Extremes},
-  Words.{IsEnd, IsGreatest, IsLeast, IsTypeOf, IsWindowOf, List, LocalType, Option, SFits, Some, TransitionRule, TypeAt, Zone, [], append_assoc, get_or-map},
-  Words.{length, length-map, linear, offsets, offsets_of, rule_offsets, slice_get, slice_get-get_or, w32, ℕ, ℤ, ⊎_elim, ◌++◌, ◌-ℤ◌, ◌<◌, ◌∷◌, ◌≡◌, ◌≤ℤ◌, ◌⊎◌},
+  Words.{IsEnd, IsGreatest, IsLeast, IsWindowOf, List, LocalType, Option, SFits, Some, TransitionRule, TypeAt, Zone, [], append_assoc, get_or-map, length},
+  Words.{length-map, linear, offsets, offsets_of, rule_offsets, slice_get, slice_get-get_or, w32, ℕ, ℤ, ⊎_elim, ◌++◌, ◌-ℤ◌, ◌<◌, ◌∷◌, ◌≡◌, ◌≤ℤ◌, ◌⊎◌},
   ZoneLaws.type_listed,
 }
 use Rattle.tz_info.specs.declared.rule.transition_rule.TransitionRule.TheVariants.{Alternate, Fixed}
@@ -32,16 +32,13 @@ rule_joined types _ (Alternate a) e r is h (one, f, g) =
     rw is (rw append_assoc at s)
 
 -- ---- the offset of a type in force is one of them
-pub rule_among : (rule : Option TransitionRule) (u : ℤ) (t : LocalType) → IsTypeOf rule u t → Contains (rule_offsets rule) t.offset
-rule_among rule u t h = grind linear
-
 listed_among : (types : List LocalType) (k : ℕ) (t : LocalType) → k < length types → slice_get types k ≡ Some t → Contains (offsets_of types) t.offset
 listed_among types k t h e =
     (k, simp length-map h, let g = slice_get-get_or types k t h in let m = get_or-map (λ (t : LocalType). t.offset) types k t t.offset h in grind linear)
 
 pub in_force_among : (z : Zone) (u : ℤ) (t : LocalType) → TypeAt z u t → Contains (offsets z.types z.rule) t.offset
 in_force_among z u t a = ⊎_elim (λ i. Contains-append_left (offsets_of z.types) (rule_offsets z.rule) _ (listed_among _ i.0 t i.1 i.2))
-    (λ h. Contains-append_right (offsets_of z.types) (rule_offsets z.rule) _ (rule_among _ u t h)) (type_listed z u t a)
+    (λ h. Contains-append_right (offsets_of z.types) (rule_offsets z.rule) _ (grind linear)) (type_listed z u t a)
 
 pub at_most_greatest : (z : Zone) (u g : ℤ) (t : LocalType) → IsGreatest (offsets z.types z.rule) g → TypeAt z u t → t.offset ≤ℤ g
 at_most_greatest z u g t h a = All-contains (λ x. x ≤ℤ g) (offsets _ z.rule) _ h.most (in_force_among z u t a)

@@ -28,7 +28,7 @@ module _ (z : Zone) (rule : TransitionRule) (start l : ℤ) (valid : IsValid z) 
         let from_last = come_at_time z u _ time.1 ∙ (rule_begun z u _ valid near begun).1 k.since in grind linear),
     (λ k.
         let of_rule = rw is at k.of_rule in
-        let since = (rule_begun z u _ valid (near u _ of_rule k.of_second) begun).0 (grind (linear, come_by_then)) in grind linear),
+        grind (linear, come_by_then, rule_begun z u start valid (near u _ of_rule k.of_second) begun)),
   )
 
   pub asked_by_zone : (p q : ℕ) → IsAskedFrom rule start l p q → IsAskedFor z l p q
@@ -56,7 +56,7 @@ asked_more _ c p q r (inl (k, e)) others = record {
 asked_more asks c p q r (inr (none, e)) others = grind arith
 
 one_second : (asks : ℤ → Type 0) (c : ℤ) (p q : ℕ) → ((u : ℤ) → asks u → u ≡ c) → IsAskedIf asks c p q → IsAskedAtEach asks p q
-one_second asks c p q only k = asked_more _ c p q q k (nowhere (λ u. asks u × (u ≢ c)) q q (grind linear) refl)
+one_second asks c p q only k = asked_more _ c p q q k (nowhere _ q q (grind linear) refl)
 
 -- ---- those of a rule
 asked_since : (rule : TransitionRule) (from l o : ℤ) (p q : ℕ) → Contains (rule_offsets (Some rule)) o → IsAskedSince from (l -ℤ o) p q
@@ -90,7 +90,7 @@ module _ (a : AlternateRule) (from l : ℤ) (dst : Bool) where
 
   -- if both offsets are equal
   pub asked_once : (p q : ℕ) → a.std.offset ≡ a.dst.offset → IsAskedSince from (l -ℤ (type_when a dst).offset) p q → IsAskedFrom (Alternate a) from l p q
-  asked_once p q same h = one_second _ _ p q (λ u k. grind (arith, either)) (asked_since _ _ l _ p q (of_rule _) h)
+  asked_once p q same h = one_second _ _ p q (grind (arith, either)) (asked_since _ _ l _ p q (of_rule _) h)
 
 -- ---- none, without a rule
 pub asked_none : (z : Zone) (l : ℤ) (p : ℕ) → z.rule ≡ None → IsAskedFor z l p p

@@ -228,6 +228,5 @@ module _ (a : Alternate) (year day u : ℤ) (rule : IsAlternateRule a) (inside :
   pub ends : IsDayOf a.end.day year day → (u +ℤ a.dst.offset) ≡ (pos 86_400 *ℤ day +ℤ a.end.time) → IsBetween (start_in a) (end_in a) year
       → (IsYearOf u year → AlternateAt a u a.std) × (IsYearOf (u -ℤ pos 1) year → AlternateAt a (u -ℤ pos 1) a.dst)
   ends of_year clock between =
-      let turn = turns _ _ year u false (moments_rise _ _ rule.end_day) (moments_rise _ _ rule.start_day)
-      (moment_is _ _ _ day u rule.end_day of_year clock) between in
-      (λ own. alternate_at a u _ year false refl own inside turn.0, λ own. alternate_at a _ _ year true refl own inside turn.1)
+      grind (arith, alternate_at, turns (end_in a) (start_in a) year u false (moments_rise _ _ rule.end_day) (moments_rise _ _ rule.start_day)
+      (moment_is _ _ _ day u rule.end_day of_year clock) between)

@@ -2,9 +2,8 @@
 use Rattle.tz_info.proofs.{
   Neighbours.{dst_by_three, ends_near, starts_near},
   Words.{Agrees, Alternate as AlternateRule, AlternateAt, Bool, IsAlternateRefused, IsDstAt, IsRule, IsRuleRefused, IsRuleTime, IsRuleYear, IsTrue, IsUnixTime},
-  Words.{IsUnixTimeRefused, IsYearOf, LeapSecond, LiesIn, List, LocalType, MatchOption, RuleAt, Some, Transition, TransitionRule, arith, end_in, floor_div},
-  Words.{floors, lies_in, linear, neg_ℤ, one_year, pos, refl, rule_type, slice_get, start_in, starts_rise, type_when, year_of, year_start, ℤ, ◌+ℤ◌, ◌↔◌, ◌≡◌},
-  Words.◌⊎◌,
+  Words.{IsYearOf, LeapSecond, LiesIn, List, LocalType, MatchOption, RuleAt, Some, Transition, TransitionRule, arith, end_in, floor_div, floors, lies_in},
+  Words.{linear, neg_ℤ, one_year, pos, refl, rule_type, slice_get, start_in, starts_rise, type_when, year_of, year_start, ℤ, ◌+ℤ◌, ◌↔◌, ◌≡◌, ◌⊎◌},
 }
 use Rattle.tz_info.specs.declared.rule.transition_rule.TransitionRule.TheVariants.{Alternate, Fixed}
 
@@ -45,10 +44,6 @@ pub rule_year : (u year : ℤ) → IsYearOf u year → IsRuleTime u → IsRuleYe
 rule_year u year of_second within =
     grind (arith, floors, bounds, starts_rise (year +ℤ pos 1) (neg_ℤ (pos 2_147_483_646)), starts_rise (pos 2_147_483_646) year)
 
--- outside of them an alternate rule is refused
-pub refused_outside : (u : ℤ) → (IsRuleTime u → ⊥) → IsAlternateRefused u
-refused_outside u out = grind (linear, rule_time)
-
 -- the year of the second's day is the second's year, and a rule answers in it
 pub year_found : (u day year : ℤ) → day ≡ floor_div u 86_400 → year ≡ year_of day → IsRuleTime u → LiesIn day year × IsRuleYear year
 year_found u day year at_day at_year within = let lies = lies_in day in grind (linear, rule_year)
@@ -59,10 +54,6 @@ pub alternate_at : (a : AlternateRule) (u day year : ℤ) (dst : Bool) → day �
 alternate_at a u day year dst at_day lies inside when = grind arith
 
 -- ---- whether a rule agrees with the last transition
-pub differs_without_time : (types : List LocalType) (leaps : List LeapSecond) (rule : TransitionRule) (last : Transition)
-    → IsUnixTimeRefused leaps last.unix_leap_time → Agrees types leaps rule last → ⊥
-differs_without_time types leaps rule last out h = grind linear
-
 -- a rule, and what it must agree with
 module _ (types : List LocalType) (leaps : List LeapSecond) (rule : TransitionRule) (last : Transition) (u : ℤ)
     (of_last : IsUnixTime leaps last.unix_leap_time u) where
@@ -70,9 +61,6 @@ module _ (types : List LocalType) (leaps : List LeapSecond) (rule : TransitionRu
   pub agrees_if_same : (s t : LocalType) (same : Bool) → RuleAt rule u s → slice_get types last.type_index ≡ Some t → IsTrue same ↔ (s ≡ t)
       → IsTrue same ↔ Agrees types leaps rule last
   agrees_if_same s t same of_rule listed e = grind (linear, rule_once)
-
-  pub differs_without_rule : IsRuleRefused rule u → Agrees types leaps rule last → ⊥
-  differs_without_rule refused h = grind (linear, rule_not_refused)
 
 -- at each second a rule has one type, or none
 pub ruleset rule_types = (rule_decided, rule_not_refused, rule_once, rule_time, rule_year)

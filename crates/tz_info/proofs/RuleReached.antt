@@ -104,17 +104,15 @@ module _ (a : Alternate) (begin local low : ℤ) (rule : IsAlternateRule a) (low
     -- if they don't change up to then, it is that second
     pub still_first : IsNear low → IsNear shown → HasNoChange (AlternateAt a) (λ w. (low <ℤ w) × (w ≤ℤ shown))
         → IsFirstSince (RuleAt (AlternateRule a)) begin local shown s
-    still_first near_low near none = record {
-      near = near;
-      from = omega (linear, clamps);
-      shown = record {
-        fits = omega (linear, near);
-        type = still a rule low shown s none here (omega (linear, near)) (omega (linear, clamps));
-        reached = omega (linear, clamps);
-      };
-      first = λ v r begun shows. by_lt_z v shown
-          (λ earlier. shown_from v r begun shows (λ d change i. none d change (i.0, omega (linear, i, earlier)))) (λ not. not);
-    }
+    still_first near_low near none =
+        let type = still a rule low shown s none here (omega (linear, near)) (omega (linear, clamps)) in
+        record {
+          near = near;
+          from = omega (linear, clamps);
+          shown = record { fits = omega (linear, near); type = type; reached = omega (linear, clamps) };
+          first = λ v r begun shows. by_lt_z v shown
+              (λ earlier. shown_from v r begun shows (λ d change i. none d change (i.0, omega (linear, i, earlier)))) (λ not. not);
+        }
 
     -- else it is the change
     pub changed_first : (c : Change) → IsNear low → IsNear shown → IsNearestChange true (AlternateAt a) (IsAhead true low) c → c.at ≤ℤ shown

@@ -2,7 +2,7 @@
 use Rattle.offset_core.specs.declared.local_result.LocalResult.TheVariants.{None}
 use Rattle.std.specs.Prelude.{⊤}
 use Rattle.tz_info.proofs.{
-  Candidates.{asked_both, asked_one, one_second, std_or_dst},
+  Candidates.{asked_both, one_second, std_or_dst},
   GapLaws.{IsNever, gap_found},
   KindLaws.IsMargin,
   Neighbours.{IsBeside, by_own, decides_dst},
@@ -71,7 +71,9 @@ found_none a from l first last = grind (linear, std_or_dst)
 module _ (a : AlternateRule) (from l : ℤ) (dst : Bool) where
   pub found_one : (one : LocalResult LocalType) → a.std.offset ≡ a.dst.offset
       → IsAskedLast (TypeFrom (Alternate a) from) l (type_when a dst).offset None one → IsWallAnswer (Shows (TypeFrom (Alternate a) from) l) one
-  found_one one same asked = asked_one _ l _ _ (λ u t s. let e = one_second a from l same u t s in grind arith) asked
+  found_one one same asked =
+      let only : (u : ℤ) (t : LocalType) → Shows (TypeFrom (Alternate a) from) l u t → u ≡ l -ℤ (type_when a dst).offset =
+      λ u t s. let e = one_second a from l same u t s in grind arith in grind linear
 
   pub found_both : (one both : LocalResult LocalType) → dst ≡ int_lt a.std.offset a.dst.offset → a.std.offset ≢ a.dst.offset
       → IsAskedLast (TypeFrom (Alternate a) from) l (type_when a dst).offset None one

@@ -82,8 +82,7 @@ module _ (z : Zone) (ts : List Transition) (top k : ℕ) (l : ℤ) (table : IsTa
       let begun = begun_near low high valid limits (omega (arith, own)) reach in
       let most : at ≤ℤ pos 10_000_000_000_000 = grind linear in
       let come = come_by ts k at table.rising first.within since in
-      let within = place_most ts at table.rising in
-      let here : place_at ts at ≡ k = grind (linear, before_next at t is, come_from ts (suc k) at) in
+      let here : place_at ts at ≡ k = grind (linear, before_next at t is, come_from ts (suc k) at, place_most ts at) in
       record {
         shown = grind linear;
         first = λ v s h. by_lt_z v at

@@ -155,15 +155,8 @@ pub ruleset beginning = (come_from, place_most)
 pub without_transitions : {T : Type 0} (view : T → LocalType) (z : Zone) (u : ℤ) (r : Result T Error) → length z.transitions ≡ 0
     → MatchResult r (λ t. RuleOrType z u 0 (view t)) (λ e. (e ≡ FindLocalTimeType YearThatRuleAnswersIn) × IsRefusedBy z.rule u)
     → MatchResult r (λ t. TypeAt z u (view t)) (IsTypeError z u)
-without_transitions _ z u (Ok t) e k =
-    record {
-      leap_time = u;
-      of_second = λ p. absurd (omega arith);
-      in_force = grind (arith, no_items);
-    }
-without_transitions view z u (Err x) e k =
-    let f = no_items _ e in
-    (by_rule u (λ p. absurd (omega arith)) (rw f) k.1, k.0)
+without_transitions _ z u (Ok t) e k = record { leap_time = u; of_second = λ p. absurd (omega arith); in_force = grind (arith, no_items) }
+without_transitions view z u (Err x) e k = (by_rule u (λ p. absurd (omega arith)) (rw (no_items _ e)) k.1, k.0)
 
 -- with transitions the second's leap time is asked
 pub with_transitions : {T : Type 0} (view : T → LocalType) (z : Zone) (u x : ℤ) (r : Result T Error) → IsLeapTime z.leaps u x

@@ -9,9 +9,9 @@ use Rattle.tz_info.proofs.{
   TableLaws.{same_table, table_of, top_least},
   WallSegments.{leap_time_of, near_wide, type_there},
   Words.{AreEndsWithin, AreShownWithin, AreWithin, Bool, HasType, HaveOneTypeFrom, IsEndWithin, IsFirstAtOrAfter, IsGreatest, IsLeapTime, IsLeast, IsNear},
-  Words.{IsNeverWithin, IsNextRun, IsUtOffset, IsValid, IsWide, IsWindowOf, IsWithinRun, LocalType, Option, Precedes, RuleAt, SFits, ShownSeconds, Shows},
-  Words.{ShowsWithin, Some, TransitionRule, TypeAt, Zone, arith, begin_of, by_lt_z, cases_lt, index_of, length, linear, offsets, place_at, pos, refl},
-  Words.{segment_of, subst, suc, top_of, unsigned_abs, w32, w64, zero, ℕ, ℤ, ⊎_elim, ◌+ℤ◌, ◌-ℤ◌, ◌<ℤ◌, ◌<◌, ◌↔◌, ◌≡◌, ◌≤ℤ◌, ◌≤◌},
+  Words.{IsNextRun, IsUtOffset, IsValid, IsWide, IsWindowOf, IsWithinRun, LocalType, Option, Precedes, RuleAt, SFits, ShownSeconds, Shows, ShowsWithin, Some},
+  Words.{TransitionRule, TypeAt, Zone, arith, begin_of, by_lt_z, cases_lt, index_of, length, linear, offsets, place_at, pos, refl, segment_of, subst, suc},
+  Words.{top_of, unsigned_abs, w32, w64, zero, ℕ, ℤ, ⊎_elim, ◌+ℤ◌, ◌-ℤ◌, ◌<ℤ◌, ◌<◌, ◌↔◌, ◌≡◌, ◌≤ℤ◌, ◌≤◌},
   ZoneChanges.time_of,
   ZoneLaws.{inside_listed, type_once},
 }
@@ -28,9 +28,6 @@ all_within z _ _ low _ w = record {
   near_high = w.near_high;
   within = λ u t h. grind (linear, at_most_greatest z u _ t w.greatest h.type, at_least_least z u _ t w.least h.type);
 }
-
-pub none_left : (z : Zone) (from until low high : ℤ) → AreWithin z from until low high → high ≤ℤ low → IsNeverWithin (TypeAt z) from until
-none_left z from until low high all h u t k = grind linear
 
 -- what shows a local time of the stretch lies between two seconds, and a run has one type
 module _ {z : Zone} {from until low high : ℤ} (start end : ℤ) (t : LocalType) (all : AreWithin z from until low high)
@@ -121,10 +118,9 @@ module _ (z : Zone) (e : Entries) (k : ℕ) (t : ℤ) (valid : IsValid z) (made 
         (λ before.
         let top = top_least z.rule e made.more in
         let most = at_most_greatest z u g s greatest shows.type in
-        let near : IsNear m = (omega linear, omega linear) in
         let fits : SFits w64 m = omega linear in
-        let none : IsReached _ e.items k m → ⊥ = λ r. let less = (latest m fits).1 r in omega linear in
-        let less = shows_less z e.items _ k m u s (table_of z e valid made) within near none shows.fits before (omega arith) shows.type in
+        let less = shows_less z e.items _ k m u s (table_of z e valid made) within (omega linear, omega linear)
+        (λ r. let less = (latest m fits).1 r in omega linear) shows.fits before (omega arith) shows.type in
         omega linear)
         (λ not. let most = since.last m u s (begun_by _ k u made.rising within (omega arith) shows.fits) come shows in omega linear)
         (cases_lt (place_at _ u) k))
@@ -135,21 +131,19 @@ module _ (z : Zone) (e : Entries) (k : ℕ) (t : ℤ) (valid : IsValid z) (made 
         → IsLastReached (TypeAt z) t (end -ℤ pos 1)
     ended zero less begun some inside later = grind arith
     ended (suc j) less begun some inside later =
-        let below = index_below z e j valid made (omega arith) in
-        let (s, has) = inside_listed _ _ below in
-        let most = listed_at_most z _ g s greatest below has in
+        let (s, has) = inside_listed _ _ (index_below z e j valid made (omega arith)) in
+        let most = listed_at_most z _ g s greatest (index_below z e j valid made (omega arith)) has in
         let order = (come_from e.items (suc j) (begin_of e.items k) made.rising some (omega arith)).0
         (let all = place_begin _ k made.rising (omega arith) within in omega arith) in
         let next : ℤ = begin_of e.items (suc j) in
         let ahead = (saturated (next +ℤ s.offset) (t +ℤ pos 2_147_483_648) (omega linear, omega linear)).1 (omega linear) in
         let ends = rw (end_at _ _ j s has) at later in
-        let past : (end -ℤ pos 1) <ℤ (next +ℤ s.offset) = by_lt_z (end -ℤ pos 1) (next +ℤ s.offset) (λ m. m)
-        (λ m. let back = (saturated _ (end -ℤ pos 1) (omega linear, omega linear)).1 m in omega linear) in
+        let past : (end -ℤ pos 1) <ℤ (next +ℤ s.offset) = grind (linear, saturated (next +ℤ s.offset) (end -ℤ pos 1) (omega linear, omega linear)) in
         let fits : SFits w64 (next -ℤ pos 1) = omega linear in
         let place = place_before e.items j made.rising (omega arith) in
         let top = top_least z.rule e made.more in
-        let last = none_later (end -ℤ pos 1) in
         let type = (table_of z e valid made).in_force (next -ℤ pos 1) s (omega linear, omega linear) (omega arith) (rw place has) in
+        let last = none_later (end -ℤ pos 1) in
         let most = last _ (next -ℤ pos 1) s (omega linear) (omega linear) (omega linear) (record { fits = fits; type = type; shown = refl }) in
         record {
           at = next -ℤ pos 1;

@@ -83,23 +83,20 @@ pub no_change : (z : Zone) (u v : ℤ) (s t : LocalType) → IsValid z → IsRul
 no_change z u v s t valid limits fits fits_end h none k l =
     type_once z v s t (stays _ u v s fits fits_end h none (λ w since until. typed_between z u v w s t valid since until k l limits) k) l
 
-abbrev pub seconds_of : Option Change → Option ℤ
-seconds_of found = option_map (λ c. c.at) found
-
 -- ---- a span goes from the last change or the first second with a type to the next change or the last second with a type
 -- a second with a type, from which on the span's seconds come, and up to which they come
 record IsLow (z : Zone) (u : ℤ) (t : LocalType) (last : Option Change) (from : Option ℤ) : Type 0 where
   low : ℤ
   typed : IsTyped z low
   since : IsSince from u
-  later : (v : ℤ) → SFits w64 v → IsSince from v → (low ≤ℤ v) × IsSince (seconds_of last) v
+  later : (v : ℤ) → SFits w64 v → IsSince from v → (low ≤ℤ v) × IsSince (option_map (λ c. c.at) last) v
   begins : IfSome from (λ x. IsOutOfForce (TypeAt z) t (x -ℤ pos 1))
 
 record IsHigh (z : Zone) (u : ℤ) (t : LocalType) (next : Option Change) (until : Option ℤ) : Type 0 where
   high : ℤ
   typed : IsTyped z high
   before : IsUntil until u
-  earlier : (v : ℤ) → SFits w64 v → IsUntil until v → (v ≤ℤ high) × IsUntil (seconds_of next) v
+  earlier : (v : ℤ) → SFits w64 v → IsUntil until v → (v ≤ℤ high) × IsUntil (option_map (λ c. c.at) next) v
   ends : IfSome until (IsOutOfForce (TypeAt z) t)
 
 -- a second with its type in a valid zone

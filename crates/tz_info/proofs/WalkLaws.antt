@@ -9,12 +9,9 @@ use Rattle.tz_info.proofs.{
   WallSegments.{leap_time_of, near_of, rule_begun, type_in_table, type_of_table},
   Words.{AreUtOffsets, Bool, Counts, IsNear, IsShownIn, IsStart, IsTried, IsValid, IsWallAnswer, IsWide, IsWindow, List, LocalResult, LocalType, None, Option},
   Words.{RoseByWalk, RoseWithin, RuleAt, Shows, Some, Transition, TransitionRule, TypeAt, TypeFrom, Zone, [], arith, begin_of, cases_lt, come_between, digits},
-  Words.{digits-le, filter, get_or, get_or_default, index_of, inl, inr, length, linear, reads_more, segment_of, suc, sym, table_count, true, zero, ℕ, ℤ},
-  Words.{⊎_elim, ◌+ℤ◌, ◌+◌, ◌-ℤ◌, ◌<ℤ◌, ◌<◌, ◌∷◌, ◌≡◌, ◌≤ℤ◌, ◌≤◌, ◌⊎◌},
+  Words.{filter, get_or, get_or_default, index_of, inl, inr, length, linear, reads_more, segment_of, suc, sym, table_count, true, zero, ℕ, ℤ, ⊎_elim, ◌+ℤ◌},
+  Words.{◌+◌, ◌-ℤ◌, ◌<ℤ◌, ◌<◌, ◌∷◌, ◌≡◌, ◌≤ℤ◌, ◌≤◌, ◌⊎◌},
 }
-
--- a number has fewer digits than a list can have items
-pub ruleset room = digits-le
 
 -- ---- one segment more
 -- one segment more of the table was tried, up to the next transition if there is one, of whose seconds at most one shows the local time

@@ -146,8 +146,7 @@ module _ {z : Zone} {ts : List Transition} {top k : ℕ} {s : Segment} (table : 
         ordered = grind linear;
         most = grind arith;
         some = grind arith;
-        answers = λ l wide. by_lt_z l (cut_of ts k s.offset)
-            (λ before. grind (linear, le_false, shown_before l wide))
+        answers = λ l wide. by_lt_z l (cut_of ts k s.offset) (λ before. grind (linear, le_false, shown_before l wide))
             (λ from. grind (linear, le_false, le_true, shown_inside l wide, shown_after l wide));
       }
 

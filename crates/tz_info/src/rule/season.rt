@@ -41,7 +41,7 @@ impl AlternateTime {
     /// [`Error::OutOfRange`] if the second's UTC year is below `i32::MIN + 2` or above
     /// `i32::MAX - 2`.
     #[inline(always)]
-    #[tactic(auto, using(crate::proofs::Ranges::in_range, crate::proofs::RuleLaws::refused_outside))]
+    #[tactic(auto, using(crate::proofs::Ranges::in_range, crate::proofs::RuleLaws::rule_time))]
     pub fn find_local_time_type(&self, unix_time: i64) -> Result<&LocalTimeType, Error>
         ensures { MatchResult result
             (λ t. AlternateAt self.now unix_time t.now)
