@@ -2,12 +2,12 @@
 use Rattle.tz_info.proofs.{
   ChangeSearch.{decided, in_ahead, nearest_moved},
   ChangingYears.{none_in, one_in, steady_alike},
-  RuleChanges.{change_again, change_then, cycles_to, rule_second, same_or_not, seconds_follow, year_on, years_rise},
+  ListFaults.equal_known,
+  RuleChanges.{change_again, change_then, cycles_to, rule_second, seconds_follow, year_on, years_rise},
   RuleLaws.rule_year,
   Words.{Alternate, AlternateAt, AreFrom, Bool, Change, HasNoChange, HasNoneBeyond, IsAhead, IsAlternateRule, IsChange, IsNearest, IsNearestChange},
-  Words.{IsNextChanging, IsOfYear, IsRuleYear, IsStretchAhead, IsYearNear, IsYearOf, NeverChanges, None, Option, Precedes, Some, by_lt_z},
-  Words.{changes_in_year},
-  Words.{false, inl, inr, linear, neg_ℤ, pos, true, type_exact, year_at, ℕ, ℤ, ◌+ℤ◌, ◌+◌, ◌-ℤ◌, ◌<◌, ◌≡◌, ◌≤ℤ◌, ◌⊎◌},
+  Words.{IsNextChanging, IsOfYear, IsRuleYear, IsStretchAhead, IsYearNear, IsYearOf, NeverChanges, None, Option, Precedes, Some, by_lt_z, changes_in_year},
+  Words.{false, linear, neg_ℤ, pos, refl, true, type_exact, year_at, ℕ, ℤ, ⊎_elim, ◌+ℤ◌, ◌+◌, ◌-ℤ◌, ◌<◌, ◌≡◌, ◌≤ℤ◌, ◌⊎◌},
 }
 
 -- ahead of the second, and the second before lies in the year
@@ -32,8 +32,7 @@ module _ (a : Alternate) (s : ℤ) (d : Change) (y : ℤ) (is : IsChange (Altern
 
   -- changes ahead come in the year of the second, or beyond it
   here_or_beyond : (w : Bool) (first : ℤ) → IsYearNear s first → IsAhead w s d.at → Precedes w first y
-  here_or_beyond true first h ahead = grind (linear, order)
-  here_or_beyond false first h ahead = let (up, down) = order first h in omega linear
+  here_or_beyond w first h ahead = let (up, down) = order first h in grind linear
 
   -- if the year has none, all come beyond it
   beyond_only : (w : Bool) (first : ℤ) → IsYearNear s first → HasNoChange (AlternateAt a) (IsAheadIn w s first) → IsAhead w s d.at
@@ -67,10 +66,9 @@ module _ (w : Bool) (a : Alternate) (s : ℤ) where
   found_first year c all k = record {
     is = k.is;
     inside = k.inside.0;
-    nearest = λ d is ahead. elim (same_or_not is.before.year _) [
-      | inl e ↦ k.nearest d is (ahead, rw e at is.before.of_second)
-      | inr not ↦ seconds_follow w _ _ _ _ k.inside.1 is.before.of_second not (all d is ahead is.before.year is.before.of_second)
-    ];
+    nearest = λ d is ahead. ⊎_elim (λ e. k.nearest d is (ahead, rw e at is.before.of_second))
+        (λ not. seconds_follow w _ _ _ _ k.inside.1 is.before.of_second not (all d is ahead is.before.year is.before.of_second))
+        (equal_known is.before.year _);
   }
 
   module _ (first : ℤ) (h : IsYearNear s first) where
@@ -88,15 +86,13 @@ module _ (w : Bool) (a : Alternate) (s : ℤ) where
       nearest_next year None rule next empty = λ d is ahead.
           let y = is.before.year in
           let on = next.from d is y is.before.of_second (beyond_only a s d y is is.before.of_second w _ h none ahead) in
-          elim (decided _ _ (type_exact a.std a.dst)) [
-            | inl same ↦ is.differ (steady_alike a same (d.at -ℤ pos 1) d.at d.before d.after is.before is.after)
-            | inr differ ↦ elim (one_or_last w _ _ y h.inside next.inside is.before.inside next.beyond on) [
-              | inl more ↦
-                  let (e, is_e, of_year) = one_in a rule _ next.inside more differ next.changes in
-                  empty e is_e (ahead_by_year a s e _ is_e of_year w _ h next.beyond, of_year)
-              | inr last ↦ empty d is (ahead, rw last at is.before.of_second)
-            ]
-          ]
+          ⊎_elim (λ same. is.differ (steady_alike a same (d.at -ℤ pos 1) d.at d.before d.after is.before is.after))
+          (λ differ. ⊎_elim
+          (λ more.
+          let (e, is_e, of_year) = one_in a rule _ _ next.inside more differ refl next.changes in
+          empty e is_e (ahead_by_year a s e _ is_e of_year w _ h next.beyond, of_year))
+          (λ last. empty d is (ahead, rw last at is.before.of_second)) (one_or_last w _ _ y h.inside next.inside is.before.inside next.beyond on))
+          (decided _ _ (type_exact a.std a.dst))
       nearest_next year (Some c) rule next k = found_first _ c
           (λ d is ahead y of_year. next.from d is y of_year (beyond_only a s d y is of_year w _ h none ahead)) k
 
@@ -108,7 +104,7 @@ pub from_next : (a : Alternate) (w : Bool) (first : ℤ) (n : ℕ) → IsAlterna
     → AreFrom a w first (year_at w first n)
     → AreFrom a w first (year_at w first (n + 1))
 from_next a w _ n rule none from d is y of_year beyond =
-    year_on w _ y n (λ e. none_in a rule _ none d is (rw e at of_year)) (from d is y of_year beyond)
+    year_on w _ y n (λ e. none_in a rule _ _ refl none d is (rw e at of_year)) (from d is y of_year beyond)
 
 pub none_out : (a : Alternate) (w : Bool) (first : ℤ) (n : ℕ) → IsRuleYear first → (IsRuleYear (year_at w first n) → ⊥) → AreFrom a w first (year_at w first n)
     → HasNoneBeyond a w first

@@ -3,8 +3,8 @@ use Rattle.offset_core.specs.declared.local_result.LocalResult.TheVariants.{None
 use Rattle.tz_info.proofs.{
   AnswerLaws.same_answer,
   RuleLaws.rule_once,
-  Words.{Alternate as AlternateRule, AlternateAt, Contains, FitsSigned, IsAskedLast, IsWallAnswer, LocalResult, LocalType, RuleAt, Shows, Some},
-  Words.{TransitionRule, TypeFrom, arith, inl, inr, joined, linear, rule_offsets, w64, ℤ, ◌+ℤ◌, ◌-ℤ◌, ◌<ℤ◌, ◌≡◌, ◌≤ℤ◌, ◌⊎◌},
+  Words.{Alternate as AlternateRule, AlternateAt, Contains, FitsSigned, IsAskedLast, IsWallAnswer, LocalResult, LocalType, RuleAt, Shows, Some, TransitionRule},
+  Words.{TypeFrom, arith, inl, inr, joined, linear, rule_offsets, w64, ℤ, ◌+ℤ◌, ◌-ℤ◌, ◌<ℤ◌, ◌≡◌, ◌≤ℤ◌, ◌⊎◌},
 }
 use Rattle.tz_info.specs.declared.rule.transition_rule.TransitionRule.TheVariants.{Alternate}
 
@@ -13,11 +13,6 @@ pub shown_at : (u l : ℤ) (t s : LocalType) → u +ℤ t.offset ≡ l → t ≡
 shown_at u l t s h e = grind linear
 
 -- ---- all candidates, none before them
--- one
-pub asked_one : (at : ℤ → LocalType → Type 0) (l o : ℤ) (after : LocalResult LocalType) → ((u : ℤ) (t : LocalType) → Shows at l u t → u ≡ l -ℤ o)
-    → IsAskedLast at l o None after → IsWallAnswer (Shows at l) after
-asked_one at l o after only h = grind linear
-
 -- two, the greater offset first, since its second is the earlier one
 pub asked_both : (at : ℤ → LocalType → Type 0) (l o p : ℤ) (one two : LocalResult LocalType) → p <ℤ o
     → ((u : ℤ) (t : LocalType) → Shows at l u t → (u ≡ l -ℤ o) ⊎ (u ≡ l -ℤ p)) → IsAskedLast at l o None one → IsAskedLast at l p one two
@@ -36,7 +31,7 @@ module _ (a : AlternateRule) (t : LocalType) where
   std_or_dst _ l u s = grind (arith, shown_at)
 
   pub dst_or_std : (from l u : ℤ) → Shows (TypeFrom (Alternate a) from) l u t → (u ≡ l -ℤ a.dst.offset) ⊎ (u ≡ l -ℤ a.std.offset)
-  dst_or_std _ l u s = elim (std_or_dst _ l u s) [ inl e ↦ inr e | inr e ↦ inl e ]
+  dst_or_std from l u s = let o = std_or_dst from l u s in grind arith
 
 -- the offset of a rule's type is one of the rule's offsets
 pub offset_of_rule : (rule : TransitionRule) (u : ℤ) (t : LocalType) → RuleAt rule u t → Contains (rule_offsets (Some rule)) t.offset
@@ -45,10 +40,7 @@ offset_of_rule rule u t k = grind (linear, one_of_two)
 -- if both offsets are equal
 pub one_second : (a : AlternateRule) (from l : ℤ) → a.std.offset ≡ a.dst.offset → (u : ℤ) (t : LocalType)
     → Shows (TypeFrom (Alternate a) from) l u t → u ≡ l -ℤ a.std.offset
-one_second a from l same u t s = elim (std_or_dst a t _ l u s) [
-  | inl e ↦ e
-  | inr e ↦ omega linear
-]
+one_second a from l same u t s = let o = std_or_dst a t from l u s in grind linear
 
 -- the rule's type decides at a candidate
 pub asked_found : (rule : TransitionRule) (from l o : ℤ) (t : LocalType) (before : LocalResult LocalType) → FitsSigned w64 (l -ℤ o) → from ≤ℤ (l -ℤ o)

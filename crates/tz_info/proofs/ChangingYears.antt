@@ -7,13 +7,12 @@ use Rattle.tz_info.proofs.{
   Neighbours.{KeepsMargin, dst_by_three, ends_near, in_year, starts_near},
   RuleChanges.{change_near, rule_second, rule_until},
   RuleLaws.{alternate_at, alternate_once, rule_time, rule_year},
-  SeasonLaws.{season_made},
+  SeasonLaws.season_made,
   Words.{Alternate, AlternateAt, Bool, Change, Contains, DayTime, HasNoChange, IsAlternateRule, IsCalmRule, IsChange, IsNearest, IsOfYear, IsRuleDay},
   Words.{IsRuleTime, IsRuleYear, IsYearOf, List, LocalType, NeverChanges, Option, ap, are_calm, arith, by_lt_z, changing_keys, cond, days_at_least},
-  Words.{days_at_most, end_in, false, floor_div, floors, get_or, get_or-eq_default, get_or-map, get_or_default, inl, inr, int_le, int_lt},
-  Words.{is_dst_by_one, key_years, length, length-map, lies_in, linear, lt_false, lt_true, margin_of, moment, moments_near, nearer_one, new_year},
-  Words.{not, pos, refl, seconds_by_kind, start_in, sym, true, turn_of, type_when, year_step, ℕ, ℤ, ⊎_elim, ◌+ℤ◌, ◌-ℤ◌, ◌<ℤ◌, ◌<◌, ◌∙◌, ◌≡◌, ◌≢◌},
-  Words.{◌≤ℤ◌, ◌⊎◌},
+  Words.{days_at_most, end_in, false, floor_div, floors, get_or, get_or-eq_default, get_or-map, get_or_default, inl, inr, int_le, int_lt, is_dst_by_one},
+  Words.{key_years, length-map, lies_in, linear, lt_false, lt_true, margin_of, moment, moments_near, nearer_one, new_year, not, pos, refl, seconds_by_kind},
+  Words.{start_in, sym, true, turn_of, type_when, year_step, ℕ, ℤ, ⊎_elim, ◌+ℤ◌, ◌-ℤ◌, ◌<ℤ◌, ◌<◌, ◌∙◌, ◌≡◌, ◌≢◌, ◌≤ℤ◌, ◌⊎◌},
   YearKeys.{changing_alike, key_below, key_count, keys_are},
 }
 use Rattle.tz_info.specs.{
@@ -47,13 +46,8 @@ module _ (a : Alternate) (year : ℤ) (dst : ℤ → Bool) (tells : Tells a year
       → IsChange (AlternateAt a) (record { at = u; before = type_when a (dst (u -ℤ pos 1)); after = type_when a (dst u) })
   turn u inside time of_year types differ =
       let before = rule_time _ _ of_year inside in let (low, high) = in_year _ _ of_year in
-      record {
-        fits = omega linear;
-        fits_before = omega linear;
-        before = tells _ before low (omega linear);
-        after = tells _ time (omega linear) (omega linear);
-        differ = grind arith;
-      }
+      let then = tells _ before low (omega linear) in let here = tells _ time (omega linear) (omega linear) in
+      record { fits = omega linear; fits_before = omega linear; before = then; after = here; differ = grind arith }
 
 -- ---- by the moments of years near it
 -- it begins or ends
@@ -97,13 +91,12 @@ module _ (a : Alternate) (rule : IsAlternateRule a) where
   near_tells : (year : ℤ) → Tells a year (dst_near (years_near (start_in a) (end_in a) year))
   near_tells year u time low high =
       let next = year +ℤ pos 1 in
-      by_lt_z u (new_year next)
-      (λ l. rw (lt_true u _ l) (own_type year u (omega (arith, floors)) time))
-      (λ m.
       let step = year_step next in let least = days_at_least next in
       let e : next -ℤ pos 1 ≡ year = omega linear in
       let f : next +ℤ pos 1 ≡ year +ℤ pos 2 = omega linear in
-      rw (lt_false u _ m) (rw (e, f) at (own_type next u (omega (arith, floors)) time)))
+      by_lt_z u (new_year next)
+      (λ l. rw (lt_true u _ l) (own_type year u (omega (arith, floors)) time))
+      (λ m. rw (lt_false u _ m) (rw (e, f) at (own_type next u (omega (arith, floors)) time)))
 
   near_by_kind : (year : ℤ) → years_near (start_in a) (end_in a) year ≡ years_near (moment_by (starts_of a)) (moment_by (ends_of a)) year
   near_by_kind year = grind (linear, by_kind)
@@ -120,7 +113,7 @@ module _ (a : Alternate) (rule : IsAlternateRule a) where
         (season_made a _ _ _ _ calm_margin refl refl refl refl refl).decided u time (omega (arith, floors))
 
     inside : (year : ℤ) (to_dst : Bool) → IsYearOf (turn_of a to_dst year) year × IsYearOf (turn_of a to_dst year -ℤ pos 1) year
-    inside year to_dst = let s = amid _ year calm_margin.start in let e = amid _ year calm_margin.end in grind arith
+    inside year to_dst = grind (arith, amid _ year calm_margin.start, amid _ year calm_margin.end)
 
     -- if they are two, clocks change at each
     pub turn_change : (year : ℤ) (to_dst : Bool) → IsRuleYear year → a.std ≢ a.dst → start_in a year ≢ end_in a year
@@ -140,14 +133,11 @@ module _ (a : Alternate) (rule : IsAlternateRule a) where
     nearest_of_two w year after last found other h k =
         nearest_moved w (AlternateAt a) _ _ _ _
         (λ d is of. (is, ⊎_elim (λ e. inl (e, of.inside)) (λ e. inr (e, of.inside)) (at_moments year d is of.of_year)))
-        (λ d is. ⊎_elim
-        (λ p. (is, record { inside = p.1; of_year = rw p.0 at (inside year true).1 }))
-        (λ p. (is, record { inside = p.1; of_year = rw p.0 at (inside year false).1 })))
-        (nearest_either w (AlternateAt a) _ _ found _ (asked w _ _ _ _ _ h)
-        (asked w _ _ _ _ _ k))
+        (λ d is p. (is, let e = inside year true in let f = inside year false in grind linear))
+        (nearest_either w (AlternateAt a) _ _ found _ (asked w _ _ _ _ _ h) (asked w _ _ _ _ _ k))
 
     pub none_of_one : (year : ℤ) → start_in a year ≡ end_in a year → HasNoneIn a year
-    none_of_one year one d is of_year = let turn = no_turn a year _ (calm_tells year) d is of_year in grind linear
+    none_of_one year one = grind (linear, no_turn a year _ (calm_tells year))
 
   apart_by_kind : (year : ℤ) → let kind = kind_place year in
       let two = are_apart (get_or (starts_of a) kind (pos 0)) (get_or (ends_of a) kind (pos 0)) in
@@ -158,30 +148,25 @@ module _ (a : Alternate) (rule : IsAlternateRule a) where
       let (one, two) = apart (get_or (starts_of a) (kind_place year) (pos 0)) (get_or (ends_of a) (kind_place year) (pos 0)) in
       (λ h. let same = one h in omega linear, λ h same. two h (omega linear))
 
-  none_by : (year : ℤ) (calm : Bool) → are_calm (starts_of a) (ends_of a) ≡ calm → is_changing (starts_of a) (ends_of a) calm year ≡ false → HasNoneIn a year
+  pub none_in : (year : ℤ) (calm : Bool) → are_calm (starts_of a) (ends_of a) ≡ calm → is_changing (starts_of a) (ends_of a) calm year ≡ false
+      → HasNoneIn a year
   unfolding moments_near
-  none_by year true calm none d is of_year = grind (linear, none_of_one, apart_by_kind)
-  none_by year false calm none d is of_year =
+  none_in year true calm none d is of_year = grind (linear, none_of_one, apart_by_kind)
+  none_in year false calm none d is of_year =
       let near = years_near (start_in a) (end_in a) year in
       let off = none_at (flips_at near) (seconds_near near) _ (change_near a _ d rule is of_year) (ap (λ y. has_flip y) (near_by_kind year) ∙ none) in
       let (low, high) = in_year _ _ of_year in
       no_turn a year _ (near_tells year) d is of_year (flip_off near.first near.next d.at _ _ (omega linear) (omega linear) off)
 
-  pub none_in : (year : ℤ) → changes_in_year a year ≡ false → HasNoneIn a year
-  none_in _ none = none_by _ _ refl none
-
-  one_by : (year : ℤ) (calm : Bool) → IsRuleYear year → IsRuleYear (year +ℤ pos 1) → a.std ≢ a.dst → are_calm (starts_of a) (ends_of a) ≡ calm
+  pub one_in : (year : ℤ) (calm : Bool) → IsRuleYear year → IsRuleYear (year +ℤ pos 1) → a.std ≢ a.dst → are_calm (starts_of a) (ends_of a) ≡ calm
       → is_changing (starts_of a) (ends_of a) calm year ≡ true → HasOneIn a year
-  one_by year true of_rule next types calm some = (_, turn_change calm year true of_rule types ((apart_by_kind year).1 some), (inside calm year true).1)
-  one_by year false of_rule next types calm some =
+  one_in year true of_rule next types calm some = (_, turn_change calm year true of_rule types ((apart_by_kind year).1 some), (inside calm year true).1)
+  one_in year false of_rule next types calm some =
       let near = years_near (start_in a) (end_in a) year in
       let (k, u, below, at, on) = Any-from_list_any (flips_at near) (seconds_near near) (ap (λ y. has_flip y) (near_by_kind year) ∙ some) in
       let (low, high, differ) = flip_on _ _ u _ _ on in
       let of_year : IsYearOf (u -ℤ pos 1) year = omega (arith, floors) in
       (_, turn a year _ (near_tells year) u of_rule (rule_until u year of_year of_rule next) of_year types differ, of_year)
-
-  pub one_in : (year : ℤ) → IsRuleYear year → IsRuleYear (year +ℤ pos 1) → a.std ≢ a.dst → changes_in_year a year ≡ true → HasOneIn a year
-  one_in _ of_rule next types some = one_by _ _ of_rule next types refl some
 
 -- ---- by the year's key
 key_at : (starts ends : List ℤ) (k : ℕ) → k < 35
@@ -197,10 +182,6 @@ none_of_all keys k none = grind (arith, list_any_at, get_or-eq_default)
 
 pub steady_alike : (a : Alternate) → a.std ≡ a.dst → NeverChanges a
 steady_alike a same u v s t h k = grind linear
-
-key_total : (a : Alternate) → length (keys_of a) ≡ 35
-unfolding changing_keys
-key_total a = grind (arith, length-map, key_count)
 
 -- a rule
 module _ (a : Alternate) (rule : IsAlternateRule a) where
@@ -219,15 +200,16 @@ module _ (a : Alternate) (rule : IsAlternateRule a) where
   pub steady_without : list_any (λ b. b) (keys_of a) ≡ false → NeverChanges a
   steady_without none u v s t h k =
       let never : (d : Change) → IsChange (AlternateAt a) d → ⊥ =
-      λ d is. none_in a rule _ (sym (by_key a is.before.year) ∙ none_of_all (keys_of a) _ none) d is is.before.of_second in
+      λ d is. none_in a rule _ _ refl (sym (by_key a is.before.year) ∙ none_of_all (keys_of a) _ none) d is is.before.of_second in
       by_lt_z v u (λ l. sym (unchanged v u t s (λ d is i. never d is) k h (omega linear))) (λ m. unchanged u v s t (λ d is i. never d is) h k m)
 
   pub unsteady : a.std ≢ a.dst → list_any (λ b. b) (keys_of a) ≡ true → NeverChanges a → ⊥
+  unfolding changing_keys
   unsteady types some never =
       let (k, b, below, at, on) = Any-from_list_any (λ b. b) (keys_of a) some in
-      let few = rw (key_total a) at below in
+      let few : k < 35 = grind (arith, length-map, key_count) in
       let bound = keys_are k few in
       let e = get_or_default (keys_of a) k false b below ∙ at ∙ on in
-      let (d, is, of_year) = one_in a rule (get_or key_years k (pos 0)) (omega linear) (omega linear) types
+      let (d, is, of_year) = one_in a rule (get_or key_years k (pos 0)) _ (omega linear) (omega linear) types refl
       (sym (key_at _ _ k few) ∙ e) in
       is.differ (never (d.at -ℤ pos 1) d.at d.before d.after is.before is.after)

@@ -1,17 +1,14 @@
 -- The least and the greatest of some offsets.
 use Rattle.tz_info.proofs.{
-  Candidates.one_of_two,
   Words.{All-contains, All-push, AreExtremes, AreJoined, AreJoinedByRule, Contains, Contains-append_left, Contains-append_right, Contains-push, Extremes},
-  Words.{IsEnd, IsGreatest, IsLeast, IsTypeOf, IsWindowOf, List, LocalType, Option, SFits, Some, TransitionRule, TypeAt, Zone, [], append_assoc},
-  Words.{get_or-map, inl, inr, length, length-map, linear, offsets, offsets_of, rule_offsets, slice_get, slice_get-get_or, w32, ℕ},
-  Words.{ℤ, ◌++◌, ◌+◌, ◌-ℤ◌, ◌<◌, ◌∷◌, ◌≡◌, ◌≤ℤ◌, ◌⊎◌},
+  Words.{IsEnd, IsGreatest, IsLeast, IsWindowOf, List, LocalType, Option, SFits, Some, TransitionRule, TypeAt, Zone, [], append_assoc, get_or-map, length},
+  Words.{length-map, linear, offsets, offsets_of, rule_offsets, slice_get, slice_get-get_or, w32, ℕ, ℤ, ⊎_elim, ◌++◌, ◌-ℤ◌, ◌<◌, ◌∷◌, ◌≡◌, ◌≤ℤ◌, ◌⊎◌},
   ZoneLaws.type_listed,
 }
 use Rattle.tz_info.specs.declared.rule.transition_rule.TransitionRule.TheVariants.{Alternate, Fixed}
 
 pushed : (xs : List ℤ) (x y o : ℤ) → Contains xs x → (y ≡ x) ⊎ (y ≡ o) → Contains (xs ++ o ∷ []) y
-pushed xs x y o c (inl e) = rw e (Contains-append_left xs (o ∷ []) x c)
-pushed xs x y o c (inr e) = rw e (Contains-push xs o)
+pushed xs x y o c e = grind (linear, Contains-append_left xs (o ∷ []) x c, Contains-push xs o)
 
 -- one offset more
 pub joined : (xs : List ℤ) (e : Extremes) (o : ℤ) (r : Extremes) → AreExtremes xs e → AreJoined e o r → AreExtremes (xs ++ o ∷ []) r
@@ -35,18 +32,13 @@ rule_joined types _ (Alternate a) e r is h (one, f, g) =
     rw is (rw append_assoc at s)
 
 -- ---- the offset of a type in force is one of them
-pub rule_among : (rule : Option TransitionRule) (u : ℤ) (t : LocalType) → IsTypeOf rule u t → Contains (rule_offsets rule) t.offset
-rule_among rule u t h = grind (linear, one_of_two)
-
 listed_among : (types : List LocalType) (k : ℕ) (t : LocalType) → k < length types → slice_get types k ≡ Some t → Contains (offsets_of types) t.offset
 listed_among types k t h e =
     (k, simp length-map h, let g = slice_get-get_or types k t h in let m = get_or-map (λ (t : LocalType). t.offset) types k t t.offset h in grind linear)
 
 pub in_force_among : (z : Zone) (u : ℤ) (t : LocalType) → TypeAt z u t → Contains (offsets z.types z.rule) t.offset
-in_force_among z u t a = elim (type_listed z u t a) [
-  | inl i ↦ Contains-append_left (offsets_of z.types) (rule_offsets z.rule) _ (listed_among _ i.0 t i.1 i.2)
-  | inr h ↦ Contains-append_right (offsets_of z.types) (rule_offsets z.rule) _ (rule_among _ u t h)
-]
+in_force_among z u t a = ⊎_elim (λ i. Contains-append_left (offsets_of z.types) (rule_offsets z.rule) _ (listed_among _ i.0 t i.1 i.2))
+    (λ h. Contains-append_right (offsets_of z.types) (rule_offsets z.rule) _ (grind linear)) (type_listed z u t a)
 
 pub at_most_greatest : (z : Zone) (u g : ℤ) (t : LocalType) → IsGreatest (offsets z.types z.rule) g → TypeAt z u t → t.offset ≤ℤ g
 at_most_greatest z u g t h a = All-contains (λ x. x ≤ℤ g) (offsets _ z.rule) _ h.most (in_force_among z u t a)

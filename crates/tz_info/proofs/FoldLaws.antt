@@ -2,8 +2,7 @@
 use Rattle.offset_core.specs.WallAnswer.{IsShownBetween}
 use Rattle.tz_info.proofs.{
   SpanLaws.until_less,
-  Words.{HasFold, IsInSpan, IsNear, IsSince, IsSpanAt, LocalType, None, Shows, Some, Span, TypeAt, Zone, ap, by_lt_z, linear, pos, ℤ, ◌+ℤ◌, ◌-ℤ◌, ◌<ℤ◌, ◌≡◌},
-  Words.◌≤ℤ◌,
+  Words.{HasFold, IsInSpan, IsNear, IsSince, IsSpanAt, LocalType, Shows, Some, Span, TypeAt, Zone, ap, by_lt_z, linear, pos, ℤ, ◌+ℤ◌, ◌-ℤ◌, ◌<ℤ◌, ◌≡◌, ◌≤ℤ◌},
   ZoneLaws.type_once,
 }
 use Rattle.tz_info.specs.Steps.Folds.{AreEndsOfFold, IsBackTo}
@@ -26,70 +25,51 @@ not_more z _ _ last end t ends back here = grind (linear, same_offset)
 module _ (z : Zone) (local first last end : ℤ) (s : Span) (ends : AreEndsOfFold z local first last) (back : IsBackTo z local first last end)
     (at : IsSpanAt (TypeAt z) end s) where
   -- the first second doesn't lie in the span of `end`
-  first_outside : IsSince s.from first → ⊥
+  pub first_outside : IsSince s.from first → ⊥
   first_outside since =
       let is_first = ends.is_first in
-      let inside : IsInSpan s first = record {
-        fits = rw is_first at ends.several.at_first.fits;
-        since = since;
-        until = until_less _ _ end at.inside.until (omega linear);
-      } in
-      grind (
-        linear,
-        not_more z _ _ _ end _ ends back at.in_force_then,
-        same_offset z _ _ _ (rw is_first at ends.several.at_first.type) (at.span.each first inside),
-      )
+      grind (linear, not_more z _ _ _ end _ ends back at.in_force_then, same_offset, until_less s.until first end)
 
-  -- so the span of `end` begins after it
-  pub begins : s.from ≡ None → ⊥
-  begins none = first_outside (rw none tt)
-
+  -- so that span begins after it
   pub begins_at : (from : ℤ) → s.from ≡ Some from → (first <ℤ from) × (from ≤ℤ end)
   begins_at from is = grind (linear, first_outside)
 
-  -- and from its begin on clocks show less
-  less_from : (from : ℤ) → IsNear first → IsNear last → s.from ≡ Some from → (u : ℤ) (t : LocalType) → from ≤ℤ u → u <ℤ last → TypeAt z u t
-      → (u +ℤ t.offset) <ℤ local
-  less_from from near_first near_last is u t since before here = by_lt_z u end
-      (λ l.
-      let begun = begins_at _ is in
-      let inside : IsInSpan s u = record { fits = omega linear; since = rw is since; until = until_less _ u end at.inside.until (omega linear) } in
-      grind (linear, not_more z _ _ _ end _ ends back at.in_force_then, same_offset z u t _ here (at.span.each u inside)))
-      (λ m. back.less u t m before here)
+  -- the ends are near, and the span begins with a change
+  module _ (from : ℤ) (before : LocalType) (near_first : IsNear first) (near_last : IsNear last) (is : s.from ≡ Some from)
+      (earlier : TypeAt z (from -ℤ pos 1) before) where
+    -- from then on clocks show less
+    less_from : (u : ℤ) (t : LocalType) → from ≤ℤ u → u <ℤ last → TypeAt z u t → (u +ℤ t.offset) <ℤ local
+    less_from u t since until here = by_lt_z u end
+        (λ l.
+        let begun = begins_at _ is in
+        let inside : IsInSpan s u = record { fits = omega linear; since = rw is since; until = until_less _ u end at.inside.until (omega linear) } in
+        grind (linear, not_more z _ _ _ end _ ends back at.in_force_then, same_offset z u t _ here (at.span.each u inside)))
+        (λ m. back.less u t m until here)
 
--- a fold's near ends, the second at which the clocks go back, and the span there
-module _ (z : Zone) (local first last end from : ℤ) (s : Span) (before : LocalType) (ends : AreEndsOfFold z local first last)
-    (back : IsBackTo z local first last end) (at : IsSpanAt (TypeAt z) end s) (near_first : IsNear first) (near_last : IsNear last) (is : s.from ≡ Some from)
-    (earlier : TypeAt z (from -ℤ pos 1) before) where
-  -- the change at its begin is the one looked for, if clocks show the local time or more before it
-  pub fold_at : local ≤ℤ ((from -ℤ pos 1) +ℤ before.offset) → HasFold (TypeAt z) local before s.local_time_type from
-  fold_at reached =
-      let begun = begins_at z _ _ _ end s ends back at _ is in
-      record {
-        first_type = ends.first_type;
-        last_type = ends.last_type;
-        several = ends.several;
-        not_later = omega linear;
-        here = at.span.each from (record {
-          fits = omega linear;
-          since = rw is (omega linear);
-          until = by_lt_z from end (λ l. until_less _ _ end at.inside.until (omega linear))
-              (λ m. let same : end ≡ from = omega linear in rw same at at.inside.until);
-        });
-        earlier = earlier;
-        reached = reached;
-        less = λ u t since until. less_from z _ _ _ end s ends back at _ near_first near_last is u t since (omega linear);
-      }
+    -- that change is the one looked for, if clocks show the local time or more before it
+    pub fold_at : local ≤ℤ ((from -ℤ pos 1) +ℤ before.offset) → HasFold (TypeAt z) local before s.local_time_type from
+    fold_at reached =
+        let begun = begins_at _ is in
+        record {
+          first_type = ends.first_type;
+          last_type = ends.last_type;
+          several = ends.several;
+          not_later = omega linear;
+          here = at.span.each from (record { fits = omega linear; since = rw is (omega linear); until = until_less _ _ end at.inside.until (omega linear) });
+          earlier = earlier;
+          reached = reached;
+          less = λ u t since until. less_from u t since (omega linear);
+        }
 
-  -- else the search goes on before it
-  pub goes_back : ((from -ℤ pos 1) +ℤ before.offset) <ℤ local → IsBackTo z local first last (from -ℤ pos 1)
-  goes_back less =
-      let begun = begins_at z local _ _ end s ends back at _ is in record {
-        after_first = by_lt_z first (from -ℤ pos 1) (λ l. l) (λ m.
-            let same : ends.several.first ≡ from -ℤ pos 1 = omega linear in
-            let offset = same_offset z _ _ _ (rw same at ends.several.at_first.type) earlier in omega linear);
-        not_later = omega linear;
-        less = λ u t since until here. by_lt_z u from
-            (λ l. let same : u ≡ from -ℤ pos 1 = omega linear in let offset = same_offset z _ t _ (rw same at here) earlier in omega linear)
-            (λ m. less_from z _ _ _ end s ends back at _ near_first near_last is u t m until here);
-      }
+    -- else the search goes on before it
+    pub goes_back : ((from -ℤ pos 1) +ℤ before.offset) <ℤ local → IsBackTo z local first last (from -ℤ pos 1)
+    goes_back less =
+        let begun = begins_at _ is in record {
+          after_first = by_lt_z first (from -ℤ pos 1) (λ l. l) (λ m.
+              let same : ends.several.first ≡ from -ℤ pos 1 = omega linear in
+              let offset = same_offset z _ _ _ (rw same at ends.several.at_first.type) earlier in omega linear);
+          not_later = omega linear;
+          less = λ u t since until here. by_lt_z u from
+              (λ l. let same : u ≡ from -ℤ pos 1 = omega linear in let offset = same_offset z _ t _ (rw same at here) earlier in omega linear)
+              (λ m. less_from u t m until here);
+        }

@@ -10,6 +10,6 @@ pub use Rattle.tz_info.proofs.{
   PosixLaws.{file_rule_fits, offset_fits, posix_zone_valid, refused_or_spelled as string_fault_or_rule},
   RuleLaws.{rule_year},
   TzFileLaws.{fault_once as file_fault_once, fault_or_zone as file_fault_or_zone, file_pieces},
-  WallTimes.{wall_decided},
+  WallLaws.{wall_decided},
   ZoneLaws.{type_decided, type_error_number, type_listed, type_not_refused, type_once},
 }

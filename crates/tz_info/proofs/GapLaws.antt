@@ -4,9 +4,9 @@ use Rattle.tz_info.proofs.{
   LeapOrder.leap_times_answer,
   RuleLaws.rule_year,
   SegmentLaws.{type_before, type_from},
-  Words.{AreLess, HasGap, IsFirstAtOrAfter, IsNear, IsNeverShown, IsRefusedBy, IsRuleOrNone, IsTypeRefused, IsValid, IsWindowOf, LocalType, None, Option},
-  Words.{Shows, Some, TransitionRule, TypeAt, Zone, by_leap_time, by_lt_z, by_rule, floor_div, inl, inr, length, lies_in, linear, pos},
-  Words.{segment_of, ℕ, ℤ, ◌+ℤ◌, ◌-ℤ◌, ◌<ℤ◌, ◌<◌, ◌∙◌, ◌≡◌, ◌≤ℤ◌, ◌⊎◌},
+  Words.{AreLess, HasGap, IsFirstAtOrAfter, IsNear, IsNeverShown, IsRuleOrNone, IsTypeRefused, IsValid, IsWindowOf, LocalType, None, Option, Shows, Some},
+  Words.{TransitionRule, TypeAt, Zone, by_leap_time, by_rule, floor_div, inl, inr, length, lies_in, linear, pos, segment_of, ℕ, ℤ, ◌+ℤ◌, ◌-ℤ◌, ◌<ℤ◌, ◌<◌, ◌∙◌},
+  Words.{◌≡◌, ◌≤ℤ◌, ◌⊎◌},
   ZoneLaws.{some_once, type_decided},
 }
 use Rattle.tz_info.specs.declared.rule.transition_rule.TransitionRule.TheVariants.{Alternate, Fixed}
@@ -15,12 +15,9 @@ abbrev pub IsNever : Zone → ℤ → Type 0
 IsNever z l = IsNeverShown (Shows (TypeAt z) l)
 
 -- ---- each near second has a type
-near_rule : (rule : Option TransitionRule) (u : ℤ) → IsNear u → IsRefusedBy rule u → ⊥
-near_rule rule u near h = grind (linear, lies_in (floor_div u 86_400), rule_year u)
-
 pub near_not_refused : (z : Zone) (u : ℤ) → IsValid z → IsNear u → IsTypeRefused z u → ⊥
 near_not_refused z u valid near (by_leap_time some refused) = leap_times_answer _ u valid.leaps near.0 near.1 refused
-near_not_refused z u valid near (by_rule x _ _ refused) = near_rule _ u near refused
+near_not_refused z u valid near (by_rule x _ _ refused) = grind (linear, lies_in (floor_div u 86_400), rule_year u)
 
 pub near_type : (z : Zone) (u : ℤ) → IsValid z → IsRuleOrNone z.rule → IsNear u → (t : LocalType) × TypeAt z u t
 near_type z u valid limits near = elim (type_decided z u valid limits) [ inl t ↦ t | inr r ↦ absurd (near_not_refused z u valid near r) ]
@@ -59,8 +56,7 @@ gap_found z l low _ c s t never reach far all here more before = record {
   never = never;
   here = here;
   more = more;
-  least = λ u m. by_lt_z u c
-      (λ h. let g = at_most_greatest z u _ _ reach.greatest m.here in let near_u : IsNear u = (omega linear, omega linear) in grind linear) (λ h. h);
+  least = λ u m. let g = at_most_greatest z u _ _ reach.greatest m.here in let near : u <ℤ c → IsNear u = λ h. (omega linear, omega linear) in grind linear;
   earlier = before;
 }
 

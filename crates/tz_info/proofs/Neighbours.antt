@@ -1,10 +1,10 @@
 -- Only a year's own moments and those of its two neighbours can enclose a second of the year.
 use Rattle.std.proofs.lemmas.Bool.Decides.{Decides-like}
 use Rattle.tz_info.proofs.{
-  RuleDays.{day_within},
+  RuleDays.day_within,
   Words.{Alternate, Bool, DayTime, Decides, Decides-or, IsAlternateRule, IsDstAt, IsInSomeYear, IsRuleDay, IsWithinDay, IsWithinWeek, IsYearOf, arith, by_lt_z},
-  Words.{cond, days_at_least, end_in, floors, inl, inr, int_le, is_between, is_in_three, linear, moment, neg_ℤ, new_year, not, pos, refl},
-  Words.{start_in, starts_rise, year_start, year_step, ℤ, ⊎_elim, ◌*ℤ◌, ◌+ℤ◌, ◌-ℤ◌, ◌<ℤ◌, ◌≡◌, ◌≤ℤ◌, ◌⊎◌},
+  Words.{cond, days_at_least, end_in, floors, int_le, is_between, is_in_three, linear, moment, neg_ℤ, new_year, not, pos, start_in, starts_rise, year_start},
+  Words.{year_step, ℤ, ◌*ℤ◌, ◌+ℤ◌, ◌-ℤ◌, ◌<ℤ◌, ◌≡◌, ◌≤ℤ◌, ◌⊎◌},
 }
 
 -- the moments of each year keep that margin from its ends
@@ -48,11 +48,8 @@ not_earlier _ u year other near of_second before = by_lt_z other (year -ℤ pos 
     (λ h. h)
 
 pub not_later : (firsts : ℤ → ℤ) (u year other : ℤ) → IsNear firsts → IsYearOf u year → firsts other ≤ℤ u → other ≤ℤ (year +ℤ pos 1)
-not_later _ u year other near of_second from = by_lt_z (year +ℤ pos 1) other
-    (λ more.
-    let far = year_after _ _ more in
-    let low = near.low other in grind (linear, floors))
-    (λ h. h)
+not_later firsts u year other near of_second from = by_lt_z (year +ℤ pos 1) other
+    (λ more. let far = year_after _ _ more in let low = near.low other in grind (linear, floors)) (λ h. h)
 
 -- moments that enclose a second are those of one of three years
 pub place : (year other : ℤ) → (year -ℤ pos 1) ≤ℤ other → other ≤ℤ (year +ℤ pos 1) → (other ≡ year -ℤ pos 1) ⊎ ((other ≡ year) ⊎ (other ≡ year +ℤ pos 1))
@@ -64,12 +61,10 @@ between _ _ u = (λ h. grind arith, λ h. grind arith)
 by_three : (firsts lasts : ℤ → ℤ) (year u : ℤ) → IsNear firsts → IsNear lasts → IsYearOf u year
     → Decides (is_in_three firsts lasts year u) (IsInSomeYear firsts lasts u)
 by_three firsts lasts year u near_first near_last of_second = Decides-like _
-    (⊎_elim (⊎_elim (λ h. (year -ℤ pos 1, h.0, h.1)) (λ h. (year, h.0, h.1))) (λ h. (year +ℤ pos 1, h.0, h.1)))
+    (λ h. grind arith)
     (λ some.
     let (other, from, before) = some in
-    let here : (z : ℤ) → other ≡ z → (firsts z ≤ℤ u) × (u <ℤ lasts z) = λ z same. rw (← same) (from, before) in
-    ⊎_elim (λ same. inl (inl (here _ same))) (⊎_elim (λ same. inl (inr (here _ same))) (λ same. inr (here _ same)))
-    (place _ _ (not_earlier _ u _ _ near_last of_second before) (not_later firsts u _ _ near_first of_second from)))
+    let one = place year other (not_earlier _ u _ _ near_last of_second before) (not_later firsts u _ _ near_first of_second from) in grind arith)
     (Decides-or _ _ (Decides-or _ _ (between _ _ u) (between _ _ u)) (between _ _ u))
 
 -- the second lies no further outside the year than its neighbours' moments lie inside theirs
@@ -89,8 +84,8 @@ own_year _ _ _ year u other first last beside from before =
 
 pub by_own : (firsts lasts : ℤ → ℤ) (margin year u : ℤ) → KeepsMargin firsts margin → KeepsMargin lasts margin → IsBeside margin year u
     → Decides (is_between (firsts year) (lasts year) u) (IsInSomeYear firsts lasts u)
-by_own _ _ _ year u first last beside = Decides-like _ (λ h. (year, h.0, h.1))
-    (λ some. let (other, from, before) = some in rw (← own_year _ _ _ _ u _ first last beside from before) (from, before)) (between _ _ u)
+by_own firsts lasts margin year u first last beside =
+    (λ h. grind arith, λ some. let (other, from, before) = some in let same = own_year _ _ _ _ u _ first last beside from before in grind arith)
 
 -- such tests decide, where moments come in their order in the second's own year
 pub decides_dst : (starts ends : ℤ → ℤ) (year own u : ℤ) (dst first last : Bool) → int_le (starts own) (ends own) ≡ int_le (starts year) (ends year)
@@ -101,6 +96,5 @@ decides_dst _ _ _ own u dst _ _ same is on off = grind arith
 -- the moments of three years decide everywhere
 pub dst_by_three : (starts ends : ℤ → ℤ) (year u : ℤ) (dst : Bool) → IsNear starts → IsNear ends → IsYearOf u year
     → dst ≡ cond (int_le (starts year) (ends year)) (is_in_three starts ends year u) (not (is_in_three ends starts year u)) → IsDstAt starts ends year u dst
-dst_by_three _ _ _ u dst near_start near_end of_second is =
-    decides_dst _ _ _ _ u dst _ _ refl is (by_three _ _ _ u near_start near_end of_second)
-    (by_three _ _ _ u near_end near_start of_second)
+dst_by_three starts ends year u dst near_start near_end of_second is =
+    grind (arith, decides_dst, by_three starts ends year u near_start near_end of_second, by_three ends starts year u near_end near_start of_second)

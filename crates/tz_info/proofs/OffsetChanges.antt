@@ -1,15 +1,11 @@
 -- Walks from change to change, on and back, up to one at which the offset changes.
 use Rattle.tz_info.proofs.{
   ChangeLaws.one_change,
-  Words.{Alternate as AlternateRule, Change, IsBegin, IsChange, IsFirstChange, IsLastChange, IsNearestOffsetChange, IsOffsetChange, IsValid, KeepsOffset},
-  Words.{Some, TypeAt, Zone, false, linear, pos, true, ℤ, ◌-ℤ◌, ◌<ℤ◌, ◌≡◌, ◌≤ℤ◌},
+  Words.{Alternate as AlternateRule, Change, IsBegin, IsFirstChange, IsLastChange, IsNearestOffsetChange, IsValid, KeepsOffset, Some, TypeAt, Zone, false},
+  Words.{linear, pos, true, ℤ, ◌-ℤ◌, ◌<ℤ◌, ◌≡◌, ◌≤ℤ◌},
   ZoneChanges.{begun, last_too, to_rule},
 }
 use Rattle.tz_info.specs.declared.rule.transition_rule.TransitionRule.TheVariants.{Alternate}
-
--- a change that keeps the offset is no change of the offset
-kept_one : (z : Zone) (c d : Change) → IsOffsetChange (TypeAt z) d → IsChange (TypeAt z) c → d.at ≡ c.at → c.before.offset ≡ c.after.offset → ⊥
-kept_one z c d h is same kept = let one = one_change z d c h.is is same in grind linear
 
 -- ---- a rule whose two types have one offset
 pub rule_keeps : (z : Zone) (a : AlternateRule) (begin : ℤ) → IsValid z → z.rule ≡ Some (Alternate a) → IsBegin z begin → a.std.offset ≡ a.dst.offset
@@ -30,7 +26,7 @@ module _ (z : Zone) (after reached : ℤ) (order : after ≤ℤ reached) (kept :
 
   pub goes_on : (c : Change) → IsFirstChange (TypeAt z) (λ u. reached <ℤ u) c → c.before.offset ≡ c.after.offset
       → KeepsOffset (TypeAt z) (λ u. (after <ℤ u) × (u ≤ℤ c.at))
-  goes_on c next same d is inside = grind (linear, kept_one z c d is next.is)
+  goes_on c next same d is inside = grind (linear, one_change z d c is.is next.is)
 
 module _ (z : Zone) (last reached : ℤ) (order : reached ≤ℤ last) (kept : KeepsOffset (TypeAt z) (λ u. (reached <ℤ u) × (u ≤ℤ last))) where
   -- ---- back from the second `last`
@@ -40,4 +36,4 @@ module _ (z : Zone) (last reached : ℤ) (order : reached ≤ℤ last) (kept : K
 
   pub goes_back : (c : Change) → IsLastChange (TypeAt z) (λ u. u ≤ℤ reached) c → c.before.offset ≡ c.after.offset
       → KeepsOffset (TypeAt z) (λ u. ((c.at -ℤ pos 1) <ℤ u) × (u ≤ℤ last))
-  goes_back c next same d is inside = grind (linear, kept_one z c d is next.is)
+  goes_back c next same d is inside = grind (linear, one_change z d c is.is next.is)

@@ -2,14 +2,13 @@
 use Rattle.std.proofs.lemmas.List.Elements.{Contains-get_or}
 use Rattle.tz_info.proofs.{
   ListFaults.equal_known,
-  PassedTransitions.no_items,
   SegmentLaws.{come_at_time, come_by_then},
   WalkLaws.window_most,
   WallSegments.{leap_time_of, near_of, rule_begun},
   Words.{All-contains, AllPairs-cons, Alternate as AlternateRule, AreUtOffsets, Bool, Contains, Contains-append_right, IsAskedAt, IsAskedAtEach},
   Words.{IsAskedAtLeapTime, IsAskedFor, IsAskedFrom, IsAskedSince, IsByRuleFor, IsLeapTime, IsNear, IsSecondFrom, IsStart, IsValid, IsWide, IsWindow},
-  Words.{LocalType, None, Some, Transition, TransitionRule, Zone, [], arith, false, get_or, inl, inr, length, linear, not, offsets, offsets_of, refl},
-  Words.{rule_offsets, sym, true, type_when, ℕ, ℤ, ⊎_elim, ◌+◌, ◌-ℤ◌, ◌<ℤ◌, ◌<◌, ◌↔◌, ◌∙◌, ◌∷◌, ◌≡◌, ◌≢◌, ◌≤ℤ◌, ◌⊎◌},
+  Words.{LocalType, None, Some, Transition, TransitionRule, Zone, [], arith, false, get_or, inl, inr, length, linear, nil_from_length as no_items, not},
+  Words.{offsets, offsets_of, refl, rule_offsets, sym, true, type_when, ℕ, ℤ, ⊎_elim, ◌+◌, ◌-ℤ◌, ◌<ℤ◌, ◌<◌, ◌↔◌, ◌∙◌, ◌∷◌, ◌≡◌, ◌≢◌, ◌≤ℤ◌, ◌⊎◌},
   ZoneLaws.same_passed,
 }
 use Rattle.tz_info.specs.{declared.rule.transition_rule.TransitionRule.TheVariants.{Alternate, Fixed}}
@@ -26,35 +25,14 @@ module _ (z : Zone) (rule : TransitionRule) (start l : ℤ) (valid : IsValid z) 
     (λ k.
         let near = near u _ k.of_rule k.of_second in
         let time = leap_time_of z u valid near in
-        record {
-          offset = k.offset;
-          of_rule = rw is k.of_rule;
-          of_second = k.of_second;
-          by_rule = record {
-            rule = rule;
-            of_zone = is;
-            leap_time = time.0;
-            of_second = λ _. time.1;
-            from_last = come_at_time z u _ time.1 ∙ (rule_begun z u _ valid near begun).1 k.since;
-          };
-        }),
+        let from_last = come_at_time z u _ time.1 ∙ (rule_begun z u _ valid near begun).1 k.since in grind linear),
     (λ k.
         let of_rule = rw is at k.of_rule in
-        record {
-          offset = k.offset;
-          of_rule = of_rule;
-          of_second = k.of_second;
-          since = (rule_begun z u _ valid (near u _ of_rule k.of_second) begun).0 (grind (linear, come_by_then));
-        }),
+        grind (linear, come_by_then, rule_begun z u start valid (near u _ of_rule k.of_second) begun)),
   )
 
   pub asked_by_zone : (p q : ℕ) → IsAskedFrom rule start l p q → IsAskedFor z l p q
-  asked_by_zone p q k = record {
-    seconds = k.seconds;
-    once = k.once;
-    each = λ u. let same = seconds_by_rule u in let e = k.each u in ((λ c. same.0 (e.0 c)), (λ c. e.1 (same.1 c)));
-    count = k.count;
-  }
+  asked_by_zone p q k = record { seconds = k.seconds; once = k.once; each = λ u. let e = k.each u in grind (linear, seconds_by_rule u); count = k.count }
 
 pub in_two : (a b u : ℤ) → Contains (a ∷ b ∷ []) u → (u ≡ a) ⊎ (u ≡ b)
 in_two a b u h = grind linear
@@ -71,16 +49,14 @@ asked_more : (asks : ℤ → Type 0) (c : ℤ) (p q r : ℕ) → IsAskedIf asks 
 asked_more _ c p q r (inl (k, e)) others = record {
   seconds = c ∷ others.seconds;
   once = AllPairs-cons (λ u v. u ≢ v) c others.seconds (λ i d h g. ((others.each _).0 (Contains-get_or others.seconds i d h)).1 (sym g)) others.once;
-  each = λ u. (
-    (grind linear),
-    (λ i. ⊎_elim (λ g. (0, omega arith, sym g)) (λ other. Contains-append_right (c ∷ []) others.seconds u ((others.each u).1 (i, other))) (equal_known u c)),
-  );
+  each = λ u. (grind linear,
+      λ i. ⊎_elim (λ g. (0, omega arith, sym g)) (λ other. Contains-append_right (c ∷ []) others.seconds u ((others.each u).1 (i, other))) (equal_known u c));
   count = omega arith;
 }
 asked_more asks c p q r (inr (none, e)) others = grind arith
 
 one_second : (asks : ℤ → Type 0) (c : ℤ) (p q : ℕ) → ((u : ℤ) → asks u → u ≡ c) → IsAskedIf asks c p q → IsAskedAtEach asks p q
-one_second asks c p q only k = asked_more _ c p q q k (nowhere (λ u. asks u × (u ≢ c)) q q (grind linear) refl)
+one_second asks c p q only k = asked_more _ c p q q k (nowhere _ q q (grind linear) refl)
 
 -- ---- those of a rule
 asked_since : (rule : TransitionRule) (from l o : ℤ) (p q : ℕ) → Contains (rule_offsets (Some rule)) o → IsAskedSince from (l -ℤ o) p q
@@ -114,7 +90,7 @@ module _ (a : AlternateRule) (from l : ℤ) (dst : Bool) where
 
   -- if both offsets are equal
   pub asked_once : (p q : ℕ) → a.std.offset ≡ a.dst.offset → IsAskedSince from (l -ℤ (type_when a dst).offset) p q → IsAskedFrom (Alternate a) from l p q
-  asked_once p q same h = one_second _ _ p q (λ u k. grind (arith, either)) (asked_since _ _ l _ p q (of_rule _) h)
+  asked_once p q same h = one_second _ _ p q (grind (arith, either)) (asked_since _ _ l _ p q (of_rule _) h)
 
 -- ---- none, without a rule
 pub asked_none : (z : Zone) (l : ℤ) (p : ℕ) → z.rule ≡ None → IsAskedFor z l p p
@@ -134,8 +110,4 @@ asked_at_time z u x p q h k = grind (linear, same_passed)
 
 pub asked_without : (z : Zone) (u : ℤ) (p q : ℕ) → length z.transitions ≡ 0 → ((rule : TransitionRule) → z.rule ≡ Some rule → q ≡ p + 1)
     → (z.rule ≡ None → q ≡ p) → IsAskedAt z u p q
-asked_without z u p q e asked unasked =
-    asked_at_time z u u p q (λ h. absurd (omega arith)) ((elim z.rule as (λ r. z.rule ≡ r → IsAskedAtLeapTime z u p q) [
-      | Some rule ↦ λ is. inl (rule, is, rw (no_items _ e), asked rule is)
-      | None ↦ λ n. inr (inl (n, unasked n))
-    ]) refl)
+asked_without z u p q e asked unasked = asked_at_time z u u p q (λ h. absurd (omega arith)) (grind (linear, no_items))

@@ -39,13 +39,11 @@ unfolding closed_day
 day_within (Julian1 n) year fits = rw (rule_day_closed _ year fits) (grind (arith, leap_at_most, floors))
 day_within (Julian0 n) year fits = rw (rule_day_closed _ year fits) (omega (arith, floors))
 day_within (MonthWeekday month week weekday) year fits =
-    let lies = weekday_lies year _ _ _ fits in
-    let next = year_step year in rw (rule_day_closed _ year fits) (grind (arith, days_at_most, floors))
+    let lies = weekday_lies year _ _ _ fits in rw (rule_day_closed _ year fits) (grind (arith, days_at_most, floors, year_step))
 
 -- a later year begins at least a year later
 later_start : (a b : ℤ) → a <ℤ b → (year_start a +ℤ pos (days_in_year a)) ≤ℤ year_start b
-later_start a b h =
-    let step = year_step a in grind (arith, starts_rise)
+later_start a b h = grind (arith, starts_rise, year_step a)
 
 -- the rule's day comes later in a later year
 pub day_rises : (form : DayForm) (a b : ℤ) → IsRuleDay form → a <ℤ b → rule_day form a <ℤ rule_day form b

@@ -1,10 +1,9 @@
 -- A rule has one type at a second, or is refused there, and never both.
 use Rattle.tz_info.proofs.{
   Neighbours.{dst_by_three, ends_near, starts_near},
-  Words.{Agrees, Alternate as AlternateRule, AlternateAt, Bool, IsAlternateRefused, IsDstAt, IsRule, IsRuleRefused, IsRuleTime, IsRuleYear, IsTrue},
-  Words.{IsUnixTime, IsUnixTimeRefused, IsYearOf, LeapSecond, LiesIn, List, Some, Transition, slice_get, ◌↔◌},
-  Words.{LocalType, MatchOption, RuleAt, TransitionRule, arith, end_in, floor_div, floors, lies_in, linear, neg_ℤ, one_year, pos, refl, rule_type, start_in},
-  Words.{starts_rise, type_when, year_of, year_start, ℤ, ◌+ℤ◌, ◌≡◌, ◌⊎◌},
+  Words.{Agrees, Alternate as AlternateRule, AlternateAt, Bool, IsAlternateRefused, IsDstAt, IsRule, IsRuleRefused, IsRuleTime, IsRuleYear, IsTrue, IsUnixTime},
+  Words.{IsYearOf, LeapSecond, LiesIn, List, LocalType, MatchOption, RuleAt, Some, Transition, TransitionRule, arith, end_in, floor_div, floors, lies_in},
+  Words.{linear, neg_ℤ, one_year, pos, refl, rule_type, slice_get, start_in, starts_rise, type_when, year_of, year_start, ℤ, ◌+ℤ◌, ◌↔◌, ◌≡◌, ◌⊎◌},
 }
 use Rattle.tz_info.specs.declared.rule.transition_rule.TransitionRule.TheVariants.{Alternate, Fixed}
 
@@ -39,19 +38,11 @@ bounds = (refl, refl)
 -- the seconds of the years that a rule answers in
 pub rule_time : (u year : ℤ) → IsYearOf u year → IsRuleYear year → IsRuleTime u
 rule_time u year of_second inside =
-    let low = starts_rise (neg_ℤ (pos 2_147_483_646)) year in
-    let high = starts_rise (year +ℤ pos 1) (pos 2_147_483_646) in
-    grind (arith, floors, bounds)
+    grind (arith, floors, bounds, starts_rise (neg_ℤ (pos 2_147_483_646)) year, starts_rise (year +ℤ pos 1) (pos 2_147_483_646))
 
 pub rule_year : (u year : ℤ) → IsYearOf u year → IsRuleTime u → IsRuleYear year
 rule_year u year of_second within =
-    let low = starts_rise (year +ℤ pos 1) (neg_ℤ (pos 2_147_483_646)) in
-    let high = starts_rise (pos 2_147_483_646) year in
-    grind (arith, floors, bounds)
-
--- outside of them an alternate rule is refused
-pub refused_outside : (u : ℤ) → (IsRuleTime u → ⊥) → IsAlternateRefused u
-refused_outside u out = grind (linear, rule_time)
+    grind (arith, floors, bounds, starts_rise (year +ℤ pos 1) (neg_ℤ (pos 2_147_483_646)), starts_rise (pos 2_147_483_646) year)
 
 -- the year of the second's day is the second's year, and a rule answers in it
 pub year_found : (u day year : ℤ) → day ≡ floor_div u 86_400 → year ≡ year_of day → IsRuleTime u → LiesIn day year × IsRuleYear year
@@ -63,10 +54,6 @@ pub alternate_at : (a : AlternateRule) (u day year : ℤ) (dst : Bool) → day �
 alternate_at a u day year dst at_day lies inside when = grind arith
 
 -- ---- whether a rule agrees with the last transition
-pub differs_without_time : (types : List LocalType) (leaps : List LeapSecond) (rule : TransitionRule) (last : Transition)
-    → IsUnixTimeRefused leaps last.unix_leap_time → Agrees types leaps rule last → ⊥
-differs_without_time types leaps rule last out h = grind linear
-
 -- a rule, and what it must agree with
 module _ (types : List LocalType) (leaps : List LeapSecond) (rule : TransitionRule) (last : Transition) (u : ℤ)
     (of_last : IsUnixTime leaps last.unix_leap_time u) where
@@ -74,9 +61,6 @@ module _ (types : List LocalType) (leaps : List LeapSecond) (rule : TransitionRu
   pub agrees_if_same : (s t : LocalType) (same : Bool) → RuleAt rule u s → slice_get types last.type_index ≡ Some t → IsTrue same ↔ (s ≡ t)
       → IsTrue same ↔ Agrees types leaps rule last
   agrees_if_same s t same of_rule listed e = grind (linear, rule_once)
-
-  pub differs_without_rule : IsRuleRefused rule u → Agrees types leaps rule last → ⊥
-  differs_without_rule refused h = grind (linear, rule_not_refused)
 
 -- at each second a rule has one type, or none
 pub ruleset rule_types = (rule_decided, rule_not_refused, rule_once, rule_time, rule_year)

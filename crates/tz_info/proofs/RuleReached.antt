@@ -40,8 +40,7 @@ module _ (a : Alternate) (begin t l : ℤ) (s : LocalType) (rule : IsAlternateRu
   pub still_reached : l ≡ t +ℤ s.offset → HasNoChange (AlternateAt a) (λ w. (begin <ℤ w) × (w ≤ℤ t)) → IsReachedSince (RuleAt (AlternateRule a)) begin t l
   still_reached is none = reached_now is
       (λ m u r from come shows.
-      let same = unchanged a rule u t r s (λ d change i. none d change (omega linear, i.1)) shows.type here come in
-      let less = shows_less m u t r s shows same come in omega linear)
+      let same = unchanged a rule u t r s (λ d change i. none d change (omega linear, i.1)) shows.type here come in grind linear)
 
   -- the last change
   module _ (c : Change) (last : IsNearestChange false (AlternateAt a) (IsAhead false t) c) where
@@ -63,10 +62,7 @@ module _ (a : Alternate) (begin t l : ℤ) (s : LocalType) (rule : IsAlternateRu
         → IsReachedSince (RuleAt (AlternateRule a)) begin t l
     changed_reached offset_before is since =
         let all : (m u : ℤ) (r : LocalType) → begin ≤ℤ u → u ≤ℤ t → Shows (RuleAt (AlternateRule a)) m u r → m ≤ℤ l =
-        λ m u r from come shows. elim (at_most m u r come shows) [
-          | inl less ↦ omega (linear, clamps, less, is)
-          | inr less ↦ omega (linear, clamps, less, is)
-        ] in
+        λ m u r from come shows. omega (linear, clamps, at_most m u r come shows, is) in
         by_lt_z (t +ℤ s.offset) ((c.at -ℤ pos 1) +ℤ c.before.offset)
         (λ more. record {
           at = c.at -ℤ pos 1;
@@ -108,19 +104,15 @@ module _ (a : Alternate) (begin local low : ℤ) (rule : IsAlternateRule a) (low
     -- if they don't change up to then, it is that second
     pub still_first : IsNear low → IsNear shown → HasNoChange (AlternateAt a) (λ w. (low <ℤ w) × (w ≤ℤ shown))
         → IsFirstSince (RuleAt (AlternateRule a)) begin local shown s
-    still_first near_low near none = record {
-      near = near;
-      from = omega (linear, clamps);
-      shown = record {
-        fits = omega (linear, near);
-        type = still a rule low shown s none here (omega (linear, near)) (omega (linear, clamps));
-        reached = omega (linear, clamps);
-      };
-      first = λ v r begun shows. by_lt_z v shown
-          (λ earlier. absurd (let late = shown_from v r begun shows (λ d change i. none d change (i.0, omega (linear, i, earlier))) in
-          omega (linear, late, earlier)))
-          (λ not. not);
-    }
+    still_first near_low near none =
+        let type = still a rule low shown s none here (omega (linear, near)) (omega (linear, clamps)) in
+        record {
+          near = near;
+          from = omega (linear, clamps);
+          shown = record { fits = omega (linear, near); type = type; reached = omega (linear, clamps) };
+          first = λ v r begun shows. by_lt_z v shown
+              (λ earlier. shown_from v r begun shows (λ d change i. none d change (i.0, omega (linear, i, earlier)))) (λ not. not);
+        }
 
     -- else it is the change
     pub changed_first : (c : Change) → IsNear low → IsNear shown → IsNearestChange true (AlternateAt a) (IsAhead true low) c → c.at ≤ℤ shown
@@ -132,16 +124,14 @@ module _ (a : Alternate) (begin local low : ℤ) (rule : IsAlternateRule a) (low
         let before : s ≡ c.before =
         unchanged a rule low (c.at -ℤ pos 1) s c.before (none (c.at -ℤ pos 1) (omega linear)) here next.is.before (omega (linear, inside)) in
         let (b, is) = greatest in
-        let reached : int_max a.std.offset a.dst.offset ≡ c.after.offset = elim (two_types a b next.is.before.dst next.is.after.dst
-        (λ same. next.is.differ (next.is.before.shown ∙ same ∙ sym next.is.after.shown))) [
-          | inl old ↦ grind (linear, clamps)
-          | inr new ↦ is ∙ ap (λ (x : LocalType). x.offset) (new ∙ sym next.is.after.shown)
-        ] in
+        let other = two_types a b next.is.before.dst next.is.after.dst
+        (λ same. next.is.differ (next.is.before.shown ∙ same ∙ sym next.is.after.shown)) in
+        let shown_after = next.is.after.shown in let shown_before = next.is.before.shown in
+        let reached : int_max a.std.offset a.dst.offset ≡ c.after.offset = grind (linear, clamps) in
         record {
           near = omega (linear, near_low, inside, near, come);
           from = omega (linear, clamps, inside);
           shown = record { fits = next.is.fits; type = next.is.after; reached = omega (linear, clamps, inside, reached) };
           first = λ v r begun shows. by_lt_z v c.at
-              (λ earlier. absurd (let late = shown_from v r begun shows (none v earlier) in omega (linear, late, earlier, come)))
-              (λ not. not);
+              (λ earlier. let late = shown_from v r begun shows (none v earlier) in omega (linear, late, come)) (λ not. not);
         }

@@ -1,12 +1,14 @@
--- The type in force at a second, as it is asked for the list of changes, and the change there.
+-- The type in force at a second, as it is asked for the list of changes, and the change there; the type at the last transition's second.
+use Rattle.std.proofs.lemmas.Option.{slice_get_within}
 use Rattle.tz_info.proofs.{
   ChangeSearch.{InForce, IsOnce, none_before, none_here},
   RuleLaws.rule_told,
-  Words.{Change, HasNoChange, HasType, IsChange, IsLeapTime, IsRefusedBy, IsRuleOrNone, IsValid, List, LocalType, MatchOption, None, Option, RuleOrElse},
-  Words.{RuleOrType, SFits, Some, TransitionRule, TypeAt, Zone, [], all_fit, arith, by_rule, cases_lt, change_between, change_here, false},
-  Words.{get_or, index_at, inl, inr, is_second, length, linear, nat_lt, passed, pos, refl, rule_type_or, slice_get, suc, true, type_at_leap_time, type_exact},
-  Words.{type_or_none, w64, zero, ℕ, ℤ, ◌+ℤ◌, ◌-ℤ◌, ◌<◌, ◌==◌, ◌∷◌, ◌≡◌, ◌⊎◌},
-  ZoneLaws.{before_or_from_last, fits_or_not, inside_listed, last_index_below, leap_time_decided, type_not_refused},
+  SegmentLaws.{come_by_time, index_next, split_at, split_count, type_in_from},
+  Words.{Change, HasNoChange, HasType, IsChange, IsLeapTime, IsRefusedBy, IsRuleOrNone, IsUnixTime, IsValid, List, LocalType, MatchOption, None, Option},
+  Words.{RuleOrElse, RuleOrType, SFits, Some, Transition, TransitionRule, TypeAt, Zone, [], all_fit, arith, by_rule, cases_lt, change_between, change_here},
+  Words.{false, get_or, index_at, inl, inr, is_second, last_transition, length, linear, nat_lt, passed, pos, refl, rule_type_or, slice_get, slice_get-get_or},
+  Words.{suc, true, type_at_leap_time, type_exact, type_or_none, w64, zero, ℕ, ℤ, ⊎_elim, ◌+ℤ◌, ◌-ℤ◌, ◌-◌, ◌<◌, ◌==◌, ◌∷◌, ◌≡◌, ◌≤ℤ◌, ◌⊎◌},
+  ZoneLaws.{before_or_from_last, inside_listed, last_index_below, leap_time_decided, some_once, type_not_refused},
 }
 
 -- ---- tests
@@ -19,13 +21,7 @@ all_true cs u (suc n) h = rw (second_true _ (h n (omega arith)), all_true cs u n
 
 all_false : (cs : List ℤ) (u : ℤ) (n k : ℕ) → k < n → (SFits w64 (u +ℤ get_or cs k (pos 0)) → ⊥) → all_fit cs u n ≡ false
 all_false cs u zero k l out = grind linear
-all_false cs u (suc n) k l out = elim (fits_or_not (u +ℤ get_or cs n (pos 0))) [
-  | inl fits ↦ rw (second_true _ fits) (elim (cases_lt k n) [
-    | inl below ↦ all_false cs u n k below out
-    | inr above ↦ grind linear
-  ])
-  | inr none ↦ let off : is_second (u +ℤ get_or cs n (pos 0)) ≡ false = grind arith in rw off
-]
+all_false cs u (suc n) k l out = grind (linear, all_false cs u n k, cases_lt k n)
 
 -- ---- a zone's type, or why it has none
 moved : (P R : Type 0) (Q S : LocalType → Type 0) (o : Option LocalType) → (P → R) → ((t : LocalType) → Q t → S t) → MatchOption o P Q → MatchOption o R S
@@ -60,12 +56,11 @@ at_leap_time z u x valid limits of_second =
 
 pub types_told : (z : Zone) → IsValid z → IsRuleOrNone z.rule → AreTypes (TypeAt z) (type_or_none z)
 unfolding type_or_none
-types_told z valid limits u = elim (cases_lt 0 (length z.transitions)) [
-  | inl some ↦
-      let test : (length z.transitions == 0) ≡ false = grind arith in
-      grind (linear, leap_time_decided, all_true, at_leap_time, all_false, type_not_refused)
-  | inr none ↦ grind (arith, at_leap_time)
-]
+types_told z valid limits u = ⊎_elim
+    (λ some.
+    let test : (length z.transitions == 0) ≡ false = grind arith in
+    grind (linear, leap_time_decided, all_true, at_leap_time, all_false, type_not_refused))
+    (λ none. grind (arith, at_leap_time)) (cases_lt 0 (length z.transitions))
 
 -- ---- the change at a second
 -- no change comes at the second and none is listed, or the one listed comes there
@@ -79,3 +74,21 @@ between_types f u s t h k l m n = grind (linear, none_before, none_here, type_ex
 
 pub here_listed : (f : InForce) (types : ℤ → Option LocalType) (u : ℤ) → IsOnce f → AreTypes f types → IsListed f u (change_here types u)
 here_listed f _ u once told = grind (linear, between_types, second_true)
+
+-- ---- the type in force at the last transition's second
+pub last_is : (ts : List Transition) (last : Transition) → last_transition ts ≡ Some last → get_or ts (length ts - 1) last ≡ last
+last_is ts last is = grind (arith, slice_get-get_or, slice_get_within)
+
+-- if the last transition has come by its second, its type is in force there
+pub last_type : (z : Zone) (last : Transition) (u x : ℤ) (t : LocalType) → IsValid z → last_transition z.transitions ≡ Some last
+    → IsUnixTime z.leaps last.unix_leap_time u → IsLeapTime z.leaps u x → last.unix_leap_time ≤ℤ x → HasType z last.type_index t → TypeAt z u t
+last_type z last u x t valid is unix time come has =
+    let ts = z.transitions in
+    let rising = valid.transitions.rising in
+    let h = slice_get_within ts _ last is in
+    let e = last_is ts _ is in
+    let p = split_at ts x rising in
+    let n = split_count ts x p.0 p.1 in
+    let passed = come_by_time ts x (length ts - 1) last rising (omega arith) in
+    let index = index_next ts (length ts - 1) last (omega arith) in
+    (type_in_from z u x t time (grind arith) (grind (arith, some_once))).type

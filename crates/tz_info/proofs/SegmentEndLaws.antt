@@ -7,7 +7,7 @@ use Rattle.tz_info.proofs.{
   SegmentLaws.{begins_rise, come_from, place_most, places_rise},
   WallSegments.{near_of, near_wide, type_there},
   Words.{AreRising, IsFirstAtOrAfter, IsNear, IsRuleOrNone, IsTable, IsUtOffset, IsValid, IsWide, IsWindowOf, List, LocalType, SFits, Some, Transition, TypeAt},
-  Words.{Zone, [], arith, begin_of, by_lt_z, cases_lt, get_or, get_or_append_left, get_or_push, index_of, inl, inr, length, length_push, linear, place_at, pos},
+  Words.{Zone, [], arith, begin_of, by_lt_z, cases_lt, get_or, get_or_append_left, get_or_push, index_of, inl, length, length_push, linear, place_at, pos},
   Words.{rises, saturate_signed, slice_get, suc, w64, zero, ℕ, ℤ, ◌++◌, ◌+ℤ◌, ◌-ℤ◌, ◌<ℤ◌, ◌<◌, ◌↔◌, ◌∷◌, ◌≡◌, ◌≤ℤ◌, ◌≤◌, ◌⊎◌},
 }
 use Rattle.tz_info.specs.Steps.SegmentEnds.{AreEndsRising, IsFirstOf, IsFirstSegment, IsReached, end_of}
@@ -72,11 +72,7 @@ module _ (z : Zone) (ts : List Transition) (top k : ℕ) (l : ℤ) (table : IsTa
   -- and the next one has not
   before_next : (at : ℤ) (t : LocalType) → IsFirstOf z.types ts k l at t → k < length ts → at <ℤ begin_of ts (suc k)
   before_next at t is inner =
-      let rise : begin_of ts k <ℤ begin_of ts (suc k) = elim (cases_lt 0 k) [
-        | inl some ↦ grind (linear, begins_rise)
-        | inr none ↦ grind linear
-      ] in
-      grind (linear, is.from (begin_of ts (suc k) -ℤ pos 1))
+      let rise : begin_of ts k <ℤ begin_of ts (suc k) = grind (linear, cases_lt 0 k, begins_rise) in grind (linear, is.from (begin_of ts (suc k) -ℤ pos 1))
 
   -- the first second of the first segment that ends later
   pub first_there : (low high at : ℤ) (t : LocalType) → IsValid z → IsRuleOrNone z.rule → k < top → IsWindowOf z l l low high → IsFirstOf z.types ts k l at t
@@ -86,11 +82,7 @@ module _ (z : Zone) (ts : List Transition) (top k : ℕ) (l : ℤ) (table : IsTa
       let begun = begun_near low high valid limits (omega (arith, own)) reach in
       let most : at ≤ℤ pos 10_000_000_000_000 = grind linear in
       let come = come_by ts k at table.rising first.within since in
-      let within = place_most ts at table.rising in
-      let here : place_at ts at ≡ k = elim (cases_lt k (place_at ts at)) [
-        | inl beyond ↦ let n = before_next at t is (omega arith) in grind (linear, come_from ts (suc k) at)
-        | inr not ↦ omega arith
-      ] in
+      let here : place_at ts at ≡ k = grind (linear, before_next at t is, come_from ts (suc k) at, place_most ts at) in
       record {
         shown = grind linear;
         first = λ v s h. by_lt_z v at
@@ -114,5 +106,5 @@ pub maxima_more : (types : List LocalType) (ts : List Transition) (k : ℕ) (max
 maxima_more types ts k maxima out latest next made is e =
     let more : (l : ℤ) → SFits w64 l → (l <ℤ next) ↔ IsReached types ts (suc k) l = λ l fits.
     let r = reached_more types ts k l in let a = made.all l fits in let m = is l in
-    ((λ h. r.1 (by_lt_z l latest (λ b. inl (a.0 b)) (λ b. grind linear))), (λ s. grind linear)) in
+    (λ h. r.1 (by_lt_z l latest (λ b. inl (a.0 b)) (λ b. grind linear)), λ s. grind linear) in
     grind (linear, length_push, get_or_append_left, get_or_push)

@@ -1,11 +1,12 @@
 -- Segments: which one a second lies in, and the type in force there.
+use Rattle.tz_base.specs.declared.error.{Error.TheVariants.{FindLocalTimeType}, Expected.TheVariants.{YearThatRuleAnswersIn}}
 use Rattle.tz_info.proofs.{
   LeapOrder.leap_sums_rise,
-  PassedTransitions.no_items,
   Prefixes.{Between, any, last_taken, search_found},
-  Words.{AreLeapSeconds, AreRising, HasType, IsLeapTime, IsValid, List, LocalType, RuleOrType, Transition, TypeIn, Zone, [], ap, arith, begin_of},
-  Words.{by_lt_z, correction_at, get_or, index_of, least_time, length, length-take, linear, passed, pos, refl, segment_of, suc, sym, take, zero, ℕ},
-  Words.{ℤ, ◌+ℤ◌, ◌+◌, ◌-ℤ◌, ◌<ℤ◌, ◌<◌, ◌↔◌, ◌∙◌, ◌∷◌, ◌≡◌, ◌≤ℤ◌, ◌≤◌},
+  Words.{AreLeapSeconds, AreRising, Err, Error, HasType, IsFromLast, IsLeapTime, IsRefusedBy, IsTypeError, IsValid, List, LocalType, MatchResult, Ok, Result},
+  Words.{RuleOrType, Transition, TypeAt, TypeAtLeapTime, TypeIn, Zone, [], ap, arith, begin_of, by_lt_z, by_rule, correction_at, get_or, index_of, least_time},
+  Words.{length, length-take, linear, nil_from_length as no_items, passed, pos, refl, segment_of, suc, sym, take, zero, ℕ, ℤ, ◌+ℤ◌, ◌+◌, ◌-ℤ◌, ◌<ℤ◌, ◌<◌, ◌↔◌},
+  Words.{◌∙◌, ◌∷◌, ◌≡◌, ◌≤ℤ◌, ◌≤◌},
 }
 
 -- no transition comes later than one after it in the list
@@ -25,9 +26,7 @@ split_at (t ∷ ts) x r = by_lt_z x t.unix_leap_time
     (λ come. let (n, b) = split_at ts x (λ i j d h l. r (suc i) (suc j) d (omega arith) (omega arith)) in (suc n, grind linear))
 
 pub between_passed : (ts : List Transition) (x : ℤ) (n : ℕ) → AreRising ts → n ≤ length ts → passed ts x ≡ take n ts → Between ts x n n
-between_passed ts x n r h e =
-    let (k, b) = split_at ts x r in
-    let s : k ≡ n = grind (arith, split_count ts x k b, length-take) in rw s at b
+between_passed ts x n r h e = let (k, b) = split_at ts x r in grind (arith, split_count ts x k b, length-take)
 
 pub segment_is : (z : Zone) (u : ℤ) (n : ℕ) → Between z.transitions (u +ℤ correction_at z.leaps u) n n → segment_of z u ≡ n
 unfolding segment_of
@@ -117,15 +116,11 @@ module _ (z : Zone) (u : ℤ) (t : LocalType) (r : AreRising z.transitions) wher
 
 pub type_in_before : (z : Zone) (i : ℕ) (u x : ℤ) (t : LocalType) → IsLeapTime z.leaps u x → Between z.transitions x i i → i < length z.transitions
     → HasType z (index_of z.transitions i) t → TypeIn z i u t
-type_in_before z i u x t l b h k =
-    let c = split_count _ x i b in
-    record { type = grind (linear, search_found); segment = segment_is z u i (rw l.sum at b) }
+type_in_before z i u x t l b h k = grind (linear, split_count z.transitions x i b, search_found, segment_is z u i)
 
 pub type_in_from : (z : Zone) (u x : ℤ) (t : LocalType) → IsLeapTime z.leaps u x → Between z.transitions x (length z.transitions) (length z.transitions)
     → RuleOrType z u (index_of z.transitions (length z.transitions)) t → TypeIn z (length z.transitions) u t
-type_in_from z u x t l b k =
-    let c = split_count _ x _ b in
-    record { type = grind (linear, search_found); segment = segment_is z u _ (rw l.sum at b) }
+type_in_from z u x t l b k = grind (linear, split_count z.transitions x (length z.transitions) b, search_found, segment_is z u (length z.transitions))
 
 -- ---- how many have come by a second
 pub place_most : (ts : List Transition) (u : ℤ) → AreRising ts → length (passed ts u) ≤ length ts
@@ -143,15 +138,28 @@ begins_rise ts (suc k) rising some within = grind (linear, begin_suc ts k any, b
 pub places_rise : (ts : List Transition) (u v : ℤ) → AreRising ts → u ≤ℤ v → length (passed ts u) ≤ length (passed ts v)
 places_rise ts u v rising h =
     let (m, a) = split_at ts u rising in let (n, b) = split_at ts v rising in
-    rw (split_count ts u m a, split_count ts v n b) (splits_rise ts u v m n h a b)
+    grind (arith, split_count ts u m a, split_count ts v n b, splits_rise ts u v m n h a b)
 
 -- at the begin of segment k, and a second before the next
 pub place_begin : (ts : List Transition) (k : ℕ) → AreRising ts → 0 < k → k ≤ length ts → length (passed ts (begin_of ts k)) ≡ k
-place_begin ts k rising some within =
-    let most = place_most ts (begin_of ts k) rising in grind (linear, come_from ts k, come_from ts (suc k), begins_rise ts k)
+place_begin ts k rising some within = grind (linear, place_most ts (begin_of ts k), come_from ts k, come_from ts (suc k), begins_rise ts k)
 
 pub place_before : (ts : List Transition) (k : ℕ) → AreRising ts → k < length ts → length (passed ts (begin_of ts (suc k) -ℤ pos 1)) ≡ k
 place_before ts k rising within = grind (linear, come_from ts k, come_from ts (suc k), begins_rise ts k)
 
 -- when an entry comes into force
 pub ruleset beginning = (come_from, place_most)
+
+-- without transitions the rule is asked, or the zone has no rule
+pub without_transitions : {T : Type 0} (view : T → LocalType) (z : Zone) (u : ℤ) (r : Result T Error) → length z.transitions ≡ 0
+    → MatchResult r (λ t. RuleOrType z u 0 (view t)) (λ e. (e ≡ FindLocalTimeType YearThatRuleAnswersIn) × IsRefusedBy z.rule u)
+    → MatchResult r (λ t. TypeAt z u (view t)) (IsTypeError z u)
+without_transitions _ z u (Ok t) e k = record { leap_time = u; of_second = λ p. absurd (omega arith); in_force = grind (arith, no_items) }
+without_transitions view z u (Err x) e k = (by_rule u (λ p. absurd (omega arith)) (rw (no_items _ e)) k.1, k.0)
+
+-- with transitions the second's leap time is asked
+pub with_transitions : {T : Type 0} (view : T → LocalType) (z : Zone) (u x : ℤ) (r : Result T Error) → IsLeapTime z.leaps u x
+    → MatchResult r (λ t. TypeAtLeapTime z u x (view t)) (λ e. (e ≡ FindLocalTimeType YearThatRuleAnswersIn) × IsFromLast z x × IsRefusedBy z.rule u)
+    → MatchResult r (λ t. TypeAt z u (view t)) (IsTypeError z u)
+with_transitions _ z u x (Ok t) l k = grind arith
+with_transitions view z u x (Err e) l k = (by_rule x (λ _. l) k.1 k.2, k.0)

@@ -4,15 +4,14 @@ use Rattle.tz_info.proofs.{
   ExtremeLaws.window_made,
   GapLaws.{IsNever, gap_found, not_less},
   LeapStarts.own_leap_time,
-  PassedTransitions.no_items,
   Prefixes.search_found,
   SegmentLaws.{come_at_time, come_from, place_before, place_begin, place_most, segment_here, segment_most},
   WallSegments.{leap_time_of, near_fits, shown_inside, type_in_table, type_of_table, typed_answer},
   Words.{AreExtremes, AreLess, AreListed, Change, Extremes, HasGap, HasReach, IsBegin, IsBegun, IsBegunNear, IsIndex, IsJump, IsLeapTime, IsRuleOrNone},
   Words.{IsSegment, IsShownAmong, IsStart, IsTable, IsTableAnswer, IsTableLess, IsValid, IsWallAnswer, IsWide, IsWindowOf, LocalResult, LocalType, MatchOption},
   Words.{None, Option, SFits, Segment, Shown, ShownAmong, Some, TransitionRule, TypeAt, WallIndex, Zone, [], ap, arith, begin_of, cases_lt, index_of, inl, inr},
-  Words.{least_time, length, linear, offsets, passed, place_at, pos, refl, segment_of, shown_indexes, slice_get, suc, sym, table_count, top_of, w32, w64, ℕ, ℤ},
-  Words.{◌-ℤ◌, ◌<ℤ◌, ◌<◌, ◌↔◌, ◌∙◌, ◌≡◌, ◌≤ℤ◌, ◌≤◌},
+  Words.{least_time, length, linear, nil_from_length as no_items, offsets, passed, place_at, pos, refl, segment_of, shown_indexes, slice_get, suc, sym},
+  Words.{table_count, top_of, w32, w64, ℕ, ℤ, ◌-ℤ◌, ◌<ℤ◌, ◌<◌, ◌↔◌, ◌∙◌, ◌≡◌, ◌≤ℤ◌, ◌≤◌},
   ZoneChanges.time_of,
 }
 use Rattle.tz_info.specs.{Steps.Entries.{AreEntries, Entries, as_listed}, declared.zone.made.shown.Shown.TheVariants.{Less, Once, Skipped}}

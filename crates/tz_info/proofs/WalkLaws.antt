@@ -9,12 +9,9 @@ use Rattle.tz_info.proofs.{
   WallSegments.{leap_time_of, near_of, rule_begun, type_in_table, type_of_table},
   Words.{AreUtOffsets, Bool, Counts, IsNear, IsShownIn, IsStart, IsTried, IsValid, IsWallAnswer, IsWide, IsWindow, List, LocalResult, LocalType, None, Option},
   Words.{RoseByWalk, RoseWithin, RuleAt, Shows, Some, Transition, TransitionRule, TypeAt, TypeFrom, Zone, [], arith, begin_of, cases_lt, come_between, digits},
-  Words.{digits-le, filter, get_or, get_or_default, index_of, inl, inr, length, linear, reads_more, segment_of, suc, sym, table_count, true, zero, ℕ, ℤ},
-  Words.{⊎_elim, ◌+ℤ◌, ◌+◌, ◌-ℤ◌, ◌<ℤ◌, ◌<◌, ◌∷◌, ◌≡◌, ◌≤ℤ◌, ◌≤◌, ◌⊎◌},
+  Words.{filter, get_or, get_or_default, index_of, inl, inr, length, linear, reads_more, segment_of, suc, sym, table_count, true, zero, ℕ, ℤ, ⊎_elim, ◌+ℤ◌},
+  Words.{◌+◌, ◌-ℤ◌, ◌<ℤ◌, ◌<◌, ◌∷◌, ◌≡◌, ◌≤ℤ◌, ◌≤◌, ◌⊎◌},
 }
-
--- a number has fewer digits than a list can have items
-pub ruleset room = digits-le
 
 -- ---- one segment more
 -- one segment more of the table was tried, up to the next transition if there is one, of whose seconds at most one shows the local time
@@ -40,8 +37,8 @@ tried_segment z l i valid inside own begin next k s =
     (record { shows = record { fits = k.candidate.fits; type = there.type; shown = omega linear }; from = omega arith; below = omega arith })
     (λ u f m. later_segment z u c valid (omega arith)) s))
     (λ h. rw h.1 (same_answer _ _ _ (λ u f m. grind arith) (λ u f m. ⊎_elim (λ a. a)
-    (λ a. let w = within_of _ _ _ k.candidate.leap_fits (rw (sym k.candidate.of_second.sum) at (segment_at z c i rising (rw a.0 at a.1))) in
-    absurd (grind linear)) (only u f m)) s))
+    (λ a. absurd (grind (linear, within_of _ _ _ k.candidate.leap_fits (rw (sym k.candidate.of_second.sum) at (segment_at z c i rising (rw a.0 at a.1))))))
+    (only u f m)) s))
     k.tried
 
 -- ---- the rule after the last transition
@@ -57,13 +54,11 @@ with_rule z rule start l valid is begun wide offsets = record {
       let time = leap_time_of z u valid near in
       let b = rw (sym time.1.sum) at (segment_at z u _ valid.transitions.rising there) in
       grind linear;
-  all = λ u t k. elim (cases_lt (segment_of z u) (length z.transitions)) [
-    | inl h ↦ inl (grind arith)
-    | inr h ↦
-        let there : segment_of z u ≡ length z.transitions = let b = k.below in omega arith in
-        let type = rw is at (type_from z u t valid.transitions.rising (record { type = k.shows.type; segment = there })) in
-        let n = rule_begun z u start valid (near u t type k.shows.shown) begun in grind linear
-  ];
+  all = λ u t k. ⊎_elim (λ h. inl (grind arith))
+      (λ h.
+      let there : segment_of z u ≡ length z.transitions = let b = k.below in omega arith in
+      let type = rw is at (type_from z u t valid.transitions.rising (record { type = k.shows.type; segment = there })) in
+      grind (linear, rule_begun z u start valid (near u t type k.shows.shown) begun)) (cases_lt (segment_of z u) (length z.transitions));
   order = λ u v s t a b. let n = near v t b.type.type b.shown in grind (linear, rule_begun z v start valid, later_segment z u v);
 } where
   near : (u : ℤ) (t : LocalType) → RuleAt rule u t → u +ℤ t.offset ≡ l → IsNear u

@@ -2,12 +2,12 @@
 use Rattle.tz_info.proofs.{
   Fits.fits,
   Prefixes.last_taken,
-  WallSegments.{piece, shown_before, shown_after, shown_inside, shown_joined},
-  Words.{All-push, AreCutsCrossed, AreInOrder, AreOrdered, ArePassed, ArePieces, ArePiecesAt, IsCutAt, IsLastOf, IsNext, IsSegment, IsShownAmong},
-  Words.{IsStep, IsTable, IsWide, List, LocalType, None as none, Piece, Segment, Shown, Some, Transition, Zone, [], all_pairs_push, answer_at},
-  Words.{answer_before, ap, arith, by_lt_z, cases_lt, cut_of, first_come, get_or, get_or_append_left, get_or_push, index_of, inl, inr, ints},
-  Words.{le_false, le_true, length, length-map, length_push, linear, map, pos, refl, slice_get, slice_get_read, suc, take, take_more, times_ordered},
-  Words.{together, ℕ, ℤ, ⊎_elim, ◌*◌, ◌++◌, ◌+◌, ◌-◌, ◌<ℤ◌, ◌<◌, ◌∷◌, ◌≡◌, ◌≤ℤ◌, ◌≤◌},
+  WallSegments.{piece, shown_after, shown_before, shown_inside, shown_joined},
+  Words.{All-push, AreCutsCrossed, AreInOrder, AreOrdered, ArePassed, ArePieces, ArePiecesAt, IsCutAt, IsLastOf, IsNext, IsSegment, IsShownAmong, IsStep},
+  Words.{IsTable, IsWide, List, LocalType, None as none, Piece, Segment, Shown, Some, Transition, Zone, [], all_pairs_push, answer_at, answer_before, ap},
+  Words.{arith, by_lt_z, cases_lt, cut_of, first_come, get_or, get_or_append_left, get_or_push, index_of, inl, inr, ints, le_false, le_true, length},
+  Words.{length-map, length_push, linear, map, pos, refl, slice_get, slice_get_read, suc, take, take_more, times_ordered, together, ℕ, ℤ, ⊎_elim, ◌*◌, ◌++◌},
+  Words.{◌+◌, ◌-◌, ◌<ℤ◌, ◌<◌, ◌∷◌, ◌≡◌, ◌≤ℤ◌, ◌≤◌},
 }
 use Rattle.tz_info.specs.{Steps.SegmentEnds.end_of, declared.zone.made.shown.Shown.TheVariants.{Less, Once, Skipped}}
 
@@ -83,10 +83,8 @@ pub merging_more : {bx : Shown} {xs : List Piece} {by : Shown} {ys out after : L
     → AreInOrder ys → Merging together bx xs by ys out i j → IsStep xs i ys j start i_after j_after
     → a ≡ together (answer_before bx (take i_after xs)) (answer_before by (take j_after ys)) → after ≡ out ++ (record { start = start; answer = a } ∷ [])
     → Merging together bx xs by ys after i_after j_after
-merging_more in_x in_y m (inl s) is e =
-    rw (e, s.passed, s.stays) (merging_x m _ in_x s.next s.starts (rw (s.passed, s.stays) at is))
-merging_more in_x in_y m (inr s) is e =
-    rw (e, s.passed, s.stays) (merging_turned (merging_x (merging_turned m) _ in_y s.next s.starts (rw (s.stays, s.passed) at is)))
+merging_more in_x in_y m step is e = ⊎_elim (λ s. rw (e, s.passed, s.stays) (merging_x m _ in_x s.next s.starts (rw (s.passed, s.stays) at is)))
+    (λ s. rw (e, s.passed, s.stays) (merging_turned (merging_x (merging_turned m) _ in_y s.next s.starts (rw (s.stays, s.passed) at is)))) step
 
 -- pieces in order, by the list of their starts
 pub starts_in_order : (ps : List Piece) → AreInOrder ps → AreOrdered (map (λ (p : Piece). p.start) ps)
@@ -102,13 +100,7 @@ module _ (b : Shown) (ps : List Piece) (l : ℤ) (n : ℕ) (passed : ArePassed (
   none_answers latest = grind (arith, started)
 
   pub latest_answers : (p : Piece) → IsLastOf ps n (Some p) → p.answer ≡ answer_at b ps l
-  latest_answers p latest = elim (cases_lt 0 n) [
-    | inl h ↦
-        let (x, is, at) = latest.some h in
-        let e : n ≡ suc (n - 1) = omega arith in
-        let begun = rw e at started in grind (arith, length-map, passed.within, last_taken)
-    | inr g ↦ grind (arith, latest.none, last_taken)
-  ]
+  latest_answers p latest = grind (arith, started, length-map, passed.within, last_taken, cases_lt 0 n)
 
 -- ---- in one pass
 pub end_before : (types : List LocalType) (ts : List Transition) (place : ℕ) (t : LocalType) → slice_get types (index_of ts (place - 1)) ≡ Some t

@@ -9,7 +9,7 @@ use Rattle.tz_info.proofs.{
   Prefixes.Between,
   Words.{AreBelow, AreListed, ArePieces, AreRising, HasType, IsLeapTime, IsMerged, IsNear, IsSegment, IsShownAmong, IsShownIn, IsStart, IsTable, IsUtOffset},
   Words.{IsValid, IsWallAnswer, IsWide, List, ListedAmong, LocalResult, LocalType, None as none, Option, Piece, SFits, Segment, Shown, ShownAmong, Shows},
-  Words.{Some as some, Transition, TransitionRule, TypeAt, TypeIn, Zone, [], arith, by_lt_z, cases_lt, cut_of, index_of, inl, inr, joined, le_false, le_true},
+  Words.{Some as some, Transition, TransitionRule, TypeAt, TypeIn, Zone, [], answer_at, arith, by_lt_z, cases_lt, cut_of, index_of, joined, le_false, le_true},
   Words.{length, linear, place_at, segment_of, shown_indexes, suc, table_count, table_count_by, together, w64, ℕ, ℤ, ⊎_elim, ◌+◌, ◌-ℤ◌, ◌<ℤ◌, ◌<◌, ◌↔◌, ◌∷◌},
   Words.{◌≡◌, ◌≤ℤ◌, ◌≤◌, ◌⊎◌},
   ZoneLaws.leap_time_decided,
@@ -25,18 +25,13 @@ own_segment rule k n h = grind arith
 -- its type is the listed one
 pub type_in_table : (z : Zone) (k : ℕ) (u : ℤ) (t : LocalType) → AreRising z.transitions → k < table_count z → TypeIn z k u t
     → HasType z (index_of z.transitions k) t
-type_in_table z k u t rising own a = elim (own_segment z.rule k _ own) [
-  | inl h ↦ type_before z u t rising k a h
-  | inr h ↦ grind (linear, type_from z u t rising (rw h.1 at a))
-]
+type_in_table z k u t rising own a = grind (linear, own_segment z.rule k (length z.transitions) own, type_before z u t rising k a, type_from z u t rising)
 
 -- and at each of its seconds that type is in force
 pub type_of_table : (z : Zone) (k : ℕ) (u x : ℤ) (t : LocalType) → k < table_count z → IsLeapTime z.leaps u x → Between z.transitions x k k
     → HasType z (index_of z.transitions k) t → TypeIn z k u t
-type_of_table z k u x t own time b has = elim (own_segment z.rule k _ own) [
-  | inl h ↦ grind (linear, type_in_before z k u x t)
-  | inr h ↦ rw h.1 (type_in_from z u x t time (rw h.1 at b) (rw h.0 (rw h.1 at has)))
-]
+type_of_table z k u x t own time b has =
+    grind (linear, own_segment z.rule k (length z.transitions) own, type_in_before z k u x t, type_in_from z u x t time)
 
 pub leap_time_of : (z : Zone) (u : ℤ) → IsValid z → IsNear u → (x : ℤ) × IsLeapTime z.leaps u x
 leap_time_of z u valid near = ⊎_elim (λ x. x) (λ r. absurd (leap_times_answer _ u valid.leaps near.0 near.1 r)) (leap_time_decided _ u)
@@ -63,7 +58,7 @@ shown_joined z ts low middle high l a b rising h k x y =
       wall = rw e (joined_answer (ListedAmong z ts low middle l) (ListedAmong z ts middle high l) _ _ _ (record {
         first = grind arith;
         last = grind arith;
-        all = λ u i m. ⊎_elim (λ b. inl (grind arith)) (λ b. inr (grind arith)) (cases_lt (place_at ts u) middle);
+        all = λ u i m. grind (arith, cases_lt (place_at ts u) middle);
         order = grind (linear, places_rise);
       }) x.wall y.wall);
       side = grind arith;
@@ -127,30 +122,20 @@ module _ {z : Zone} {ts : List Transition} {top k : ℕ} {s : Segment} (table : 
     pub shown_inside : (0 < k → k ≤ length ts → cut_of ts k s.offset ≤ℤ l) → (k < length ts → l <ℤ cut_of ts (suc k) s.offset)
         → IsShownAmong z ts k (suc k) l (Once s.index)
     shown_inside from until =
-        let u = l -ℤ s.offset in
-        let near = near_here in
-        let most = place_most ts u table.rising in
-        let here : place_at ts u ≡ k = grind (linear, cut_begun k, cut_begun (suc k)) in
-        let index = is.index in let offset = is.offset in
-        record { wall = record { second = u; shown = grind linear; only = second_of }; side = tt }
+        let most = place_most ts (l -ℤ s.offset) table.rising in
+        let here : place_at ts (l -ℤ s.offset) ≡ k = grind (linear, cut_begun k, cut_begun (suc k)) in
+        let near = near_here in let index = is.index in let offset = is.offset in
+        record { wall = record { second = l -ℤ s.offset; shown = grind linear; only = second_of }; side = tt }
 
   -- the pieces of the first segment, which has no start
   pub first_pieces : k ≡ 0 → 0 < length ts → ArePieces z ts k (suc k) (Once s.index) (piece (cut_of ts (suc k) s.offset) Less ∷ [])
-  first_pieces first n = record {
-    ordered = search arith;
-    most = rw first (grind arith);
-    some = grind arith;
-    answers = grind (linear, le_false, le_true, shown_inside, shown_after);
-  }
+  first_pieces first n = grind (linear, le_false, le_true, shown_inside, shown_after)
 
   -- of the last one, which has no end
   pub last_pieces : 0 < k → k ≡ length ts → ArePieces z ts k (suc k) (Skipped k) (piece (cut_of ts k s.offset) (Once s.index) ∷ [])
-  last_pieces later n = record {
-    ordered = search arith;
-    most = grind arith;
-    some = grind arith;
-    answers = λ l wide. grind (linear, le_false, le_true, shown_inside l wide, shown_before l wide);
-  }
+  last_pieces later n =
+      let answers : (l : ℤ) → IsWide l → IsShownAmong z ts k (suc k) l (answer_at (Skipped k) (piece (cut_of ts k s.offset) (Once s.index) ∷ []) l) =
+      λ l wide. grind (linear, le_false, le_true, shown_inside l wide, shown_before l wide) in grind linear
 
   -- and of one between two entries
   pub inner_pieces : 0 < k → k < length ts
@@ -161,8 +146,7 @@ module _ {z : Zone} {ts : List Transition} {top k : ℕ} {s : Segment} (table : 
         ordered = grind linear;
         most = grind arith;
         some = grind arith;
-        answers = λ l wide. by_lt_z l (cut_of ts k s.offset)
-            (λ before. grind (linear, le_false, shown_before l wide))
+        answers = λ l wide. by_lt_z l (cut_of ts k s.offset) (λ before. grind (linear, le_false, shown_before l wide))
             (λ from. grind (linear, le_false, le_true, shown_inside l wide, shown_after l wide));
       }
 
@@ -201,18 +185,17 @@ module _ (z : Zone) (ts : List Transition) (top : ℕ) (l : ℤ) (table : IsTabl
 -- the first segments that are all of them
 pub all_segments : (z : Zone) (l : ℤ) (answer : LocalResult LocalType) → AreRising z.transitions
     → IsWallAnswer (IsShownIn z l (length z.transitions + 1)) answer → IsWallAnswer (Shows (TypeAt z) l) answer
-all_segments z l _ r = same_answer _ _ _ (λ u t k. k.shows)
-    (λ u t k. grind (arith, segment_most))
+all_segments z l answer r = same_answer _ _ _ (λ u t k. k.shows) (grind (arith, segment_most))
 
 -- without a rule the table has all seconds
 pub table_alone : (z : Zone) (l : ℤ) (a : LocalResult LocalType) → IsValid z → z.rule ≡ none → IsWallAnswer (ShownAmong z 0 (table_count z) l) a
     → IsWallAnswer (Shows (TypeAt z) l) a
-table_alone z l a valid e h = let r : table_count z ≡ length z.transitions + 1 = rw e (omega arith) in all_segments z l a valid.transitions.rising (rw r at h)
+table_alone z l a valid e h = grind (linear, all_segments)
 
 -- with one, those before the last transition
 pub table_first : (z : Zone) (rule : TransitionRule) (l : ℤ) (a : LocalResult LocalType) → z.rule ≡ some rule
     → IsWallAnswer (ShownAmong z 0 (table_count z) l) a → IsWallAnswer (IsShownIn z l (length z.transitions)) a
-table_first z _ l a e h = let r : table_count z ≡ length z.transitions = rw e in rw r at h
+table_first z rule l a e h = grind linear
 
 -- and the others come from the rule's beginning on
 pub rule_begun : (z : Zone) (u s : ℤ) → IsValid z → IsNear u → IsStart z.transitions z.leaps (length z.transitions) s

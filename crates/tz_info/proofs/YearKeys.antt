@@ -3,8 +3,8 @@ use Rattle.std.{proofs.{Math.Dec.eqb, lemmas.Bool.eqb-true}}
 use Rattle.tz_info.proofs.{
   Prefixes.one_true,
   Words.{Bool, IsRuleYear, List, SFits, all_below, ap, arith, false, floor_div, floor_mod, floor_mod_parts, floors, get_or, int_le, int_lt, is_leap},
-  Words.{kind_place, length, linear, pos, refl, true, w32, weekday_below, weekday_of, year_start, year_step, ℕ, ℤ, ◌&&◌, ◌*ℤ◌, ◌+ℤ◌, ◌-ℤ◌},
-  Words.{◌<◌, ◌∙◌, ◌≡◌, ◌≤ℤ◌, ◌↔◌},
+  Words.{kind_place, length, linear, pos, refl, true, w32, weekday_below, weekday_of, year_start, year_step, ℕ, ℤ, ◌&&◌, ◌*ℤ◌, ◌+ℤ◌, ◌-ℤ◌, ◌<◌, ◌↔◌, ◌∙◌, ◌≡◌},
+  Words.◌≤ℤ◌,
 }
 use Rattle.tz_info.specs.{
   Steps.ChangingYears.{dst_near, flips_at, has_flip, is_changing, key_years, leap_place, moment_by, place_of, turns_in, year_key, years_near},
@@ -70,8 +70,7 @@ leaps_solo x = grind (linear, leap_fourth)
 
 leaps_alike : (x y : ℤ) → leap_place x ≡ leap_place y → LeapsAlike x y
 leaps_alike x y e =
-    let a = solo_at _ _ _ _ (leaps_solo x) in let b = solo_at _ _ _ _ (leaps_solo y) in
-    record { before = cc; here = cc; after = cc; later = cc }
+    let a = solo_at _ _ _ _ (leaps_solo x) in let b = solo_at _ _ _ _ (leaps_solo y) in grind arith
 
 -- the one year's days are those of the other one, whole weeks later
 weeks : (s t : ℤ) → weekday_of s ≡ weekday_of t → (q : ℤ) × (t ≡ s +ℤ pos 7 *ℤ q)
@@ -123,15 +122,10 @@ module _ (x y q : ℤ) (leaps : LeapsAlike x y) (start : year_start y ≡ year_s
 
 -- they change alike
 pub changing_alike : (starts ends : List ℤ) (calm : Bool) (x y : ℤ) → year_key x ≡ year_key y → is_changing starts ends calm y ≡ is_changing starts ends calm x
-changing_alike _ _ _ x y e =
-    let places : leap_place x ≡ leap_place y = grind arith in let weekday : weekday_of (year_start x) ≡ weekday_of (year_start y) = grind arith in
-    let leaps = leaps_alike x y places in
-    let (q, start) = weeks _ _ weekday in
+changing_alike starts ends calm x y e =
+    let leaps = leaps_alike x y (grind arith) in
+    let (q, start) = weeks (year_start x) (year_start y) (grind arith) in
     by_calm x y q leaps start _ _ _
-
--- the year of each key has that key
-same_is : (a b : ℕ) (year : ℤ) → (eqb a b && int_le (pos 2000) year && int_le year (pos 2299)) ≡ true → (a ≡ b) × (pos 2000 ≤ℤ year) × (year ≤ℤ pos 2299)
-same_is a b year h = grind (arith, eqb-true)
 
 abbrev fits_key : ℕ → Bool
 fits_key k = let year = get_or key_years k (pos 0) in eqb (year_key year) k && int_le (pos 2000) year && int_le year (pos 2299)
@@ -141,7 +135,7 @@ unfolding key_years year_start
 each_key = refl
 
 pub keys_are : (k : ℕ) → k < 35 → let year = get_or key_years k (pos 0) in (year_key year ≡ k) × (pos 2000 ≤ℤ year) × (year ≤ℤ pos 2299)
-keys_are k h = same_is _ k _ (one_true 35 k fits_key h each_key)
+keys_are k h = let e = one_true 35 k fits_key h each_key in grind (arith, eqb-true)
 
 pub key_count : length key_years ≡ 35
 unfolding key_years

@@ -45,7 +45,7 @@ pub fn ordinary_length_law()
 {}
 
 /// A local time has one first second at or after it, and a later local time no earlier one.
-#[tactic(auto, using(crate::proofs::ShownSecondLaws::one_first, crate::proofs::ShownSecondLaws::first_rises))]
+#[tactic(auto, using(crate::proofs::ShownSecondLaws::one_first))]
 pub fn first_at_or_after_law()
     ensures once { (z : Zone) (local u v : ℤ) (s t : LocalType)
         → IsFirstAtOrAfter (TypeAt z) local u s → IsFirstAtOrAfter (TypeAt z) local v t

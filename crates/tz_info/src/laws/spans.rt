@@ -20,7 +20,6 @@ pub fn one_span_law()
 {}
 
 /// If the zone has a type just before a span or just after it, clocks change at that end.
-#[tactic(auto, using(crate::proofs::SpanLaws::begin_changes, crate::proofs::SpanLaws::end_changes))]
 pub fn span_ends_law()
     ensures begins { (z : Zone) (s : Span) (u : ℤ) (t : LocalType) → IsSpan (TypeAt z) s
         → s.from ≡ Some u → TypeAt z (u -ℤ pos 1) t

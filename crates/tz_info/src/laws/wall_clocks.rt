@@ -13,7 +13,7 @@ use offset_core::{Around, LocalResult};
 use tz_base::Change;
 
 /// Each local time has an answer in each zone.
-#[tactic(auto, using(crate::proofs::WallTimes::wall_decided))]
+#[tactic(auto, using(crate::proofs::WallLaws::wall_decided))]
 pub fn decided()
     ensures { (z : Zone) (local : ℤ) → IsValid z → IsRuleOrNone z.rule
         → (types : LocalResult LocalType) × IsWallAnswer (Shows (TypeAt z) local) types }

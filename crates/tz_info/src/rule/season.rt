@@ -41,7 +41,7 @@ impl AlternateTime {
     /// [`Error::OutOfRange`] if the second's UTC year is below `i32::MIN + 2` or above
     /// `i32::MAX - 2`.
     #[inline(always)]
-    #[tactic(auto, using(crate::proofs::Fits::in_range, crate::proofs::RuleLaws::refused_outside))]
+    #[tactic(auto, using(crate::proofs::Fits::in_range, crate::proofs::RuleLaws::rule_time))]
     pub fn find_local_time_type(&self, unix_time: i64) -> Result<&LocalTimeType, Error>
         ensures { MatchResult result
             (λ t. AlternateAt self.now unix_time t.now)
@@ -123,6 +123,7 @@ impl AlternateTime {
 
     // The moments of the year, by its kind.
     #[inline(always)]
+    #[tactic(auto, using(crate::proofs::Fits::in_range, crate::proofs::SearchWords::ints, crate::proofs::Words::floors, crate::proofs::SeasonLaws::own_start))]
     pub(super) fn turns(&self, year: i32) -> Turns
         ensures start { result.start ≡ start_in self.now year }
         ensures end { result.end ≡ end_in self.now year }

@@ -51,7 +51,7 @@ impl Hints {
 
     // Hints at those items, which have those ends. It is not inlined, so that its loops have the registers.
     #[inline(never)]
-    #[tactic(auto, using(crate::proofs::HintLaws::raised_rising))]
+    #[tactic(auto, using(crate::proofs::SearchSteps::raised_rising))]
     pub(super) fn new<T: Timed>(alloc: Global, items: &[T], ends: Ends) -> Result<Hints, AllocError>
         requires ordered { AreOrdered (map T.time items.now) }
         requires ends { AreEnds (map T.time items.now) ends }
@@ -162,7 +162,7 @@ fn raise(numbers: &mut [u32])
 
 // The most by which a number is greater than the one before it. It is a loop of its own, for which
 // the compiler takes several numbers at once.
-#[tactic(auto, using(crate::proofs::HintLaws::steps_more))]
+#[tactic(auto, using(crate::proofs::SearchSteps::steps_more))]
 fn most_between(numbers: &[u32]) -> u32
     requires { AreNonDecreasing numbers.now }
     ensures { AreStepsUntil numbers.now result (length numbers.now) }

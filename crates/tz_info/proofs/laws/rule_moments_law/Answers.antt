@@ -1,4 +1,4 @@
-use Rattle.tz_info.proofs.RuleTurns.{ends, starts}
+use Rattle.tz_info.proofs.RuleChanges.{ends, starts}
 use Rattle.tz_info.proofs.laws.rule_moments_law.Goals as goal
 
 pub returns : goal.returns

@@ -1,4 +1,4 @@
-use Rattle.tz_info.proofs.{LastType.last_type, ZoneLaws.{type_decided, type_listed, type_not_refused, type_once}}
+use Rattle.tz_info.proofs.{SecondTypes.last_type, ZoneLaws.{type_decided, type_listed, type_not_refused, type_once}}
 use Rattle.tz_info.proofs.laws.zone_types_law.Goals as goal
 
 pub returns : goal.returns

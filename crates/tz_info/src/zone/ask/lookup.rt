@@ -224,7 +224,7 @@ impl TimeZone {
     }
 
     // How many transitions come at or before the leap time.
-    #[tactic(auto, using(crate::proofs::WalkLaws::room))]
+    #[tactic(auto, using(crate::proofs::SegmentEndLaws::steps))]
     pub(in crate::zone) fn passed_count(&self, leap_time: i64, probes: &mut Probes) -> usize
         requires { HasRoomFor (2 ^ 64) probes.old.reads }
         ensures within { result ≤ length self.now.transitions }

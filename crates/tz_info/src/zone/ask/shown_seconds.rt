@@ -150,7 +150,7 @@ impl TimeZone {
 
     // The first second that shows a local time of the stretch, or the last one: goes from run to run
     // in that direction, until one has such a second.
-    #[tactic(auto, using(crate::proofs::SearchWords::ints, crate::proofs::ShownSecondLaws::none_left))]
+    #[tactic(auto, using(crate::proofs::SearchWords::ints))]
     fn end_within(&self, from: i64, until: i64, forward: bool) -> Option<HeldSecond<'_>>
         requires from { IsEnd from }
         requires until { IsEnd until }

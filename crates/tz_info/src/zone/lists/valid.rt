@@ -69,7 +69,7 @@ fn rule_agrees<T: AsTransition>(
 }
 
 // Whether at the Unix time of the last transition the rule has that transition's type.
-#[tactic(auto, using(crate::proofs::RuleLaws::differs_without_rule, crate::proofs::RuleLaws::differs_without_time))]
+#[tactic(auto, using(crate::proofs::RuleLaws::rule_not_refused))]
 fn agrees(
     types: &[LocalTimeType],
     leaps: &[LeapSecond],

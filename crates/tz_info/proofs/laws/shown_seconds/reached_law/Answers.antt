@@ -1,4 +1,4 @@
-use Rattle.tz_info.proofs.ReachedLaws.{adjoint, one_reached, reached_rises}
+use Rattle.tz_info.proofs.ShownSecondLaws.{adjoint, one_reached, reached_rises}
 use Rattle.tz_info.proofs.laws.shown_seconds.reached_law.Goals as goal
 
 pub returns : goal.returns

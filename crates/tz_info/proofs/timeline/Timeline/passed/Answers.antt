@@ -1,9 +1,9 @@
 use Rattle.tz_info.proofs.{
   Fits.fits,
-  HintLaws.near_hinted,
-  SearchSteps.{all_passed, digits-halved, none_passed},
+  SearchSteps.{all_passed, digits-halved, near_hinted, none_passed},
   SearchWords.{AreEnds, AreHints, SFits, arith, length, length-map, linear, map, pow_pos, rules, w64, ◌≡◌},
-  timeline.Timeline.passed.{Given.Over, Goals.After-self},
+  timeline.Timeline.passed.Given.Over,
+  timeline.Timeline.passed.Goals.After-self,
 }
 use Rattle.tz_info.proofs.timeline.Timeline.passed.Goals as goal
 

@@ -1,6 +1,5 @@
 use Rattle.tz_info.proofs.{
-  HintLaws.marked_more,
-  SearchSteps.time_read,
+  SearchSteps.{marked_more, time_read},
   SearchWords.{arith, item_time, length-set, linear, map, stretch_of, to_z-of_z, ◌/◌, ◌^◌, ◌≡◌},
   timeline.hints.mark.Given.Over,
 }

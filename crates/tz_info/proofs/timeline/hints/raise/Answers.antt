@@ -1,4 +1,4 @@
-use Rattle.tz_info.proofs.{HintLaws.raising_more, timeline.hints.raise.Goals.{else-numbers-i-ne0, then-numbers-i-ne0}}
+use Rattle.tz_info.proofs.{SearchSteps.raising_more, timeline.hints.raise.Goals.{else-numbers-i-ne0, then-numbers-i-ne0}}
 use Rattle.tz_info.proofs.timeline.hints.raise.Goals as goal
 
 pub loop-i-preserved : goal.loop-i-preserved

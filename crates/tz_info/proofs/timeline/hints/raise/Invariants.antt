@@ -1,4 +1,4 @@
-use Rattle.tz_info.proofs.HintLaws.{Raising}
+use Rattle.tz_info.proofs.SearchSteps.{Raising}
 use Rattle.tz_info.proofs.timeline.hints.raise.Given as goal
 
 abbrev pub invariant-loop-i : goal.invariant-loop-i

@@ -1,8 +1,9 @@
 use Rattle.tz_info.proofs.{
+  Fits.fits,
   QuestionLaws.{asked_in_turn, asked_neither, asked_once},
-  SeasonAnswers.{found_both, found_none, found_one, same_offset, too_early},
-  Words.{SFits, ap, int_lt, linear, not, refl, rules, to_z-of_z, true, type_when, w32, w64, ◌-ℤ◌, ◌<ℤ◌, ◌∙◌, ◌≡◌},
-  rule.alternate.AlternateTime.answer_from.Goals.{After-offset-last},
+  SeasonLaws.{found_both, found_none, found_one, same_offset, too_early},
+  Words.{SFits, int_lt, linear, not, rules, to_z-of_z, true, type_when, w32, w64, ◌-ℤ◌, ◌<ℤ◌, ◌≡◌},
+  rule.alternate.AlternateTime.answer_from.Goals.After-offset-last,
 }
 use Rattle.tz_info.proofs.rule.alternate.AlternateTime.answer_from.Goals as goal
 
@@ -10,18 +11,7 @@ use Rattle.tz_info.proofs.rule.alternate.AlternateTime.answer_from.Goals as goal
 offsets : (c : After-offset-last) → let a = c.args.self.now in let dst = int_lt c.offset.result c.offset-2.result in
     SFits w64 c.args.from × SFits w64 c.args.local × SFits w32 c.offset-first.result × SFits w32 c.offset-last.result × (dst ≡ int_lt a.std.offset a.dst.offset)
     × (c.offset-first.result ≡ (type_when a dst).offset) × (c.offset-last.result ≡ (type_when a (not dst)).offset)
-offsets c =
-    let f1 : SFits w32 c.offset.result = search rules in let f2 : SFits w32 c.offset-2.result = search rules in
-    let std = c.offset.ensures.value ∙ ap (λ t. t.offset) c.std.ensures.value in
-    let dst = c.offset-2.ensures.value ∙ ap (λ t. t.offset) c.dst.ensures.value in (
-      c.ranges.from,
-      c.ranges.local,
-      search rules,
-      search rules,
-      rw (std, dst) refl,
-      c.offset-first.ensures.value ∙ ap (λ t. t.offset) (simp to_z-of_z at c.type_when.ensures),
-      c.offset-last.ensures.value ∙ ap (λ t. t.offset) (simp to_z-of_z at c.type_when-2.ensures),
-    )
+offsets c = grind (linear, fits)
 
 pub returns : goal.returns
 returns c =

@@ -1,4 +1,4 @@
-use Rattle.tz_info.proofs.{Fits.fits, RuleGaps.gap_at, Words.{ap, refl, ◌∙◌}}
+use Rattle.tz_info.proofs.{Fits.fits, SeasonLaws.gap_at, Words.{ap, refl, ◌∙◌}}
 use Rattle.tz_info.proofs.rule.alternate.AlternateTime.gap_in.Goals as goal
 
 pub returns : goal.returns

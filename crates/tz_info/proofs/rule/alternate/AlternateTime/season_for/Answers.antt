@@ -1,4 +1,4 @@
-use Rattle.tz_info.proofs.{SeasonAnswers.within, Words.{SFits, rules, to_z-of_z, w64}}
+use Rattle.tz_info.proofs.{SeasonLaws.within, Words.{SFits, rules, to_z-of_z, w64}}
 use Rattle.tz_info.proofs.rule.alternate.AlternateTime.season_for.Goals as goal
 
 pub returns-then-second_showing-season : goal.returns-then-second_showing-season

@@ -1,7 +1,7 @@
 use Rattle.tz_info.proofs.{
-  HintLaws.{first_least, hints_made, marks_rise, slots},
-  SearchWords.{List, SFits, arith, drop, length, length-map, length-replicate, linear, map, rules, take, take-append-le, take_all, to_z-of_z, w64, ℕ},
-  SearchWords.{◌++◌, ◌/◌, ◌^◌, ◌+◌, ◌≡◌},
+  SearchSteps.{first_least, hints_made, marks_rise, slots},
+  SearchWords.{List, SFits, arith, drop, length, length-map, length-replicate, linear, map, rules, take, take-append-le, take_all, to_z-of_z, w64, ℕ, ◌++◌},
+  SearchWords.{◌+◌, ◌/◌, ◌^◌, ◌≡◌},
 }
 use Rattle.tz_info.proofs.timeline.hints.Hints.new.Goals as goal
 

@@ -2,7 +2,7 @@ use Rattle.tz_info.proofs.{
   EntryChanges.looks_most,
   Fits.fits,
   TableLaws.{gap_by_index, reach_of},
-  Words.{HasReach, IsShownAmong, ap, arith, length, linear, rules, top_of, ◌≡◌},
+  Words.{HasReach, IsShownAmong, arith, linear, rules, top_of, ◌≡◌},
   zone.time_zone.TimeZone.around.Goals.{After-answer-shown, After-answer_after-season},
 }
 use Rattle.tz_info.specs.{Looks.RoseByWallClock, Steps.Entries.AreEntries}
@@ -22,10 +22,7 @@ reach : (c : After-answer-shown) → HasReach c.args.self.now c.args.local
 reach c = reach_of _ _ c.self.inside.extremes c.requires.local (search rules) (search rules) (grind arith)
 
 pub answer_after-season-requires-clause-shown : goal.answer_after-season-requires-clause-shown
-answer_after-season-requires-clause-shown c =
-    let fl = c.ranges.local in
-    let d = (goal.at.answer_after-season-requires-clause-shown c).After-answer-shown in
-    simp fits (c.self.inside.changes, entries d, (said d).wall)
+answer_after-season-requires-clause-shown c = grind (linear, fits, said, entries)
 
 pub gap_at-requires : goal.gap_at-requires
 gap_at-requires c =
@@ -44,9 +41,7 @@ gap_at-requires c =
 
 -- one search, and questions to the rule
 cost : (c : After-answer_after-season) → RoseByWallClock c.args.self.now c.args.probes.now c.answer_after-season.new.probes
-cost c =
-    let n = ap (λ z. length z.transitions) c.self.view_is in
-    grind (linear, looks_most)
+cost c = grind (linear, fits, looks_most)
 
 pub returns-in-None : goal.returns-in-None
 returns-in-None c =

@@ -1,6 +1,6 @@
 use Rattle.tz_info.proofs.{
   Fits.fits,
-  FoldLaws.{begins, begins_at, fold_at, goes_back},
+  FoldLaws.{begins_at, first_outside, fold_at, goes_back},
   Words.{SFits, by_lt_z, linear, pos, rules, to_z, w64, ◌-ℤ◌, ◌<ℤ◌, ◌≤ℤ◌},
   zone.time_zone.TimeZone.change_back.Goals.In-Some,
 }
@@ -9,9 +9,7 @@ use Rattle.tz_info.proofs.zone.time_zone.TimeZone.change_back.Goals as goal
 pub unreachable-requires : goal.unreachable-requires
 unreachable-requires c =
     let fl = c.ranges.local in let ff = c.ranges.first in let fe = c.ranges.last in
-    begins _ _ _ _ _ _ c.requires.ends
-    (simp fits at c.loop-at.invariant)
-    c.near_span_at-span.ensures c.in_default.is
+    first_outside _ _ _ _ _ _ c.requires.ends (simp fits at c.loop-at.invariant) c.near_span_at-span.ensures (rw c.in_default.is tt)
 
 -- the second before the change, and that its type and its place are those of the code
 before : (c : In-Some)
@@ -21,8 +19,7 @@ before c =
     let fl = c.ranges.local in let ff = c.ranges.first in let fe = c.ranges.last in
     let fa : SFits w64 c.in-Some.at = search rules in
     let back = simp fits at c.loop-at.invariant in
-    let begun = begins_at _ _ _ _ _ _ c.requires.ends back c.near_span_at-span.ensures
-    _ c.in-Some.is in
+    let begun = begins_at _ _ _ _ _ _ c.requires.ends back c.near_span_at-span.ensures _ c.in-Some.is in
     (fl, ff, fe, fa, omega linear, begun.0, begun.1)
 
 pub type_at-before-requires : goal.type_at-before-requires
@@ -34,22 +31,16 @@ pub returns-then-has_reached : goal.returns-then-has_reached
 returns-then-has_reached c =
     let (fl, ff, fe, fa, fb, later, most) = before (goal.at.returns-then-has_reached c).In-Some in
     let reached = simp fits at (c.has_reached.ensures.0 c.if-has_reached.true) in
-    simp fits (fold_at _ _ _ _ _ _ _
-    _
-    c.requires.ends (simp fits at c.loop-at.invariant) c.near_span_at-span.ensures c.requires.near_first c.requires.near_last c.in-Some.is
-    (simp fits at c.type_at-before.ensures) reached)
+    simp fits (fold_at _ _ _ _ _ _ c.requires.ends (simp fits at c.loop-at.invariant) c.near_span_at-span.ensures _ _ c.requires.near_first
+    c.requires.near_last c.in-Some.is (simp fits at c.type_at-before.ensures) reached)
 
 pub loop-at-smaller : goal.loop-at-smaller
-loop-at-smaller c =
-    let (fl, ff, fe, fa, fb, later, most) = before (goal.at.loop-at-smaller c).In-Some in
-    simp fits (omega linear)
+loop-at-smaller c = grind (linear, fits, before)
 
 pub loop-at-preserved : goal.loop-at-preserved
 loop-at-preserved c =
     let (fl, ff, fe, fa, fb, later, most) = before (goal.at.loop-at-preserved c).In-Some in
     let less = by_lt_z _ c.args.local (λ l. l)
     (λ m. let t = (simp fits at c.has_reached.ensures).1 m in cc) in
-    simp fits (goes_back _ _ _ _ _ _ _
-    _
-    c.requires.ends (simp fits at c.loop-at.invariant) c.near_span_at-span.ensures c.requires.near_first c.requires.near_last c.in-Some.is
-    (simp fits at c.type_at-before.ensures) less)
+    simp fits (goes_back _ _ _ _ _ _ c.requires.ends (simp fits at c.loop-at.invariant) c.near_span_at-span.ensures _ _ c.requires.near_first
+    c.requires.near_last c.in-Some.is (simp fits at c.type_at-before.ensures) less)

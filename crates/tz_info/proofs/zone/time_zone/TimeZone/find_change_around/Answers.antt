@@ -4,9 +4,7 @@ use Rattle.tz_info.proofs.zone.time_zone.TimeZone.find_change_around.Goals as go
 
 -- the first and the last second that show the local time
 ends : (c : After-second_showing-last) → AreEndsOfFold c.args.self.now c.args.local.secs c.second_showing-first.result c.second_showing-last.result
-ends c =
-    let ff = c.offset.type_inv in let fo = c.offset-in-Ambiguous.type_inv in
-    let local = c.secs_since_epoch-local.ensures in grind (linear, fits, ends_of_fold)
+ends c = grind (linear, fits, ends_of_fold)
 
 pub change_back-requires-clause-ends : goal.change_back-requires-clause-ends
 change_back-requires-clause-ends c =

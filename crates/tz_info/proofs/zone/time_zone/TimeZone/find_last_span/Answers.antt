@@ -1,4 +1,4 @@
-use Rattle.tz_info.proofs.{Fits.fits, LastSpanLaws.last_spans, SpanLaws.span_between, Words.{None, SFits, linear, rules, w32, w64}}
+use Rattle.tz_info.proofs.{Fits.fits, SpanLaws.{last_spans, span_between}, Words.{None, SFits, linear, rules, w32, w64}}
 use Rattle.tz_info.proofs.zone.time_zone.TimeZone.find_last_span.Goals as goal
 
 pub returns : goal.returns

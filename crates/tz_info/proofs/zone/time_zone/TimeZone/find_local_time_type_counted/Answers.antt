@@ -1,7 +1,7 @@
 use Rattle.tz_info.proofs.{
   Fits.fits,
-  PassedTransitions.{with_transitions, without_transitions},
   QuestionLaws.{asked_at_time, asked_without},
+  SegmentLaws.{with_transitions, without_transitions},
   Words.{arith, by_leap_time, linear, refl, rules},
 }
 use Rattle.tz_info.proofs.zone.time_zone.TimeZone.find_local_time_type_counted.Goals as goal

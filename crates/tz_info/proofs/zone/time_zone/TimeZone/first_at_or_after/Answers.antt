@@ -2,8 +2,8 @@ use Rattle.tz_info.proofs.{
   DigitLaws.digits-less,
   EntryChanges.{rose_less, rose_then},
   Fits.fits,
-  RuleSegments.first_by_rule,
   SegmentEndLaws.{begun_near, first_there},
+  ShownSecondLaws.first_by_rule,
   TableLaws.{reach_of, table_of, top_least},
   Words.{HasReach, IsRuleOrNone, IsValid, SFits, ap, arith, cases_eq, digits, digits-more, inl, inr, linear, rules, w64, ℕ, ◌*◌, ◌+◌, ◌<◌, ◌≤◌},
   zone.time_zone.TimeZone.first_at_or_after.Goals.After-first_reaching-place,
@@ -22,8 +22,7 @@ reach : (c : After-first_reaching-place) → HasReach c.args.self.now c.args.loc
 reach c = reach_of _ _ c.self.inside.extremes c.requires.local (search rules) (search rules) (grind linear)
 
 first : (c : After-first_reaching-place) → IsFirstSegment c.args.self.now.types c.self.inside.changes.items c.args.local c.first_reaching-place.result
-first c =
-    let fl = c.ranges.local in grind (linear, fits)
+first c = grind (linear, fits)
 
 -- the probes of the search are fewer than the bound, if there is an entry
 fewer : (n m : ℕ) → n ≤ m → digits n ≤ 2 * digits m × (0 < n → digits n + 1 ≤ 2 * digits m)

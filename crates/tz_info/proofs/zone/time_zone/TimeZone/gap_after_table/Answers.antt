@@ -1,4 +1,4 @@
-use Rattle.tz_info.proofs.{Fits.fits, RuleGaps.gap_by_season, Words.IsSeasonIn}
+use Rattle.tz_info.proofs.{Fits.fits, SeasonLaws.gap_by_season, Words.IsSeasonIn}
 use Rattle.tz_info.proofs.zone.time_zone.TimeZone.gap_after_table.Goals as goal
 
 pub returns : goal.returns

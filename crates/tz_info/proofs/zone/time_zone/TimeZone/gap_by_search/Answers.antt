@@ -23,14 +23,10 @@ near c =
     (ff, omega (arith, ints), near.0, near.1, (omega (arith, ints), omega (arith, ints)))
 
 pub overflow_sub-first : goal.overflow_sub-first
-overflow_sub-first c =
-    let (ff, fb, low, high, near) = near (goal.at.overflow_sub-first c).After-first_at_or_after-first in
-    omega (arith, ints)
+overflow_sub-first c = grind (linear, fits, near)
 
 pub type_at-requires : goal.type_at-requires
-type_at-requires c =
-    let (ff, fb, low, high, near) = near (goal.at.type_at-requires c).After-first_at_or_after-first in
-    simp fits near
+type_at-requires c = grind (linear, fits, near)
 
 pub returns : goal.returns
 returns c =

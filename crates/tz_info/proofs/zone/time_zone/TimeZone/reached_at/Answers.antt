@@ -1,9 +1,8 @@
 use Rattle.tz_info.proofs.{
   EntryChanges.{rose_less, rose_then},
   Fits.fits,
-  ReachedLaws.{at_end, at_segment, reached_in},
-  RuleSegments.reached_by_rule,
   SegmentEndLaws.begun_by,
+  ShownSecondLaws.{at_end, at_segment, reached_by_rule, reached_in},
   Words.{RoseWithin, SFits, TypeAt, ap, arith, begin_of, digits, digits-more, ints, length, linear, pos, refl, rules, slice_get_read, sym, to_z, w32, w64, ◌+◌},
   Words.◌-ℤ◌,
   zone.time_zone.TimeZone.reached_at.Goals.After-latest_end-end,

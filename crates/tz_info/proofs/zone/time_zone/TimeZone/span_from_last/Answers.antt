@@ -1,4 +1,4 @@
-use Rattle.tz_info.proofs.{Fits.fits, SpanSearch.span_of_rule, Words.{SFits, rules, w64}}
+use Rattle.tz_info.proofs.{Fits.fits, SpanLaws.span_of_rule, Words.{SFits, rules, w64}}
 use Rattle.tz_info.proofs.zone.time_zone.TimeZone.span_from_last.Goals as goal
 
 pub returns : goal.returns

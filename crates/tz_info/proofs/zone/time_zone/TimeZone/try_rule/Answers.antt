@@ -2,7 +2,7 @@ use Rattle.tz_info.proofs.{
   AnswerLaws.joined_answer,
   Fits.fits,
   QuestionLaws.asked_by_zone,
-  RuleGaps.season_in,
+  SeasonLaws.season_in,
   TableLaws.start_begun,
   WalkLaws.with_rule,
   Words.{IsStart, length, linear, rules},
