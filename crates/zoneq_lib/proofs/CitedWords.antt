@@ -14,7 +14,7 @@ pub use Rattle.zoned_ref.proofs.Words.{Zoned, ap, arith, false, get_or, inl, inr
 pub use Rattle.zoned_ref.proofs.Words.{type_decided, w32, w64, wall_decided, zero, ℕ, ℤ, ◌++◌, ◌-ℤ◌, ◌<◌, ◌∙◌, ◌∷◌, ◌≡◌, ◌≢◌, ◌⊎◌, []}
 pub use Rattle.zoneq_lib.specs.{Answers.{AnswersLine, AnswersLines, AnswersQuery}, Runs.{HasNoNewline, IsSplit, ended_lines, without_return}}
 pub use Rattle.zoneq_lib.specs.{Questions.{Asks, IsBadLine, Query}, Runs.{Answers, StopsWith}, Steps.Outcomes.{Answered, AnswersAfter, AnswersIn, StopsIn}}
-pub use Rattle.zoneq_lib.specs.{Steps.{Hopeless.{IsHopeless, IsKeptFor}, Outcomes.{AnswersAtEnd, AnswersLast, StopsAtEnd}}, declared.bad_line.BadLine.{BadLine}}
+pub use Rattle.zoneq_lib.specs.{Steps.Outcomes.{AnswersAtEnd, AnswersLast, IsHopeless, IsKeptFor, StopsAtEnd}, declared.bad_line.BadLine.{BadLine}}
 unfoldable pub use Rattle.tz_base.specs.Fronts.{int_at, optional_tag_at, tag_at}
 unfoldable pub use Rattle.tz_info.proofs.Words.{exact_at}
 unfoldable pub use Rattle.zoneq_lib.specs.Questions.{Begins, Word, at_query, calendar_day, data_query, integer, local_time, next, query_line, question}

@@ -1,17 +1,141 @@
--- Every line has an answer, so that answers to a front of an input can be carried on to its end.
-use Rattle.zoneq_lib.proofs.CitedWords.{All-head, All-nil, All-tail, Answered, AnswersLast, AnswersLine, AnswersLines, AnswersQuery, Asks, Choice}
-use Rattle.zoneq_lib.proofs.CitedWords.{HasNoNewline, IsBadLine, IsDateOf, IsDayInRange, IsInRange, IsRuleOrNone, IsSplit, IsValid, IsYearInRange, List, None}
-use Rattle.zoneq_lib.proofs.CitedWords.{Option, Query, Reading, Some, Spells, Zone, append-nil, append_assoc, arith, at_query, calendar_day, data_query}
-use Rattle.zoneq_lib.proofs.CitedWords.{days_in_month, ended_lines, false, file_rule_fits, inl, inr, integer, is_leap, lawful, length, length-append}
-use Rattle.zoneq_lib.proofs.CitedWords.{local_time, nat_le, next, posix_zone_valid, query_line, question, refl, resolve_query, show_query, subst, sym}
-use Rattle.zoneq_lib.proofs.CitedWords.{text_fault_or_zone, true, type_decided, wall_decided, wall_query, ℕ, ℤ, [], ◌&&◌, ◌++◌, ◌<◌, ◌∷◌, ◌≡◌, ◌≢◌, ◌≤◌, ◌⊎◌}
-use Rattle.zoneq_lib.proofs.{Joining.{answers_all, from_start, join}, Showing.{resolve_covered, show_covered}}
-use Rattle.zoneq_lib.specs.{Questions.{At, Data, Resolve, Show, Text, Wall, text_query}, Runs.{AnswersBefore, BeginsAnswers}}
-use Rattle.std.proofs.lemmas.Bool.{cases_eq}
+-- Answers: what is written of what was read is one, every line has one, and the answers to the parts of an input make those to the whole.
+use Rattle.std.proofs.lemmas.{Bool.{cases_eq}, List.{map-append, Concat.{flat_map-append}}}
+use Rattle.naive_base.{proofs.ForCallers.{date_in_years}, specs.{Stamp.{IsStamp}, declared.date.NaiveDate.{NaiveDate}}}
 use Rattle.tz_base.proofs.Decided.{apart, either}
-use Rattle.tz_info.proofs.PosixLaws.{posix_law}
-use Rattle.naive_base.{proofs.ForCallers.{date_in_years}, specs.declared.date.NaiveDate.{NaiveDate}}
+use Rattle.tz_info.proofs.{PosixLaws.{posix_law}, Words.{IfOk, IsOutOfMemory, IsPosixFault, error_number}}
+use Rattle.tz_info.specs.{TzFiles.{IsZoneFault, IsZoneFault.{In_file, No_memory}}, declared.zone.time_zone.TimeZone.{TimeZone}}
+use Rattle.zoned_ref.proofs.{ForCallers.{choice_covered, zone_has_offsets}, Words.{All, AreOffsetsOf, IsNarrow, IsWide, IsWithinDay, Law, Meaning, in_seconds}}
+use Rattle.zoned_ref.proofs.Words.{rule_types}
+use Rattle.zoneq_lib.proofs.CitedWords.{All-append, All-cons, All-head, All-nil, All-tail, Answered, Answers, AnswersAfter, AnswersLast, AnswersLine}
+use Rattle.zoneq_lib.proofs.CitedWords.{AnswersLines, AnswersQuery, Asks, Choice, Err, Error, HasNoNewline, IfErr, IsBadLine, IsDateOf, IsDayInRange, IsInRange}
+use Rattle.zoneq_lib.proofs.CitedWords.{IsKeptFor, IsPosixZone, IsResolved, IsRuleOrNone, IsSplit, IsTzFile, IsValid, IsYearInRange, List, LocalType}
+use Rattle.zoneq_lib.proofs.CitedWords.{MatchResult, None, Ok, Option, Query, Reading, Result, Some, Spells, Zone, Zoned, append-nil, append_assoc, arith}
+use Rattle.zoneq_lib.proofs.CitedWords.{at_query, behind, calendar_day, codes, data_query, days_in_month, ended_lines, false, file_fault_or_zone}
+use Rattle.zoneq_lib.proofs.CitedWords.{file_rule_fits, in_range_or_not, inl, inr, integer, ints, is_leap, lawful, length, length-append, local_time, nat_le}
+use Rattle.zoneq_lib.proofs.CitedWords.{next, of_secs, posix_zone_valid, query_line, question, refl, resolve_query, show_query, subst, sym, text_fault_or_zone}
+use Rattle.zoneq_lib.proofs.CitedWords.{true, type_decided, wall_decided, wall_query, without_return, ℕ, ℤ, [], ◌&&◌, ◌++◌, ◌-ℤ◌, ◌<◌, ◌∷◌, ◌≡◌, ◌≢◌, ◌≤◌, ◌⊎◌}
+use Rattle.zoneq_lib.specs.Answers.{AnswersFile, AnswersResolve, AnswersShow, AnswersText, shown_date_time, shown_refusal, shown_zone}
+use Rattle.zoneq_lib.{proofs.ScanLaws.{more_hopeless}, specs.{Questions.{At, Data, Resolve, Show, Text, Wall, text_query}, Runs.{AnswersBefore, BeginsAnswers}}}
 use Rattle.tz_base.specs.declared.error.Error.TheVariants as errors
+
+-- the answers to some lines, and then to more
+lines_join : (z : Option Zone) (lines : List (List ℕ)) (o : List ℕ) (m : Option Zone) (more : List (List ℕ)) (p : List ℕ) (a : Option Zone)
+    → AnswersLines z lines o m → AnswersLines m more p a → AnswersLines z (lines ++ more) (o ++ p) a
+lines_join z [] o m more p a h k = grind arith
+lines_join z (l ∷ lines) o m more p a h k = grind (arith, lines_join h.1 lines h.2 m more p a h.4 k, append_assoc (h.0 ++ codes "\n") h.2 p)
+
+-- nothing is taken yet
+pub answered_none : (z : Option Zone) (b : List ℕ) → HasNoNewline b → Answered z b [] [] z b
+answered_none z b h = record { lone = h; each = λ front none kept. grind (arith, append-nil, All-nil) }
+
+module _ (z : Option Zone) (b bytes : List ℕ) (h : HasNoNewline bytes) where
+  -- more of a line that has not ended
+  pub answered_more : (r : List ℕ) → IsKeptFor r (b ++ bytes) → HasNoNewline r → Answered z b bytes [] z r
+  answered_more r kept lone =
+      record { lone = lone; each = λ front none begun. grind (arith, more_hopeless, All-nil, All-append (λ c. c ≢ 10) front bytes none h) }
+
+  -- the end of a line
+  pub answered_line : (answer : List ℕ) (next : Option Zone) → AnswersLine z (without_return (b ++ bytes)) answer next
+      → Answered z b (bytes ++ codes "\n") (answer ++ codes "\n") next []
+  answered_line answer next line = record {
+    lone = All-nil _;
+    each = λ front none begun.
+        let cut : IsSplit (front ++ (bytes ++ codes "\n")) ((front ++ bytes) ∷ []) [] =
+        grind (arith, append-nil, append_assoc, All-nil, All-append (λ c. c ≢ 10) front bytes none h) in
+        let line : AnswersLine z (without_return (front ++ bytes)) answer next = grind arith in
+        grind (arith, append-nil);
+  }
+
+-- the answers to some bytes, and then to more
+pub join : {z : Option Zone} {b xs o : List ℕ} {m : Option Zone} {k ys p : List ℕ} {a : Option Zone} {r : List ℕ} (s : AnswersAfter z b xs o m k)
+    → AnswersAfter m s.front ys p a r → AnswersAfter z b (xs ++ ys) (o ++ p) a r
+join s t = grind (arith, append_assoc, flat_map-append, All-append HasNoNewline s.pieces t.pieces, map-append without_return s.pieces t.pieces, lines_join)
+
+pub answered_join : {z : Option Zone} {b xs o : List ℕ} {m : Option Zone} {k ys p : List ℕ} {a : Option Zone} {r : List ℕ} → Answered z b xs o m k
+    → Answered m k ys p a r → Answered z b (xs ++ ys) (o ++ p) a r
+answered_join s t =
+    record { lone = t.lone; each = λ front none kept. let first = s.each front none kept in join first (t.each first.front first.cut.last first.kept) }
+
+-- after no beginning
+pub from_start : {z : Option Zone} {xs o : List ℕ} {m : Option Zone} {k : List ℕ} → Answered z [] xs o m k → AnswersAfter z [] xs o m k
+from_start s = s.each [] (All-nil _) (inl refl)
+
+-- ---- what is kept for the beginning of a line
+-- the answer to the last line, by what is kept for it
+last_answer : (z : Option Zone) (r front last : List ℕ) → IsKeptFor r front → AnswersLast z r last → AnswersLast z front last
+last_answer z r front last (inl same) h = grind arith
+last_answer z (c ∷ r) (d ∷ front) last (inr both) h =
+    let kept = rw append-nil at (both.1.whole []) in let begun = rw append-nil at (both.0.whole []) in grind arith
+last_answer z r front last both h = grind arith
+
+all_answered : (input o : List ℕ) (z : Option Zone) (pieces : List (List ℕ)) (front last : List ℕ) → IsSplit input pieces front
+    → AnswersLines None (ended_lines pieces) o z → AnswersLast z front last → Answers input (o ++ last)
+all_answered input o z pieces [] last cut answered h = (pieces, [], z, cut, rw (append-nil, h, append-nil) answered)
+all_answered input o z pieces (c ∷ front) last cut answered h = grind (arith, lines_join, append-nil)
+
+-- the answers to the ended lines, and to the last one
+pub answers_all : {input o : List ℕ} {z : Option Zone} {r : List ℕ} (last : List ℕ) → AnswersAfter None [] input o z r → AnswersLast z r last
+    → Answers input (o ++ last)
+answers_all last s h = all_answered _ _ _ s.pieces s.front last s.cut s.answered (last_answer _ _ s.front last s.kept h)
+
+-- what is written and kept of what was read
+abbrev Sets : Option Zone → Result TimeZone Error → List ℕ → Option Zone → Type 0
+Sets before read answer after =
+    MatchResult read (λ found. (answer ≡ shown_zone found) × (after ≡ Some found)) (λ fault. (answer ≡ shown_refusal (error_number fault)) × (after ≡ before))
+
+module _ (before : Option Zone) (bytes answer : List ℕ) (after : Option Zone) where
+  pub text_answered : (read : Result TimeZone Error) → IfOk read (IsPosixZone bytes) → IfErr read (λ e. IsOutOfMemory e ⊎ IsPosixFault bytes e)
+      → IfErr read (λ e. IsOutOfMemory e → (z : Zone) × IsPosixZone bytes z) → Sets before read answer after → AnswersText before bytes answer after
+  text_answered (Ok z) ok err there sets = grind arith
+  text_answered (Err e) ok err there sets = elim err [
+    | inl memory ↦ inr (e, inl (memory, there memory), sets.0, sets.1)
+    | inr fault ↦ inr (e, inr (fault, λ z. text_fault_or_zone bytes e z fault), sets.0, sets.1)
+  ]
+
+  pub file_answered : (read : Result TimeZone Error) → IfOk read (λ z. IsTzFile bytes z × IsValid z) → IfErr read (IsZoneFault bytes)
+      → Sets before read answer after → AnswersFile before bytes answer after
+  file_answered (Ok z) ok err sets = grind arith
+  file_answered (Err e) ok (In_file f fault) sets = inr (e, grind (arith, file_fault_or_zone bytes e), sets.0, sets.1)
+  file_answered (Err e) ok (No_memory p has) sets = inr (e, inl (refl, (p, has)), sets.0, sets.1)
+
+all_or_not : (types : List LocalType) → All (λ t. IsWithinDay t.offset) types ⊎ (All (λ t. IsWithinDay t.offset) types → ⊥)
+all_or_not [] = grind arith
+all_or_not (t ∷ types) =
+    let within = λ (s : LocalType). IsWithinDay s.offset in
+    let all = all_or_not types in grind (arith, All-cons within t types, All-head within t types, All-tail within t types)
+
+narrow_or_not : (z : Zone) → IsNarrow z ⊎ (IsNarrow z → ⊥)
+narrow_or_not z = grind (arith, all_or_not z.types, all_or_not (rule_types z.rule))
+
+pub show_covered : (z : Zone) (seconds : ℤ) (nanos : ℕ) → IsValid z → IsRuleOrNone z.rule → (answer : List ℕ) × AnswersShow (Some z) seconds nanos answer
+show_covered z seconds nanos valid rule = let utc = of_secs seconds nanos in elim (narrow_or_not z) [
+  | inl narrow ↦ let stamped : IsStamp utc ⊎ (IsStamp utc → ⊥) = grind (arith, in_range_or_not utc.s) in elim stamped [
+    | inl stamp ↦
+        let has = zone_has_offsets z valid rule seconds (grind arith) in (_, inr (inr (narrow, stamp, (_, has.1.in_force, refl))))
+    | inr none ↦ (_, inr (inl (narrow, none, refl)))
+  ]
+  | inr wide ↦ (_, inl (wide, refl))
+]
+
+pub resolve_covered : (z : Zone) (l : Reading) (choice : Choice) → IsValid z → IsRuleOrNone z.rule → IsInRange l.s
+    → (answer : List ℕ) × AnswersResolve (Some z) l choice answer
+resolve_covered z l choice valid rule inside = elim (narrow_or_not z) [
+  | inl narrow ↦
+      let wide : IsWide l.s = (omega (arith, ints, inside.0), omega (arith, ints, inside.1)) in
+      let has = choice_covered z l.s choice valid rule narrow wide in
+      elim has.2 [
+        | inl taken ↦
+            (_, inr (narrow, has.0, has.1, inl (record { utc = behind l taken.0; offset = has.0 (l.s -ℤ taken.0) }, grind arith, refl)))
+        | inr refused ↦ (_, inr (narrow, has.0, has.1, inr (refused.0, refused.1, refl)))
+      ]
+  | inr wide ↦ (_, inl (wide, refl))
+]
+
+-- what is written of the instant that a choice selects
+pub resolved_instant : {O : Type 0} {m : Meaning O} (z : Zone) (law : Law m) (l : Reading) (choice : Choice) (d : Zoned O) → IsNarrow z → AreOffsetsOf z law.off
+    → IsResolved law l choice d → AnswersResolve (Some z) l choice (shown_date_time d.utc (m.seconds d.offset))
+resolved_instant {O} {m} z law l choice d narrow offsets h =
+    inr (narrow, law.off, offsets, inl (in_seconds m.seconds d, grind arith, refl))
 
 -- ---- each line
 asks_or_bad : (bytes : List ℕ) → ((query : Query) × Asks bytes query) ⊎ IsBadLine bytes

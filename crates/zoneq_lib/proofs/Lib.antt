@@ -1,9 +1,4 @@
 pub mod CitedWords
 pub mod ScanLaws
-pub mod DigitLaws
-pub mod ZoneAnswers
-pub mod Joining
 pub mod Stopping
-pub mod Showing
 pub mod Covering
-pub mod HopelessLaws

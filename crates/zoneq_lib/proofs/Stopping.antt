@@ -2,9 +2,9 @@
 use Rattle.zoneq_lib.proofs.CitedWords.{Answered, Answers, AnswersAtEnd, AnswersIn, AnswersLine, Appends, Bool, Consumes, Err, HasNoNewline, IfErr, IsAtEnd}
 use Rattle.zoneq_lib.proofs.CitedWords.{IsKeptFor, Keeps, List, MatchResult, None, Ok, OnOk, Option, Result, StopsAtEnd, StopsIn, StopsWith, Zone, append-nil}
 use Rattle.zoneq_lib.proofs.CitedWords.{append_assoc, arith, codes, drop, false, inl, inr, length, length-append, refl, sym, take, take-add, take-append-drop}
-use Rattle.zoneq_lib.proofs.{CitedWords.{true, without_return, ℕ, [], ◌++◌, ◌<◌, ◌∷◌, ◌≡◌}, Covering.{answers_before, begins_answers}}
-use Rattle.zoneq_lib.{proofs.Joining.{answered_join, answered_line, answered_more, answers_all, from_start}, specs.Runs.{WritesUnlessFailed}}
-use Rattle.zoneq_lib.specs.{Steps.Outcomes.{IsSentOf, Replies, StopsAt}, declared.run_error.RunError.{RunError}}
+use Rattle.zoneq_lib.proofs.CitedWords.{true, without_return, ℕ, [], ◌++◌, ◌<◌, ◌∷◌, ◌≡◌}
+use Rattle.zoneq_lib.proofs.Covering.{answered_join, answered_line, answered_more, answers_all, answers_before, begins_answers, from_start}
+use Rattle.zoneq_lib.specs.{Runs.{WritesUnlessFailed}, Steps.Outcomes.{IsSentOf, Replies, StopsAt}, declared.run_error.RunError.{RunError}}
 use Rattle.std.proofs.KnownBytes.{Appends-kept, Appends-trans, Consumes-trans}
 use Rattle.zoneq_lib.specs.declared.run_error.RunError.TheVariants as errors
 

@@ -3,7 +3,7 @@
 ghost use Rattle.std.specs.Prelude.{◌≡◌, ◌<◌, ◌++◌, [], false, length, IfErr, OnErr, OnOk};
 ghost use Rattle.{
   zoneq_lib.specs.Runs.{without_return, HasNoNewline},
-  zoneq_lib.specs.Steps.{Hopeless.{IsKeptFor}, Outcomes.{AnswersAtEnd, AnswersIn, Replies, StopsAt, StopsAtEnd, StopsIn}},
+  zoneq_lib.specs.Steps.Outcomes.{AnswersAtEnd, AnswersIn, IsKeptFor, Replies, StopsAt, StopsAtEnd, StopsIn},
 };
 
 use crate::answer::answer;
@@ -120,7 +120,7 @@ impl Dialogue {
 
     // Keeps more of a line that has not ended, or one byte for it if the line can't ask anything
     // any more.
-    #[tactic(auto, using(crate::proofs::HopelessLaws::mark_hopeless))]
+    #[tactic(auto, using(crate::proofs::ScanLaws::mark_hopeless))]
     fn begin_line(&mut self, bytes: &[u8]) -> Result<(), AllocError>
         ensures zone { self.new.zone ≡ self.old.zone }
         ensures ok { OnOk result

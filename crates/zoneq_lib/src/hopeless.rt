@@ -1,7 +1,7 @@
 //! Beginnings of a line with which no line asks anything.
 
 ghost use Rattle.std.specs.Prelude.{◌≡◌, false};
-ghost use Rattle.zoneq_lib.specs.Steps.Hopeless.{IsHopeless};
+ghost use Rattle.zoneq_lib.specs.Steps.Outcomes.{IsHopeless};
 
 use crate::bad_line::BadLine;
 use crate::lines::without_return;
@@ -12,7 +12,7 @@ use crate::question::Question;
 ///
 /// A beginning is judged each time that its length has one more binary digit, so that a long line
 /// is not read once for each block. The answer for one that isn't judged is `true`.
-#[tactic(auto, using(crate::proofs::HopelessLaws::hopeless))]
+#[tactic(auto, using(crate::proofs::ScanLaws::hopeless))]
 pub fn may_ask(front: &[u8], judged: usize) -> bool
     ensures { result ≡ false → IsHopeless front.now }
 {

@@ -55,7 +55,7 @@ pub fn next_number(text: &[u8], max: u32) -> Result<(u32, &[u8]), BadLine>
 }
 
 // The number that the longest run of digits spells, up to `max`, and the bytes after it.
-#[tactic(auto, using(crate::proofs::DigitLaws::number_read))]
+#[tactic(auto, using(crate::proofs::ScanLaws::number_read))]
 fn number(text: &[u8], max: u64) -> Result<(u64, &[u8]), BadLine>
     ensures value { ReadsAs (λ p. (p.0, p.1.now)) result (scan (Number max) text.now) }
     ensures bound { IfOk result (λ p. p.0 ≤ max) }

@@ -5,7 +5,7 @@ ghost use Rattle.{
   std.specs.Prelude.{[], MatchOption},
   zoneq_lib.specs.Questions.{at_query, calendar_day, data_query, local_time, resolve_query, show_query, text_query},
   zoneq_lib.specs.Questions.{wall_query},
-  zoneq_lib.specs.Steps.{LineReading.{scan, ReadsAs}, QueryOf.{query_of}},
+  zoneq_lib.specs.Steps.LineReading.{query_of, scan, ReadsAs},
 };
 
 use crate::bad_line::{BadLine, stop};
@@ -97,7 +97,7 @@ impl<'a> Question<'a> {
 }
 
 // The question about a TZ string, which is all that is left.
-#[tactic(auto, using(crate::proofs::DigitLaws::utf8_tested), unfolding(crate::specs::Questions::text_query))]
+#[tactic(auto, using(crate::proofs::ScanLaws::utf8_tested), unfolding(crate::specs::Questions::text_query))]
 fn read_text(bytes: &[u8]) -> Result<(Question<'_>, &[u8]), BadLine>
     ensures { ReadsAs (λ p. (query_of p.0, p.1.now)) result (scan text_query bytes.now) }
 {

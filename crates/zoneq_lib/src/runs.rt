@@ -63,7 +63,7 @@ pub fn run<R: Read, W: Write>(
 }
 
 // Answers what the reader gives, a block at a time.
-#[tactic(auto, using(crate::proofs::Joining::from_start))]
+#[tactic(auto, using(crate::proofs::Covering::from_start))]
 fn answer_all<R: Read, W: Write>(
     dialogue: &mut Dialogue,
     reader: &mut Watched<R>,

@@ -2,9 +2,20 @@
 -- newline ends; and what of that remains when what was written is sent on its way.
 use Rattle.std.specs.{Prelude.{◌≡◌, ℕ, ◌<◌, List, [], ◌∷◌, ◌++◌, ◌⊎◌, Bool, true, false, Option, Result, Err, length, codes}, Io.KnownBytes.{Appends}}
 use Rattle.tz_info.specs.Zones.{Zone}
-use Rattle.zoneq_lib.specs.{Answers.{AnswersLine, AnswersLines}, Runs.{HasNoNewline, IsSplit, ended_lines}, Steps.Hopeless.{IsKeptFor}}
+use Rattle.zoneq_lib.specs.{Answers.{AnswersLine, AnswersLines}, Questions.{IsBadLine}, Runs.{HasNoNewline, IsSplit, ended_lines, without_return}}
 use Rattle.zoneq_lib.specs.declared.run_error.RunError.{RunError}
 use Rattle.zoneq_lib.specs.declared.run_error.RunError.TheVariants as errors
+
+-- ---- beginnings of a line
+-- each line that begins so is bad, also if a carriage return before its newline is dropped
+pub record IsHopeless (front : List ℕ) : Type 0 where
+  pub some : 0 < length front
+  pub whole : (more : List ℕ) → IsBadLine (front ++ more)
+  pub ended : (more : List ℕ) → IsBadLine (without_return (front ++ more))
+
+-- what is kept of the beginning of a line is that beginning, or as hopeless as it
+abbrev pub IsKeptFor : List ℕ → List ℕ → Type 0
+IsKeptFor kept front = (front ≡ kept) ⊎ (IsHopeless front × IsHopeless kept)
 
 -- ---- which output answers what
 -- the lines that the bytes end are answered by the output; they leave a zone, and the beginning of a line, for which the

@@ -1,4 +1,4 @@
-use Rattle.zoneq_lib.proofs.{CitedWords.{arith, inl, on_ok_weaker}, DigitLaws.{decoded}}
+use Rattle.zoneq_lib.proofs.{CitedWords.{arith, inl, on_ok_weaker}, ScanLaws.{decoded}}
 use Rattle.zoneq_lib.proofs.answer.take_data.Goals as goal
 
 pub returns-in-Ok : goal.returns-in-Ok

@@ -1,4 +1,4 @@
-use Rattle.zoneq_lib.proofs.{CitedWords.{on_ok_weaker}, ZoneAnswers.{file_answered}}
+use Rattle.zoneq_lib.proofs.{CitedWords.{on_ok_weaker}, Covering.{file_answered}}
 use Rattle.zoneq_lib.proofs.answer.take_file.Goals as goal
 
 pub returns : goal.returns

@@ -1,4 +1,4 @@
-use Rattle.zoneq_lib.proofs.{CitedWords.{on_ok_weaker}, ZoneAnswers.{text_answered}}
+use Rattle.zoneq_lib.proofs.{CitedWords.{on_ok_weaker}, Covering.{text_answered}}
 use Rattle.zoneq_lib.proofs.answer.take_text.Goals as goal
 
 pub returns : goal.returns

@@ -1,4 +1,4 @@
-use Rattle.zoneq_lib.proofs.{CitedWords.{arith, codes, inr, law_of, on_ok_weaker, refl}, Showing.{resolved_instant}}
+use Rattle.zoneq_lib.proofs.{CitedWords.{arith, codes, inr, law_of, on_ok_weaker, refl}, Covering.{resolved_instant}}
 use Rattle.zoneq_lib.proofs.answer.tell_resolved.Goals as goal
 
 pub returns-in_default : goal.returns-in_default

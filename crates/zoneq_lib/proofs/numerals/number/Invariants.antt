@@ -1,4 +1,4 @@
-use Rattle.zoneq_lib.proofs.{CitedWords.{◌≤◌}, DigitLaws.{ReadTo}}
+use Rattle.zoneq_lib.proofs.{CitedWords.{◌≤◌}, ScanLaws.{ReadTo}}
 use Rattle.zoneq_lib.proofs.numerals.number.Given as goal
 
 abbrev pub invariant-loop-i : goal.invariant-loop-i

@@ -1,4 +1,4 @@
-use Rattle.zoneq_lib.proofs.{CitedWords.{append_assoc, arith}, Joining.{answered_join, from_start}, Stopping.{block_stopped, reader_ended}}
+use Rattle.zoneq_lib.proofs.{CitedWords.{append_assoc, arith}, Covering.{answered_join, from_start}, Stopping.{block_stopped, reader_ended}}
 use Rattle.zoneq_lib.proofs.runs.answer_all.Goals as goal
 
 pub loop-preserved : goal.loop-preserved

@@ -1,4 +1,4 @@
-use Rattle.zoneq_lib.proofs.{CitedWords.{HasNoNewline, append-nil, append_assoc, arith}, Joining.{answered_none}, Stopping.{line_stops, line_taken, rest_kept}}
+use Rattle.zoneq_lib.proofs.{CitedWords.{HasNoNewline, append-nil, append_assoc, arith}, Covering.{answered_none}, Stopping.{line_stops, line_taken, rest_kept}}
 use Rattle.zoneq_lib.proofs.dialogue.Dialogue.answer_lines.Goals as goal
 
 pub loop-piece-init : goal.loop-piece-init
