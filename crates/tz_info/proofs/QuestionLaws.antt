@@ -49,8 +49,10 @@ asked_more : (asks : ℤ → Type 0) (c : ℤ) (p q r : ℕ) → IsAskedIf asks 
 asked_more _ c p q r (inl (k, e)) others = record {
   seconds = c ∷ others.seconds;
   once = AllPairs-cons (λ u v. u ≢ v) c others.seconds (λ i d h g. ((others.each _).0 (Contains-get_or others.seconds i d h)).1 (sym g)) others.once;
-  each = λ u. (grind linear,
-      λ i. ⊎_elim (λ g. (0, omega arith, sym g)) (λ other. Contains-append_right (c ∷ []) others.seconds u ((others.each u).1 (i, other))) (equal_known u c));
+  each = λ u. (
+    grind linear,
+    λ i. ⊎_elim (λ g. (0, omega arith, sym g)) (λ other. Contains-append_right (c ∷ []) others.seconds u ((others.each u).1 (i, other))) (equal_known u c),
+  );
   count = omega arith;
 }
 asked_more asks c p q r (inr (none, e)) others = grind arith

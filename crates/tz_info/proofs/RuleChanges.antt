@@ -222,11 +222,19 @@ module _ (a : Alternate) (year day u : ℤ) (rule : IsAlternateRule a) (inside :
   pub starts : IsDayOf a.start.day year day → (u +ℤ a.std.offset) ≡ (pos 86_400 *ℤ day +ℤ a.start.time) → IsBetween (end_in a) (start_in a) year
       → (IsYearOf u year → AlternateAt a u a.dst) × (IsYearOf (u -ℤ pos 1) year → AlternateAt a (u -ℤ pos 1) a.std)
   starts of_year clock between =
-      grind (arith, alternate_at, turns (start_in a) (end_in a) year u true (moments_rise _ _ rule.start_day) (moments_rise _ _ rule.end_day)
-      (moment_is _ _ _ day u rule.start_day of_year clock) between)
+      grind (
+        arith,
+        alternate_at,
+        turns (start_in a) (end_in a) year u true (moments_rise _ _ rule.start_day) (moments_rise _ _ rule.end_day)
+            (moment_is _ _ _ day u rule.start_day of_year clock) between,
+      )
 
   pub ends : IsDayOf a.end.day year day → (u +ℤ a.dst.offset) ≡ (pos 86_400 *ℤ day +ℤ a.end.time) → IsBetween (start_in a) (end_in a) year
       → (IsYearOf u year → AlternateAt a u a.std) × (IsYearOf (u -ℤ pos 1) year → AlternateAt a (u -ℤ pos 1) a.dst)
   ends of_year clock between =
-      grind (arith, alternate_at, turns (end_in a) (start_in a) year u false (moments_rise _ _ rule.end_day) (moments_rise _ _ rule.start_day)
-      (moment_is _ _ _ day u rule.end_day of_year clock) between)
+      grind (
+        arith,
+        alternate_at,
+        turns (end_in a) (start_in a) year u false (moments_rise _ _ rule.end_day) (moments_rise _ _ rule.start_day)
+            (moment_is _ _ _ day u rule.end_day of_year clock) between,
+      )
