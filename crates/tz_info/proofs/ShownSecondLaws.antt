@@ -17,7 +17,7 @@ use Rattle.tz_info.proofs.{
 }
 use Rattle.tz_info.specs.{
   ShownSeconds.{IsLastReached},
-  Steps.{Entries.{AreEntries, Entries}, SegmentEnds.{IsFirstSegment, IsLatestEnd, IsReached, end_of}, Since.{IsFirstSince, IsReachedSince}},
+  Steps.{Entries.{AreEntries, Entries}, SegmentEnds.{IsFirstSegment, IsLatestEnd, end_of}, Since.{IsFirstSince, IsReachedSince}},
 }
 
 -- ---- from run to run, until one shows such a local time

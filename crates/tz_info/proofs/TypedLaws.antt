@@ -8,7 +8,7 @@ use Rattle.tz_info.proofs.{
   SpanLaws.{all_come, out_of_years},
   Words.{Alternate as AlternateRule, AreLeapSeconds, IsBegin, IsFirstTyped, IsFromLast, IsLastTimed, IsLastTyped, IsLeapTime, IsLeapTimeRefused, IsRefusedBy},
   Words.{IsRuleOrNone, IsTypeRefused, IsTyped, IsValid, LeapSecond, List, Option, SFits, Some, TransitionRule, Zone, arith, by_leap_time, by_lt_z, by_rule},
-  Words.{cases_lt, inl, inr, ints, least_time, length, linear, neg_ℤ, pos, refl, segment_of, w64, ℤ, ◌-ℤ◌, ◌<ℤ◌, ◌<◌, ◌≡◌, ◌≤ℤ◌},
+  Words.{inl, inr, ints, least_time, length, linear, neg_ℤ, pos, refl, segment_of, w64, ℤ, ◌-ℤ◌, ◌<ℤ◌, ◌<◌, ◌≡◌, ◌≤ℤ◌},
   ZoneChanges.{refused_on, time_of, to_rule},
   ZoneLaws.type_decided,
 }

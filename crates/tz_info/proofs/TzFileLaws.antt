@@ -10,7 +10,7 @@ use Rattle.tz_info.proofs.{
   Words.{Err, Error, FilePieces, HasPieces, IfErr, IfOk, In_file, IsErrAnd, IsFaultAt, IsFileFault, IsOutOfMemory, IsTzFile, IsValid, IsZoneFault, List},
   Words.{ListFault, MatchResult, No_memory, Not_spelled, Not_valid, Ok, Result, Spells, TimeZone, Zone, [], ap, apart, arith, below_more, drop, drop_front},
   Words.{either, error_number, fault_low as low, fault_once as one_fault, file, inl, inr, lawful, length, length-append, length-take, linear, read, refl, sym},
-  Words.{take, take-append-drop, value_once, ℕ, ℤ, ◌++◌, ◌+◌, ◌-◌, ◌<ℤ◌, ◌<◌, ◌∙◌, ◌≡◌, ◌≤◌, ◌⊎◌},
+  Words.{take, take-append-drop, value_once, ℕ, ℤ, ◌++◌, ◌+◌, ◌-◌, ◌<ℤ◌, ◌∙◌, ◌≡◌, ◌≤◌, ◌⊎◌},
 }
 use Rattle.tz_info.specs.{
   FileContents.{indicators, pair_at, time_at, type_at},

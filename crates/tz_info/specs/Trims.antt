@@ -1,5 +1,5 @@
 -- White space of ASCII at both ends: spaces, tabs, line feeds, form feeds and carriage returns.
-use Rattle.std.specs.{Prelude.{ℕ, List, [], ◌∷◌, ◌&&◌, if◌then◌else◌}, Char.{is_ascii_whitespace}, List.{list_all}}
+use Rattle.std.specs.{Prelude.{ℕ, List, [], ◌∷◌, if◌then◌else◌}, Char.{is_ascii_whitespace}, List.{list_all}}
 use Rattle.tz_base.specs.Fronts.{after_run}
 
 -- the bytes without that at their end

@@ -1,6 +1,6 @@
 -- TZ strings, stdoffset[dst[offset],start[/time],end[/time]] (POSIX.1 section 8.3, "TZ"), with the extensions of RFC 8536
 -- section 3.3.1 if `extended` is true. The lines of a definition are the parts of the string, in order.
-use Rattle.std.specs.Prelude.{ℕ, ℤ, pos, neg_ℤ, ◌+ℤ◌, ◌+◌, ◌*◌, ◌≡◌, ◌≤◌, ◌≤ℤ◌, ◌==◌, nat_le, Bool, true, false, not, ◌&&◌, ◌||◌, if◌then◌else◌, List}
+use Rattle.std.specs.Prelude.{ℕ, ℤ, pos, neg_ℤ, ◌+ℤ◌, ◌+◌, ◌*◌, ◌≤◌, ◌≤ℤ◌, ◌==◌, nat_le, Bool, true, false, not, ◌&&◌, ◌||◌, if◌then◌else◌, List}
 use Rattle.std.specs.Prelude.{[], Some}
 use Rattle.tz_base.specs.{Names.{IsName, expected_of_name}, LocalTypes.{LocalType}}
 use Rattle.tz_base.specs.{Steps.{Comparisons.{at_most, no_greater, three}, TextTests.{name_test}}, Tests.{Test}}

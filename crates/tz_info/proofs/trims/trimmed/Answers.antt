@@ -1,4 +1,4 @@
-use Rattle.tz_info.proofs.{TrimLaws.{trimmed_fits, trimmed_is}, Words.{refl, sym}}
+use Rattle.tz_info.proofs.TrimLaws.{trimmed_fits, trimmed_is}
 use Rattle.tz_info.proofs.trims.trimmed.Goals as goal
 
 pub returns : goal.returns
