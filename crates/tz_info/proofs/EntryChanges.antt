@@ -217,3 +217,6 @@ span_between z e u b t valid made h is fits low high has =
         ends = out_from z _ (entry_change z e valid made k (record { at = b.until; before = t; after = s }) h.some more (grind linear));
       };
     }
+
+-- where a segment begins, and which have begun
+pub ruleset begins = (begin_at, come_from, place_most)

@@ -11,7 +11,7 @@ use Rattle.tz_info.proofs.{
   Words.{Alternate as AlternateRule, AlternateAt, AreLess, Bool, Change, HasGap, IsAlternateRule, IsAmidFrom, IsAskedLast, IsDecidedIn, IsNear, IsNeverFrom},
   Words.{IsRuleGap, IsSeason, IsSeasonFor, IsSeasonIn, IsSeasonOf, IsStart, IsTableLess, IsValid, IsWallAnswer, IsWide, IsWindowOf, LocalResult, LocalType},
   Words.{MatchOption, None, Option, Season, Shows, Some, TransitionRule, TypeAt, TypeFrom, Zone, ap, arith, by_lt_z, cond, days_at_least, end_in, false},
-  Words.{floor_div, floors, int_le, int_lt, is_dst_by_one, length, lies_in, linear, not, one_year, pos, refl, start_in, table_count, true, type_when, year_of},
+  Words.{floor_div, floors, int_le, int_lt, ints, is_dst_by_one, length, lies_in, linear, not, one_year, pos, refl, start_in, table_count, true, type_when, year_of},
   Words.{year_start, year_step, ℤ, ⊎_elim, ◌*ℤ◌, ◌+ℤ◌, ◌-ℤ◌, ◌<ℤ◌, ◌≡◌, ◌≢◌, ◌≤ℤ◌},
   ZoneChanges.{from_rule, to_rule},
 }
@@ -160,3 +160,6 @@ gap_by_season z a l low _ s c valid rule (from, start, season) never reach all m
     (λ h. g.less u t h (omega linear) (to_rule z a u t rule valid ((rule_begun z u _ valid near start).1 h) k)) in
     gap_found z l low _ _ _ _ never reach g.near less (by c.at c.after g.near (omega linear) g.after) g.more
     (by (c.at -ℤ pos 1) c.before g.near_before since g.before)
+
+-- the seconds of a year
+pub ruleset of_year = (ints, floors, own_start)

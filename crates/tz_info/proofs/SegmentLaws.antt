@@ -147,9 +147,6 @@ place_begin ts k rising some within = grind (linear, place_most ts (begin_of ts 
 pub place_before : (ts : List Transition) (k : ℕ) → AreRising ts → k < length ts → length (passed ts (begin_of ts (suc k) -ℤ pos 1)) ≡ k
 place_before ts k rising within = grind (linear, come_from ts k, come_from ts (suc k), begins_rise ts k)
 
--- when an entry comes into force
-pub ruleset beginning = (come_from, place_most)
-
 -- without transitions the rule is asked, or the zone has no rule
 pub without_transitions : {T : Type 0} (view : T → LocalType) (z : Zone) (u : ℤ) (r : Result T Error) → length z.transitions ≡ 0
     → MatchResult r (λ t. RuleOrType z u 0 (view t)) (λ e. (e ≡ FindLocalTimeType YearThatRuleAnswersIn) × IsRefusedBy z.rule u)

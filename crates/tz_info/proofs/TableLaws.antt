@@ -2,11 +2,12 @@
 use Rattle.tz_info.proofs.{
   EntryChanges.index_there,
   ExtremeLaws.window_made,
+  Fits.fits,
   GapLaws.{IsNever, gap_found, not_less},
   LeapStarts.own_leap_time,
   Prefixes.search_found,
   SegmentLaws.{come_at_time, come_from, place_before, place_begin, place_most, segment_here, segment_most},
-  WallSegments.{leap_time_of, near_fits, shown_inside, type_in_table, type_of_table, typed_answer},
+  WallSegments.{all_segments, leap_time_of, near_fits, shown_inside, table_alone, type_in_table, type_of_table, typed_answer},
   Words.{AreExtremes, AreLess, AreListed, Change, Extremes, HasGap, HasReach, IsBegin, IsBegun, IsBegunNear, IsIndex, IsJump, IsLeapTime, IsRuleOrNone},
   Words.{IsSegment, IsShownAmong, IsStart, IsTable, IsTableAnswer, IsTableLess, IsValid, IsWallAnswer, IsWide, IsWindowOf, LocalResult, LocalType, MatchOption},
   Words.{None, Option, SFits, Segment, Shown, ShownAmong, Some, TransitionRule, TypeAt, WallIndex, Zone, [], ap, arith, begin_of, cases_lt, index_of, inl, inr},
@@ -133,3 +134,6 @@ module _ (z : Zone) (e : Entries) (s : ℤ) (none : length e.items ≡ 0) (begun
       let top : top_of z.rule e ≡ 1 = omega arith in
       let answers : (l : ℤ) → IsWide l → IsShownAmong z e.items 0 (top_of z.rule e) l (Once a.index) = rw top (grind (arith, shown_inside table some is)) in
       grind arith
+
+-- what a wall clock shows by the table alone
+pub ruleset table_answers = (fits, table_alone, table_typed, all_segments)

@@ -123,7 +123,7 @@ impl AlternateTime {
 
     // The moments of the year, by its kind.
     #[inline(always)]
-    #[tactic(auto, using(crate::proofs::Fits::in_range, crate::proofs::SearchWords::ints, crate::proofs::Words::floors, crate::proofs::SeasonLaws::own_start))]
+    #[tactic(auto, using(crate::proofs::Fits::in_range, crate::proofs::SeasonLaws::of_year))]
     pub(super) fn turns(&self, year: i32) -> Turns
         ensures start { result.start ≡ start_in self.now year }
         ensures end { result.end ≡ end_in self.now year }

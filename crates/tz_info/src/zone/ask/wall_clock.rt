@@ -118,7 +118,7 @@ impl TimeZone {
     // The answer of all seconds, and the moments of the local time's year if the rule's part was
     // decided by these alone.
     #[inline(always)]
-    #[tactic(auto, using(crate::proofs::Fits::fits, crate::proofs::WallSegments::table_alone, crate::proofs::TableLaws::table_typed, crate::proofs::WallSegments::all_segments))]
+    #[tactic(auto, using(crate::proofs::TableLaws::table_answers))]
     pub(super) fn answer_after(
         &self,
         local: i64,

@@ -112,7 +112,7 @@ impl ChangeList {
     }
 
     // The second from which the rule is asked, of those of 64 bits: the last one, if it never is.
-    #[tactic(auto, using(crate::proofs::EntryChanges::begin_at, crate::proofs::SegmentLaws::come_from, crate::proofs::SegmentLaws::place_most))]
+    #[tactic(auto, using(crate::proofs::EntryChanges::begins))]
     pub(in crate::zone) fn rule_from(&self) -> i64
         requires rising { AreRising self.now.items }
         requires more { length self.now.items ≤ self.now.all }

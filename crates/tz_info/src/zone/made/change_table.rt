@@ -212,7 +212,7 @@ impl ChangeTable {
     }
 
     // The second from which the rule is asked: one that 64 bits don't hold, if it never is.
-    #[tactic(auto, using(crate::proofs::Fits::fits, crate::proofs::SearchWords::ints, crate::proofs::SegmentLaws::beginning, crate::proofs::EntryChanges::begin_at))]
+    #[tactic(auto, using(crate::proofs::Fits::fits, crate::proofs::SearchWords::ints, crate::proofs::EntryChanges::begins))]
     pub(in crate::zone) fn rule_begin(&self) -> i128
         requires rising { AreRising self.now.items }
         requires more { length self.now.items ≤ self.now.all }
