@@ -212,12 +212,6 @@ def programs(found):
     return "\n".join("| " + " | ".join(line) + " |" for line in lines)
 
 
-def listed(found):
-    """README's sentence on zonedump."""
-    times = {row["program"]: row["processor's time for each"] for row in found[PROGRAMS]}
-    return f"Listing a zone's clock changes from 1900 to 2037 takes `zonedump` {times['`zonedump --zdump`']} and `zdump` {times['`zdump -v`']} on average."
-
-
 def parts(results):
     """What each place of the documents has, by its name; those that need a table which wasn't measured stay as they are."""
     text = results.read_text()
@@ -233,7 +227,6 @@ def parts(results):
         "columns": lambda: table(found[COLUMNS]),
         "programs": lambda: programs(found),
         "slower": lambda: slower(found),
-        "listed": lambda: listed(found),
         "differ": lambda: differences(found),
         "measured": lambda: conditions(text, results),
         "New York": lambda: f"{lookup_of_new_york(found)} ({measured(text)}{BUSY if ONE_CALL in text else ''}.{at_once(text)})",

@@ -3,9 +3,7 @@
 
 usage: tools/generate_documents.py
 
-- docs/INDEX.md: each word of specs/ that a public contract cites, other than a pin, with its page and its meaning, which is the comment
-  before its definition, or before that of several words.
-- docs/TRUSTED.md: the definitions, ghost members and `unsafe` code that a reader must trust (tools/trusted.py).
+- docs/TRUSTED.md: the definitions and ghost members of the headline, the `unsafe` code, and what is used of the kit (tools/trusted.py).
 - docs/DEFINITIONS.md: the wrong definitions that each pin rejects (tools/try_definitions.py).
 - docs/TESTING.md: a table of planted bugs and wrong definitions by crate, with how many functions they cover, and one of the tables of
   tools/comparing/peers.
@@ -30,7 +28,7 @@ from sources import TOP, cited, crates, files, public_clauses, module_of, text_o
 from try_definitions import with_rejected
 from try_edits import bodies
 
-DEFINITIONS, INDEX, MAP = TOP / "docs/DEFINITIONS.md", TOP / "docs/INDEX.md", TOP / "docs/MAP.md"
+DEFINITIONS, MAP = TOP / "docs/DEFINITIONS.md", TOP / "docs/MAP.md"
 TRUSTED = TOP / "docs/TRUSTED.md"
 DIFFERENCES, PROGRAMS, PYTHON_PAGE = TOP / "docs/DIFFERENCES.md", TOP / "docs/PROGRAMS.md", TOP / "docs/PYTHON.md"
 README, TESTING = TOP / "README.md", TOP / "docs/TESTING.md"
@@ -48,7 +46,13 @@ def between(name, text, rows):
     return re.sub(rf"(?s)(<!-- {name} -->\n).*?(\n<!-- end -->)", lambda found: found[1] + "\n".join(rows) + found[2], text)
 
 
-# The index
+def with_parts(text, parts):
+    for name, rows in parts.items():
+        text = between(name, text, rows)
+    return text
+
+
+# Words of contracts
 
 
 def words_in_contracts():
@@ -60,36 +64,6 @@ def words_in_contracts():
             if (page, name) in words:
                 found.setdefault((page, name), (words[page, name], clause))
     return found
-
-
-def index_row(page, meaning, names):
-    words = ", ".join(f"`{name}`" for name in sorted(names, key=str.lower))
-    return f"| {words} | {label(page)} | {meaning.replace('|', '/')} |"
-
-
-def label(page):
-    _, crate, _, *inside = page.split(".")
-    return f"[`{crate}` `{'/'.join(inside)}`]"
-
-
-def target(page):
-    _, crate, _, *inside = page.split(".")
-    return f"{label(page)}: ../crates/{crate}/specs/{'/'.join(inside)}.antt"
-
-
-def index():
-    words = {}
-    for (page, name), (word, _) in words_in_contracts().items():
-        if ".Steps" not in page and ".pins." not in page:
-            words.setdefault((page, word.meaning), []).append(name)
-    rows = [index_row(*group, names) for group, names in words.items()]
-    targets = sorted({target(page) for page, _ in words})
-    head = (
-        "# Index of the words that contracts cite\n\nEach word with its page and the comment above its definition. "
-        "[DEFINITIONS](DEFINITIONS.md) explains the most important ones, with their worked examples; `tools/claim.py` shows the definitions "
-        "that a clause uses. (`tools/generate_documents.py` makes this page.)\n\n| word | page | means |\n|---|---|---|\n"
-    )
-    return head + "\n".join([*sorted(rows, key=str.lower), "", *targets]) + "\n"
 
 
 # Planted bugs
@@ -265,8 +239,7 @@ def generated():
     """Each page that has generated parts, with its text as it is due."""
     testing = text_of(TESTING)
     return {
-        INDEX: index(),
-        TRUSTED: trusted.page(),
+        TRUSTED: with_parts(text_of(TRUSTED), trusted.parts()),
         DEFINITIONS: with_rejected(text_of(DEFINITIONS)),
         TESTING: with_counts(with_peers(testing[: testing.find(PLANTED)] + planted())),
         MAP: with_crates(text_of(MAP)),
