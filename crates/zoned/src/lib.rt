@@ -34,10 +34,10 @@
 //! | [`TimeZoneRef`] | such a zone, borrowed, as the zone of `DateTime`s |
 //! | [`KeptZone`] | such a zone, kept until the program ends: a zone of `DateTime`s without a lifetime |
 //! | [`TimeZone`], [`Offset`] | the traits that each zone, and each zone's offset, implements |
-//! | [`LocalResult`] | what a lookup by wall clock returns: `None`, `Single` or `Ambiguous` |
-//! | [`Choice`] | what to take in gaps and in folds |
+//! | [`LocalResult`] | what a lookup by local time returns: `None`, `Single` or `Ambiguous` |
+//! | [`Choice`] | the policy for gaps and folds |
 //! | [`ZoneDays`], [`ShownDay`] | the trait of zones whose days can be found, and a day |
-//! | [`DailySeries`] | a wall-clock time on each day |
+//! | [`DailySeries`] | a local time on each day |
 //!
 //! `TimeZone` is the trait, as in chrono. The parsed zone is `tz_info::TimeZone`.
 //!
@@ -138,8 +138,8 @@
 //! | a TZ string | a zone | [`tz_info::TimeZone::from_posix_tz`] |
 //! | a parsed zone | a zone of `DateTime`s | [`TimeZoneRef::new`]: `None` if one of its offsets is a day or more |
 //! | a parsed zone | one for the whole program, without a lifetime | [`KeptZone::open`] from the bytes of a file; [`KeptZone::keep`], whose error gives the zone back |
-//! | a wall clock | each instant that shows it | [`TimeZone::with_ymd_and_hms`], [`TimeZone::from_local_datetime`] |
-//! | a wall clock | one instant | [`TimeZone::resolve`] |
+//! | a local time | each instant that shows it | [`TimeZone::with_ymd_and_hms`], [`TimeZone::from_local_datetime`] |
+//! | a local time | one instant | [`TimeZone::resolve`] |
 //! | a Unix time | the instant | [`TimeZone::timestamp_opt`], [`DateTime::from_timestamp`] |
 //! | a UTC date-time | the instant | [`TimeZone::from_utc_datetime`], [`NaiveZoned::and_utc`] |
 //! | an instant | what clocks elsewhere show then | [`DateTime::with_timezone`] |
@@ -168,13 +168,13 @@
 //! | a plan, and a [`FirePolicy`] for its local times in gaps and folds | when it fires next | [`ZoneDays::next_fire_by`] |
 //! | two versions of a zone, and a plan | the runs that only one of them has | [`moved`] |
 //! | a date | the first and the last second at which clocks show it | [`ZoneDays::day`] |
-//! | a wall clock | the first instant at which clocks have reached it | [`ZoneDays::first_at_or_after`] |
+//! | a local time | the first instant at which clocks have reached it | [`ZoneDays::first_at_or_after`] |
 //! | two versions of a zone | what differs | [`tz_info::TimeZone::differences`] |
 //! | an instant | it, rounded | [`DurationRound`], [`SubsecRound`] |
-//! | a wall-clock time | it, on each day | [`DailySeries::new`] |
+//! | a local time | it, on each day | [`DailySeries::new`] |
 //! | a date | the next day, the days or the week from it | [`NaiveDate::succ_opt`], [`NaiveDate::iter_days`], [`NaiveDate::week`] |
 //! | a year and a month | the n-th Sunday; the days of the month | [`NaiveDate::from_weekday_of_month_opt`]; [`Month::num_days`], [`gregorian::days_in_month`] |
-//! | the bytes or a text, and a wall clock | types of local time and instants in one call | [`WallClock`] |
+//! | the bytes or a text, and a local time | types of local time and instants in one call | [`WallClock`] |
 //! | a rule, or a zone that has only a rule | its TZ string | [`ToTzString::to_tz_string`], [`ToPosixTz::to_posix_tz`] |
 //! | a parsed zone | the bytes of its TZif file | [`ToTzData::to_tz_data`] |
 //! | a zone that no file describes | it, as the zone of `DateTime`s | an implementation of [`TimeZone`] |
@@ -205,8 +205,8 @@
 //! # Which libraries to name
 //!
 //! The first check of a program proves each library that its line of `crates.txt` names, and those
-//! below; later checks use what was kept. With `zoned` that is all of them, the writers too, so a
-//! program that needs less names less, and imports from each library what `zoned` passes on:
+//! below; later checks use what was kept. `zoned` brings all of them. A program that needs fewer can
+//! name these in place of it, and import from each library what `zoned` passes on:
 //!
 //! | you need | name | minutes |
 //! |---|---|---|
@@ -218,13 +218,13 @@
 //! | everything, with what writes zones | `zoned` | 45 |
 //!
 //! The minutes are a sum over the libraries, each checked from nothing on a machine of 4 processors on
-//! which three or more other checks ran (2026-11-26): an upper bound, since libraries that don't need
-//! one another can be checked at once.
+//! which three or more other checks ran (2026-11-26). Libraries that don't need one another can be
+//! checked at once.
 //!
 //! # What the checker doesn't cover
 //!
 //! What is written every day needs no contract, no lemma and no proof file: the repository's crate
-//! `tests_idioms` has more than a hundred such functions over instants of a kept zone, those whose code
+//! `tests_idioms` has some two hundred such functions over instants of a kept zone, those whose code
 //! differs over UTC or over a borrowed zone, and those over dates, times of day and lengths.
 //! These aren't covered yet:
 //!
