@@ -473,7 +473,7 @@ def counted():
         (PROGRAMS, f"at most {in_words(constant(PICTURE / 'thinned.rt', 'CROWD') - 1)} changes at each of its {places:,} places"),
         (DECISIONS, f"A column of {constant('crates/zoned_ffi/src/column/short.rt', 'LONG'):,} rows or more"),
         (DECISIONS, f"over {constant('crates/tz_saving/src/sides.rt', 'REACH')} clock changes at most"),
-        (TOP / "docs/FAQ.md", f"in every year up to {constant('crates/tz_info/src/rule/changes.rt', 'LAST_RULE_YEAR')}"),
+        (TOP / "docs/ANSWERS.md", f"in every year up to {constant('crates/tz_info/src/rule/changes.rt', 'LAST_RULE_YEAR')}"),
         (OWN_ZONE, f"proves {in_words(len(zone - by_hand))} of the {in_words(len(zone))} functions of the zone by itself"),
         (MAP, f"## {in_words(len(ways)).capitalize()} ways through"),
         (PROVED, f"some {round(book, -2):,} lines, as one book"),

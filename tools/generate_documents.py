@@ -8,7 +8,6 @@ usage: tools/generate_documents.py
 - docs/TESTING.md: a table of planted bugs and wrong definitions by crate, with how many functions they cover, and one of the tables of
   tools/comparing/peers.
 - docs/MAP.md: a table of crates, each with the libraries of crates.txt and the first sentence of its root.
-- docs/DIFFERENCES.md: the calls that chrono doesn't have (tools/own_calls.py).
 - docs/PROGRAMS.md: the error numbers 1 to 17 with the words of the comments of tz_info's `Error`.
 - docs/PYTHON.md: the calls about columns, each with the first sentence of its docstring.
 - README.md and docs/TESTING.md: how many tests, planted bugs and wrong definitions there are, and the last line that the tests print.
@@ -23,14 +22,15 @@ import crafted_files
 import trusted
 from comparing.peers import KNOWN, TABLES as PEERS
 from edits import PLANTED_BUGS, WRONG_DEFINITIONS, all_blocks, blocks
-from own_calls import own_calls
+from records import BUGS, rows as recorded
 from sources import TOP, cited, crates, files, public_clauses, module_of, text_of, uses, words_of
-from try_definitions import with_rejected
+from try_definitions import PINNED, with_rejected
 from try_edits import bodies
+from unpinned import exceptions
 
 DEFINITIONS, MAP = TOP / "docs/DEFINITIONS.md", TOP / "docs/MAP.md"
 TRUSTED = TOP / "docs/TRUSTED.md"
-DIFFERENCES, PROGRAMS, PYTHON_PAGE = TOP / "docs/DIFFERENCES.md", TOP / "docs/PROGRAMS.md", TOP / "docs/PYTHON.md"
+PROGRAMS, PYTHON_PAGE = TOP / "docs/PROGRAMS.md", TOP / "docs/PYTHON.md"
 README, TESTING = TOP / "README.md", TOP / "docs/TESTING.md"
 ERROR = TOP / "crates/tz_base/src/error.rt"
 NUMBERS = TOP / "crates/tz_base/specs/Errors.antt"
@@ -95,10 +95,9 @@ def planted():
     rows["all"] = tuple(map(sum, zip(*rows.values())))
     table = [f"| {crate if crate == 'all' else f'`{crate}`'} | {' | '.join(f'{count:,}' for count in row)} |" for crate, row in rows.items()]
     return "\n".join([
-        PLANTED, f"A planted bug is a block of its crate's `{PLANTED_BUGS}`; the gate tries those with the line `in: the gate`, and a tenth of the others.",
-        "Of those with a line `listed:` only a hand-written part of the proof fails; the line says why. A wrong definition is one of the",
-        f"`{WRONG_DEFINITIONS}` of the crate whose page it changes; the gate tries a tenth of them. *Functions* are those with a clause of their own,",
-        "and *covered* those of them that some planted bug changes.\n",
+        PLANTED, f"The bugs are in `{PLANTED_BUGS}` of each crate, the wrong definitions in `{WRONG_DEFINITIONS}` of the crate whose page they change.",
+        "*Functions* are those with a clause of their own, *covered* those of them that some planted bug changes. *Listed* are bugs with a line",
+        "`listed:`, which says why no more than a hand-written part of the proof may fail.\n",
         "| crate | functions | covered | in the gate | by hand | listed | wrong definitions |", "|---|--:|--:|--:|--:|--:|--:|", *table, ""
     ])
 
@@ -200,13 +199,24 @@ def byte_changes():
     return len(made), sum(old != new for old, new in made)
 
 
+def own_pins():
+    """The pins below a definition whose source begins with "own": a form, a limit or a number that no standard has."""
+    return [pin for names, says in PINNED.findall(text_of(DEFINITIONS)) if "(own " in says for pin in names.split(", ")]
+
+
 def counts():
     """The words after the number, at the start of a row or in bold: `| 468 | tests in Rattle ..`, `**468** tests in Rattle ..`."""
     pins = [*files("src", ".rt", ["tests_pins"]), TOP / "crates/zoned_ffi/src/pins.rt"]
     bugs = all_blocks(PLANTED_BUGS)
+    refuted, still_open, listed = (sum(int(row[column]) for row in recorded(BUGS).values()) for column in (2, 3, 4))
     return {
         "tests in Rattle": how_often(r"(?m)^#\[test\]$", files("tests", ".txt")),
         "worked examples": how_often(r"(?m)^pub fn ", pins),
+        "of these": how_often(r"(?m)^pub fn ", pins) - len(own_pins()),
+        "words of public contracts without a pin": len(exceptions()),
+        "refuted": refuted,
+        "open": still_open,
+        "listed": listed,
         "planted bugs in the gate": sum(block.is_in_gate for block in bugs),
         "planted bugs in all": len(bugs),
         "wrong definitions": len(all_blocks(WRONG_DEFINITIONS)),
@@ -243,7 +253,6 @@ def generated():
         DEFINITIONS: with_rejected(text_of(DEFINITIONS)),
         TESTING: with_counts(with_peers(testing[: testing.find(PLANTED)] + planted())),
         MAP: with_crates(text_of(MAP)),
-        DIFFERENCES: between("own calls", text_of(DIFFERENCES), ["| crate | type or trait | calls |", "|---|---|---|", *own_calls()]),
         PROGRAMS: with_numbers(text_of(PROGRAMS)),
         PYTHON_PAGE: with_calls(text_of(PYTHON_PAGE)),
         README: LAST_OF_TESTS.sub(last_of_tests(), with_counts(text_of(README))),
