@@ -10,7 +10,6 @@ usage: tools/generate_documents.py
 - docs/TESTING.md: a table of planted bugs and wrong definitions by crate, with how many functions they cover, and one of the tables of
   tools/comparing/peers.
 - docs/MAP.md: a table of crates, each with the libraries of crates.txt and the first sentence of its root.
-- docs/DIFFERENCES.md: the calls that chrono doesn't have (tools/own_calls.py).
 - docs/PROGRAMS.md: the error numbers 1 to 17 with the words of the comments of tz_info's `Error`.
 - docs/PYTHON.md: the calls about columns, each with the first sentence of its docstring.
 - README.md and docs/TESTING.md: how many tests, planted bugs and wrong definitions there are, and the last line that the tests print.
@@ -25,14 +24,13 @@ import crafted_files
 import trusted
 from comparing.peers import KNOWN, TABLES as PEERS
 from edits import PLANTED_BUGS, WRONG_DEFINITIONS, all_blocks, blocks
-from own_calls import own_calls
 from sources import TOP, cited, crates, files, public_clauses, module_of, text_of, uses, words_of
 from try_definitions import with_rejected
 from try_edits import bodies
 
 DEFINITIONS, INDEX, MAP = TOP / "docs/DEFINITIONS.md", TOP / "docs/INDEX.md", TOP / "docs/MAP.md"
 TRUSTED = TOP / "docs/TRUSTED.md"
-DIFFERENCES, PROGRAMS, PYTHON_PAGE = TOP / "docs/DIFFERENCES.md", TOP / "docs/PROGRAMS.md", TOP / "docs/PYTHON.md"
+PROGRAMS, PYTHON_PAGE = TOP / "docs/PROGRAMS.md", TOP / "docs/PYTHON.md"
 README, TESTING = TOP / "README.md", TOP / "docs/TESTING.md"
 ERROR = TOP / "crates/tz_base/src/error.rt"
 NUMBERS = TOP / "crates/tz_base/specs/Errors.antt"
@@ -270,7 +268,6 @@ def generated():
         DEFINITIONS: with_rejected(text_of(DEFINITIONS)),
         TESTING: with_counts(with_peers(testing[: testing.find(PLANTED)] + planted())),
         MAP: with_crates(text_of(MAP)),
-        DIFFERENCES: between("own calls", text_of(DIFFERENCES), ["| crate | type or trait | calls |", "|---|---|---|", *own_calls()]),
         PROGRAMS: with_numbers(text_of(PROGRAMS)),
         PYTHON_PAGE: with_calls(text_of(PYTHON_PAGE)),
         README: LAST_OF_TESTS.sub(last_of_tests(), with_counts(text_of(README))),
