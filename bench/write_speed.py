@@ -76,8 +76,8 @@ SLOWER = [
         ".*",
         "parsing a zone",
         "The file is checked and indexed before the first question. chrono's reader checks it and has no index; glibc does neither. Of a "
-        "zone with leap seconds the transitions are kept by Unix time too. ([`shapes.txt`](../tools/shapes.txt) has the instructions for "
-        "each byte of a zone that is opened; the gate counts them again.)",
+        "zone with leap seconds the transitions are kept by Unix time too. (The gate counts the instructions for each byte of a zone that "
+        "is opened: `tools/try_shapes.py`.)",
     ),
 ]
 

@@ -1,4 +1,5 @@
-"""Reads tables of edits: the planted bugs, harmless edits, wrong definitions and scans of a crate.
+"""Reads tables of edits: the planted bugs, harmless edits, wrong definitions and scans of a crate. Writes the record of full runs: two
+tables of docs/TESTING.md, with dates and verdicts.
 
 A table is a file of the crate with a block for each edit: its name in brackets, and lines of a key and a text. `file:` names a file
 of the crate, and each `old:` with its `new:` a text that is once in that file, and what takes its place. `only:` names the function
@@ -9,14 +10,18 @@ proof fails.
 """
 
 import hashlib
+import re
 import subprocess
 from collections import defaultdict
 from dataclasses import dataclass, field
+from datetime import date
 from functools import lru_cache
 
 from sources import TOP, crates, text_of
 
 PLANTED_BUGS, HARMLESS, SCANS, WRONG_DEFINITIONS = "planted_bugs.txt", "harmless_edits.txt", "scans.txt", "wrong_definitions.txt"
+TESTING = TOP / "docs/TESTING.md"
+BUGS_TRIED, DEFINITIONS_TRIED, ALL = "planted bugs tried", "wrong definitions tried", "all"
 
 
 @dataclass
@@ -75,3 +80,21 @@ def tenth():
 
 def all_blocks(table):
     return [block for crate in crates() for block in blocks(table, crate)]
+
+
+def table_of(name):
+    return re.compile(rf"(?s)(<!-- {name} -->\n[^\n]*\n\|[-:|]+\|\n)(.*?)(\n<!-- end -->)")
+
+
+def rows(name):
+    """The rows of the table of that name, by their first cell."""
+    lines = table_of(name).search(text_of(TESTING))[2].splitlines()
+    return {cells[0]: cells[1:] for cells in ([cell.strip() for cell in line.strip("|").split("|")] for line in lines)}
+
+
+def record(name, counts):
+    """Writes rows of that table, each with today's date and its counts, in the order of the crates."""
+    kept = rows(name) | {key: [date.today().isoformat(), *map(str, those)] for key, those in counts.items()}
+    order = [key for key in [*(f"`{crate}`" for crate in crates()), ALL] if key in kept]
+    lines = [f"| {' | '.join([key, *kept[key]])} |" for key in order]
+    TESTING.write_text(table_of(name).sub(lambda found: found[1] + "\n".join(lines) + found[3], text_of(TESTING)))

@@ -21,8 +21,7 @@ import re
 import crafted_files
 import trusted
 from comparing.peers import KNOWN, TABLES as PEERS
-from edits import PLANTED_BUGS, WRONG_DEFINITIONS, all_blocks, blocks
-from records import BUGS, rows as recorded
+from edits import BUGS_TRIED, PLANTED_BUGS, WRONG_DEFINITIONS, all_blocks, blocks, rows as recorded
 from sources import TOP, cited, crates, files, public_clauses, module_of, text_of, uses, words_of
 from try_definitions import PINNED, with_rejected
 from try_edits import bodies
@@ -208,7 +207,7 @@ def counts():
     """The words after the number, at the start of a row or in bold: `| 468 | tests in Rattle ..`, `**468** tests in Rattle ..`."""
     pins = [*files("src", ".rt", ["tests_pins"]), TOP / "crates/zoned_ffi/src/pins.rt"]
     bugs = all_blocks(PLANTED_BUGS)
-    refuted, still_open, listed = (sum(int(row[column]) for row in recorded(BUGS).values()) for column in (2, 3, 4))
+    refuted, still_open, listed = (sum(int(row[column]) for row in recorded(BUGS_TRIED).values()) for column in (2, 3, 4))
     return {
         "tests in Rattle": how_often(r"(?m)^#\[test\]$", files("tests", ".txt")),
         "worked examples": how_often(r"(?m)^pub fn ", pins),

@@ -42,9 +42,8 @@ from functools import lru_cache
 from pathlib import Path
 from queue import Queue
 
-from edits import WRONG_DEFINITIONS, all_blocks, tenth
+from edits import ALL, DEFINITIONS_TRIED, WRONG_DEFINITIONS, all_blocks, record, tenth
 from kit import PROVED_WITHOUT_LEMMAS, UNREAD, VERDICT, wait_for, words, words_over_pages
-from records import ALL, DEFINITIONS as DEFINITIONS_TRIED, record
 from sources import TOP, imports_of, libraries_below, text_of, uses
 
 DEFINITIONS = TOP / "docs/DEFINITIONS.md"

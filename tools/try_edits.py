@@ -54,11 +54,10 @@ from concurrent.futures import ThreadPoolExecutor
 from dataclasses import dataclass, field, replace
 from pathlib import Path
 
-from edits import HARMLESS, PLANTED_BUGS, blocks, tenth
+from edits import BUGS_TRIED, HARMLESS, PLANTED_BUGS, blocks, record, tenth
 from kit import (
     ANSWER_FALSE, ANSWER_OPEN, FALSE, GOAL, OPEN, PROVED_WITHOUT_PROOFS, SAME_HOLES, TOLD, UNDECIDED, UNREAD, VERDICT, messages, wait_for, words,
 )
-from records import BUGS, record
 from sources import TOP, crates, files, libraries_below
 
 REFUTED, OPEN_GOAL, NO_LONGER_FITS, LISTED = "refuted", "open", "no longer fits", "listed"
@@ -480,7 +479,7 @@ def main():
                 by_crate[edit.crate][verdict] += 1
                 failures += not is_due
     if given.record:
-        record(BUGS, {f"`{crate}`": [sum(those.values()), *(those[verdict] for verdict in (REFUTED, OPEN_GOAL, LISTED))] for crate, those in by_crate.items()})
+        record(BUGS_TRIED, {f"`{crate}`": [sum(those.values()), *(those[verdict] for verdict in (REFUTED, OPEN_GOAL, LISTED))] for crate, those in by_crate.items()})
     kinds = ", ".join(f"{count[verdict]} {verdict}" for verdict in (REFUTED, OPEN_GOAL, NO_LONGER_FITS, LISTED, NOT_REJECTED, NOT_TRIED) if count[verdict])
     print(f"{sum(count.values())} tried: {kinds}; {failures} failures")
     return 0 if count and not failures else 1
