@@ -450,7 +450,7 @@ def counted():
     return [
         (FROM_CHRONO, f"`crates/tests_idioms` has {idioms} functions "),
         (FROM_CHRONO, f"[`facts`](../crates/demo_examples/src/facts.rt) has {functions_of(TOP / 'crates/demo_examples/src/facts.rt')},"),
-        (TOP / "docs/GRAMMARS.md", f"{in_words(kinds).capitalize()} kinds are the constructors of `Grammar`"),
+        (MAP, f"{in_words(kinds).capitalize()} kinds are the constructors of `Grammar`"),
         (TESTING, f"{made:,} files, of which {made - changed:,} are unchanged"),
         (TESTING, f"the answers to {len(WRONG_USES)} wrong uses"),
         (TESTING, f"`tools/must_not_compile.py` tries {refused} programs"),
