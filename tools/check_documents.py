@@ -438,7 +438,6 @@ def counted():
     kinds = len(re.findall(r"(?m)^  [A-Z]\w* : ", grammar))
     idioms = sum(functions_of(path) for path in files("src", ".rt", ["tests_idioms"]))
     book = sum(len(text_of(path).splitlines()) for path, _ in pages_of_headline())
-    refused = in_words(len(list((TOP / "tools/refused").glob("*.txt"))))
     large = "crates/tests_large_zone/src/main.rt"
     many, few = (constant("crates/zonedump/src/output.rt", name) for name in ("MANY", "FEW"))
     threads = in_words(constant("tools/try_handles.c", "THREADS"))
@@ -446,15 +445,12 @@ def counted():
     places = constant(PICTURE / "scale.rt", "RIGHT") - constant(PICTURE / "scale.rt", "LEFT") + 1
     zone = set(re.findall(r"(?m)^ *fn (\w+)", text_of(TOP / "crates/demo_examples/src/own_zone.rt")))
     by_hand = {path.name for path in (TOP / "crates/demo_examples/proofs/own_zone/NepalTimeZone").iterdir()}
-    ways = re.findall(r"(?m)^- ", text_of(MAP).partition(" ways through\n")[2].partition("\n## ")[0])
     return [
         (FROM_CHRONO, f"`crates/tests_idioms` has {idioms} functions "),
         (FROM_CHRONO, f"[`facts`](../crates/demo_examples/src/facts.rt) has {functions_of(TOP / 'crates/demo_examples/src/facts.rt')},"),
         (MAP, f"{in_words(kinds).capitalize()} kinds are the constructors of `Grammar`"),
         (TESTING, f"{made:,} files, of which {made - changed:,} are unchanged"),
         (TESTING, f"the answers to {len(WRONG_USES)} wrong uses"),
-        (TESTING, f"`tools/must_not_compile.py` tries {refused} programs"),
-        (TESTING, f"tries {in_words(len(all_blocks(HARMLESS)))} edits that change nothing but the text"),
         (TESTING, f"counts instructions for {sum(1 for _ in shapes())} shapes of input"),
         (TESTING, f"at most {in_words(MOST_TIMES)} times as many as in New York"),
         (TESTING, f"at most {MOST_GROWTH} times the kept count"),
@@ -475,7 +471,6 @@ def counted():
         (DECISIONS, f"over {constant('crates/tz_saving/src/sides.rt', 'REACH')} clock changes at most"),
         (TOP / "docs/ANSWERS.md", f"in every year up to {constant('crates/tz_info/src/rule/changes.rt', 'LAST_RULE_YEAR')}"),
         (OWN_ZONE, f"proves {in_words(len(zone - by_hand))} of the {in_words(len(zone))} functions of the zone by itself"),
-        (MAP, f"## {in_words(len(ways)).capitalize()} ways through"),
         (PROVED, f"some {round(book, -2):,} lines, as one book"),
     ]
 
