@@ -195,7 +195,6 @@ def parts(results):
         "by instant": lambda: table(found[AT]),
         "by local time": lambda: table(found[WALL]),
         "at work": lambda: table(found[WORK]),
-        "dates": lambda: table(found[DATES]),
         "columns": lambda: table([row for row in found[COLUMNS] if row["rows"] in ("in order", "at random")]),
         "slower": lambda: slower(found),
         "differ": lambda: differences(found),

@@ -20,6 +20,7 @@ HEADLINE = TOP / "crates/zoned/src/headline.rt"
 NOT_FOR_USERS = ("tests_", "demo_", "bench_")
 # Types of std and type parameters: no impl of the repository gives them a meaning.
 TYPE = r"\b[A-Z]\w+"
+PRELUDE = "Rattle.std.specs.Prelude"
 
 
 def for_users():
@@ -137,8 +138,8 @@ def parts():
     lines = sum(len(text_of(path).splitlines()) for path, _ in book)
     return {
         "the kit's words": [
-            f"Clauses of public calls cite {len(kits_words())} words of the kit, and the pages of the headline import {len(kits_pages())} of its pages: "
-            "most words are of `Rattle.std.specs.Prelude`."
+            f"Clauses of public calls cite {len(kits_words())} words of the kit, {sum(page == PRELUDE for page, _ in kits_words())} of them from "
+            f"`{PRELUDE}`; the pages of the headline import {len(kits_pages())} of its pages."
         ],
         "the kit's libraries": [f"The libraries and programs use the kit's standard library, with `core` and `std_alloc`, and {in_code(kits_libraries())}."],
         "pages": [
