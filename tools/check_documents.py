@@ -6,8 +6,7 @@ usage: tools/check_documents.py
 - Each relative link of a document leads to a file, and its anchor to a heading there; no line is left of a merge.
 - Each name and each path in backticks, each path of a `sh` block and each module that docs/MAP.md names is in the code, or is one of
   another project (OTHERS). That page names the scripts that the gate doesn't run. The headers have the names of zoned(3). The calls
-  that the README of a crate cites are calls of that crate. The table of crates in docs/PROVED.md has the first sentence of each README.
-  docs/PROGRAMS.md has the options of zonedump.
+  that the README of a crate cites are calls of that crate. docs/PROGRAMS.md has the options of zonedump.
 - What tools/generate_documents.py writes is up to date.
 - No clause of a public function cites a step of a proof (specs/Steps). docs/DEFINITIONS.md names the types whose invariants do. Each word
   that a contract cites has a comment.
@@ -407,14 +406,6 @@ def options_of_zonedump():
         yield f"{shown(PROGRAMS)}: the option --{name} is here or in crates/zonedump/src/arguments.rt, but not in both"
 
 
-def table_of_crates():
-    for path in sorted(TOP.glob("crates/*/README.md")):
-        sentence = text_of(path).split("\n\n")[1]
-        row = f"| [`{path.parent.name}`](../{path.relative_to(TOP)}) | {sentence} |"
-        if row not in text_of(PROVED):
-            yield f"{shown(PROVED)}: it doesn't have the row: {row}"
-
-
 # What documents say of the kit and of the code
 
 
@@ -573,7 +564,7 @@ def not_passed_on():
 CHECKS = [
     links, merge_lines, stale_parts, contract_words, types_with_steps, claims, own_memory_errors, planted_bugs,
     wrong_definitions, unused_lemmas, unlisted_pages, modules_without_a_comment, not_passed_on, required_of_c, number_faults,
-    unknown_names, cited_calls, modules_of_map, names_of_man_page, scripts_by_hand, options_of_zonedump, table_of_crates,
+    unknown_names, cited_calls, modules_of_map, names_of_man_page, scripts_by_hand, options_of_zonedump,
     untested_idioms, facts_of_documents, first_screen, figure_faults, rattle_blocks,
 ]
 

@@ -7,7 +7,7 @@ usage: tools/generate_documents.py
 - docs/DEFINITIONS.md: the wrong definitions that each pin rejects (tools/try_definitions.py).
 - docs/TESTING.md: a table of planted bugs and wrong definitions by crate, with how many functions they cover, and one of the tables of
   tools/comparing/peers.
-- docs/MAP.md: a table of crates, each with the libraries of crates.txt and the first sentence of its root.
+- docs/MAP.md: a table of crates, each with its README, the libraries of crates.txt and the first sentence of its root.
 - docs/PROGRAMS.md: the error numbers 1 to 17 with the words of the comments of tz_info's `Error`.
 - docs/PYTHON.md: the calls about columns, each with the first sentence of its docstring.
 - README.md and docs/TESTING.md: how many tests, planted bugs and wrong definitions there are, and the last line that the tests print.
@@ -133,7 +133,9 @@ def with_crates(text):
 
     def row(crate):
         root = next(path for path in (TOP / "crates" / crate / "src" / name for name in ("lib.rt", "main.rt")) if path.exists())
-        return f"| `{crate}` | {', '.join(f'`{library}`' for library in uses()[crate]) or 'std'} | {head_of(root)} |"
+        readme = TOP / "crates" / crate / "README.md"
+        name = f"[`{crate}`](../{readme.relative_to(TOP)})" if readme.exists() else f"`{crate}`"
+        return f"| {name} | {', '.join(f'`{library}`' for library in uses()[crate]) or 'std'} | {head_of(root)} |"
 
     return between("crates", text, ["| crate | uses | is |", "|---|---|---|", *map(row, crates())])
 
