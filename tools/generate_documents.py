@@ -4,7 +4,6 @@
 usage: tools/generate_documents.py
 
 - docs/TRUSTED.md: the definitions and ghost members of the headline, the `unsafe` code, and what is used of the kit (tools/trusted.py).
-- docs/DEFINITIONS.md: the wrong definitions that each pin rejects (tools/try_definitions.py).
 - docs/TESTING.md: a table of planted bugs and wrong definitions by crate, with how many functions they cover, and one of the tables of
   tools/comparing/peers.
 - docs/MAP.md: a table of crates, each with its README, the libraries of crates.txt and the first sentence of its root.
@@ -23,7 +22,7 @@ import trusted
 from comparing.peers import KNOWN, TABLES as PEERS
 from edits import BUGS_TRIED, PLANTED_BUGS, WRONG_DEFINITIONS, all_blocks, blocks, rows as recorded
 from sources import TOP, cited, crates, files, public_clauses, module_of, text_of, uses, words_of
-from try_definitions import PINNED, with_rejected
+from try_definitions import PINNED
 from try_edits import bodies
 from unpinned import exceptions
 
@@ -251,7 +250,6 @@ def generated():
     testing = text_of(TESTING)
     return {
         TRUSTED: with_parts(text_of(TRUSTED), trusted.parts()),
-        DEFINITIONS: with_rejected(text_of(DEFINITIONS)),
         TESTING: with_counts(with_peers(testing[: testing.find(PLANTED)] + planted())),
         MAP: with_crates(text_of(MAP)),
         PROGRAMS: with_numbers(text_of(PROGRAMS)),
