@@ -1,9 +1,9 @@
 //! Zoned time, proved: the zoned-time layer of chrono 0.4.45, under chrono's names.
 //!
-//! This is the only library that a client names, unless it needs [less](#which-libraries-to-name). It
-//! passes on what the libraries below it make, and the words of their contracts. Its own are the
-//! theorems of [`headline`], which join those contracts, and those of [`client_laws`], for a client's
-//! own contracts.
+//! This is the only library of Sahvumbi that a client names, unless it needs
+//! [less](#which-libraries-to-name). It passes on what the libraries below it make, and the words of
+//! their contracts. Its own are the theorems of [`headline`], which join those contracts, and those of
+//! [`client_laws`], for a client's own contracts.
 //!
 //! Each call returns what its contract says, and no call panics, overflows, reads out of bounds or
 //! loops forever; no contract bounds the stack. The caller proves what a call requires, such as a
