@@ -24,8 +24,8 @@ usage: tools/check_documents.py
   all tests, and .ci/run runs both.
 - README.md names the number and the logic of the kit that `rt version` prints (if there is rt).
 - One version is in the C header, the Python package, zonedump, README.md, CONTRIBUTING.md and CHANGELOG.md.
-- Counts and limits that documents state in a sentence are those of the code, such as the functions of the crate of idioms. A test calls
-  each of these.
+- Counts and limits that documents state in a sentence are those of the code, such as the shapes of input. A test calls each function
+  of the crate of idioms.
 - The tables of docs/SPEED.md and README.md have the figures of the latest file of bench/results (bench/write_speed.py).
 
 Prints a line for each fault, with its place, and ends with status 1 if there is one.
@@ -48,7 +48,6 @@ from generate_documents import (
 from sources import (
     NAME, TOP, cited, crates, files, imports_of, module_of, public_clauses, shown, text_of, without_comments,
 )
-from trusted import pages_of_headline
 from try_definitions import faults as wrong_definitions
 from try_documents import TESTS, blocks, commands, rattle as rattle_blocks
 from try_edits import FUNCTION, read as read_edit
@@ -61,8 +60,6 @@ from write_speed import latest as latest_results, written as with_figures  # noq
 FACADE = TOP / "crates/zoned"
 PACKAGE = TOP / "python/README.md"
 GATE = TOP / ".ci/run"
-PROVED = TOP / "docs/PROVED.md"
-FROM_CHRONO = TOP / "docs/FROM_CHRONO.md"
 SPEED = TOP / "docs/SPEED.md"
 CONTRIBUTING, DECISIONS, OWN_ZONE = TOP / "CONTRIBUTING.md", TOP / "docs/DECISIONS.md", TOP / "docs/OWN_ZONE.md"
 PICTURE = TOP / "crates/zonedump_lib/src/picture"
@@ -413,10 +410,6 @@ def in_words(number):
     return NUMBERS_IN_WORDS[number] if number < len(NUMBERS_IN_WORDS) else f"{number:,}"
 
 
-def functions_of(path):
-    return len(re.findall(r"(?m)^ *pub fn ", text_of(path)))
-
-
 def constant(path, name):
     """The number of a constant of the code, which has no sign."""
     return int(re.search(rf"(?m)\b{name}(?:: \w+)? = ([\d_]+)[;,\n]", text_of(TOP / path))[1].replace("_", ""))
@@ -427,8 +420,6 @@ def counted():
     made, changed = byte_changes()
     grammar = text_of(TOP / "crates/tz_base/specs/Grammar.antt").partition("pub data Grammar ")[2].partition("\n\n")[0]
     kinds = len(re.findall(r"(?m)^  [A-Z]\w* : ", grammar))
-    idioms = sum(functions_of(path) for path in files("src", ".rt", ["tests_idioms"]))
-    book = sum(len(text_of(path).splitlines()) for path, _ in pages_of_headline())
     large = "crates/tests_large_zone/src/main.rt"
     many, few = (constant("crates/zonedump/src/output.rt", name) for name in ("MANY", "FEW"))
     threads = in_words(constant("tools/try_handles.c", "THREADS"))
@@ -437,8 +428,6 @@ def counted():
     zone = set(re.findall(r"(?m)^ *fn (\w+)", text_of(TOP / "crates/demo_examples/src/own_zone.rt")))
     by_hand = {path.name for path in (TOP / "crates/demo_examples/proofs/own_zone/NepalTimeZone").iterdir()}
     return [
-        (FROM_CHRONO, f"`crates/tests_idioms` has {idioms} functions "),
-        (FROM_CHRONO, f"[`facts`](../crates/demo_examples/src/facts.rt) has {functions_of(TOP / 'crates/demo_examples/src/facts.rt')},"),
         (MAP, f"{in_words(kinds).capitalize()} kinds are the constructors of `Grammar`"),
         (TESTING, f"{made:,} files, of which {made - changed:,} are unchanged"),
         (TESTING, f"the answers to {len(WRONG_USES)} wrong uses"),
@@ -462,7 +451,6 @@ def counted():
         (DECISIONS, f"over {constant('crates/tz_saving/src/sides.rt', 'REACH')} clock changes at most"),
         (TOP / "docs/ANSWERS.md", f"in every year up to {constant('crates/tz_info/src/rule/changes.rt', 'LAST_RULE_YEAR')}"),
         (OWN_ZONE, f"proves {in_words(len(zone - by_hand))} of the {in_words(len(zone))} functions of the zone by itself"),
-        (PROVED, f"some {round(book, -2):,} lines, as one book"),
     ]
 
 
