@@ -23,6 +23,7 @@ import re
 import crafted_files
 import trusted
 from comparing.peers import KNOWN, TABLES as PEERS
+from doc_examples import blocks as examples
 from edits import PLANTED_BUGS, WRONG_DEFINITIONS, all_blocks, blocks
 from sources import TOP, cited, crates, files, public_clauses, module_of, text_of, uses, words_of
 from try_definitions import with_rejected
@@ -229,7 +230,7 @@ def counts():
     pins = [*files("src", ".rt", ["tests_pins"]), TOP / "crates/zoned_ffi/src/pins.rt"]
     bugs = all_blocks(PLANTED_BUGS)
     return {
-        "tests in Rattle": how_often(r"(?m)^#\[test\]$", files("tests", ".txt")),
+        "tests in Rattle": how_often(r"(?m)^#\[test\]$", files("tests", ".txt")) + sum(1 for crate in crates() for _ in examples(crate)),
         "worked examples": how_often(r"(?m)^pub fn ", pins),
         "planted bugs in the gate": sum(block.is_in_gate for block in bugs),
         "planted bugs in all": len(bugs),
