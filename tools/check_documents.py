@@ -43,7 +43,7 @@ from pathlib import Path
 
 from check_headline import CITATION, DOCUMENTS
 from definitions import clauses
-from edits import HARMLESS, PLANTED_BUGS, all_blocks
+from edits import HARMLESS, PLANTED_BUGS, READS_ON, all_blocks
 from generate_documents import (
     DEFINITIONS, ERROR, MAP, PROGRAMS, README, TESTING, byte_changes, counts, generated, head_of, numbers_of_errors, words_in_contracts,
 )
@@ -211,7 +211,7 @@ def unclear_functions(edit):
 
 
 def planted_bugs():
-    for block in [*all_blocks(PLANTED_BUGS), *all_blocks(HARMLESS)]:
+    for block in [block for due in ("", HARMLESS, READS_ON) for block in all_blocks(PLANTED_BUGS, due)]:
         yield from [*block.faults()] or unclear_functions(read_edit(block))
 
 
@@ -477,7 +477,7 @@ def counted():
         (TESTING, f"{made:,} files, of which {made - changed:,} are unchanged"),
         (TESTING, f"the answers to {len(WRONG_USES)} wrong uses"),
         (TESTING, f"`tools/must_not_compile.py` tries {refused} programs"),
-        (TESTING, f"tries {in_words(len(all_blocks(HARMLESS)))} edits that change nothing but the text"),
+        (TESTING, f"tries {in_words(len(all_blocks(PLANTED_BUGS, HARMLESS)))} edits that change nothing but the text"),
         (TESTING, f"counts instructions for {sum(1 for _ in shapes())} shapes of input"),
         (TESTING, f"at most {in_words(MOST_TIMES)} times as many as in New York"),
         (TESTING, f"at most {MOST_GROWTH} times the kept count"),
