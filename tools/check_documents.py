@@ -41,7 +41,7 @@ from pathlib import Path
 
 from check_headline import CITATION, DOCUMENTS
 from definitions import clauses
-from edits import HARMLESS, PLANTED_BUGS, all_blocks
+from edits import HARMLESS, PLANTED_BUGS, READS_ON, all_blocks
 from generate_documents import (
     DEFINITIONS, ERROR, MAP, PROGRAMS, README, TESTING, byte_changes, counts, generated, head_of, numbers_of_errors, words_in_contracts,
 )
@@ -195,7 +195,7 @@ def unclear_functions(edit):
 
 
 def planted_bugs():
-    for block in [*all_blocks(PLANTED_BUGS), *all_blocks(HARMLESS)]:
+    for block in [block for due in ("", HARMLESS, READS_ON) for block in all_blocks(PLANTED_BUGS, due)]:
         yield from [*block.faults()] or unclear_functions(read_edit(block))
 
 

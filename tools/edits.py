@@ -1,11 +1,12 @@
-"""Reads tables of edits: the planted bugs, harmless edits, wrong definitions and scans of a crate. Writes the record of full runs: two
+"""Reads tables of edits: the planted bugs and the wrong definitions of a crate. Writes the record of full runs: two
 tables of docs/TESTING.md, with dates and verdicts.
 
 A table is a file of the crate with a block for each edit: its name in brackets, and lines of a key and a text. `file:` names a file
 of the crate, and each `old:` with its `new:` a text that is once in that file, and what takes its place. `only:` names the function
 or module whose contract rejects a planted bug, if that isn't the edited function, or if another function or a module has the same
 name; `in:` says who tries it. `listed:` says why no goal of its function is open by itself, if only the hand-written part of the
-proof fails.
+proof fails. `due:` is what must become of an edit that is no planted bug: `harmless`, which must not be refuted, or `reads on`, in which
+tests_large_zone must not end.
 `says:` is what a wrong definition says, `pins:` and `law:` are what must reject it.
 """
 
@@ -19,7 +20,8 @@ from functools import lru_cache
 
 from sources import TOP, crates, text_of
 
-PLANTED_BUGS, HARMLESS, SCANS, WRONG_DEFINITIONS = "planted_bugs.txt", "harmless_edits.txt", "scans.txt", "wrong_definitions.txt"
+PLANTED_BUGS, WRONG_DEFINITIONS = "planted_bugs.txt", "wrong_definitions.txt"
+HARMLESS, READS_ON = "harmless", "reads on"
 TESTING = TOP / "docs/TESTING.md"
 BUGS_TRIED, DEFINITIONS_TRIED, ALL = "planted bugs tried", "wrong definitions tried", "all"
 
@@ -53,8 +55,8 @@ class Block:
 
 
 @lru_cache(maxsize=None)
-def blocks(table, crate):
-    """The blocks of a crate's table of that name."""
+def blocks(table, crate, due=""):
+    """The blocks of a crate's table of that name with that line `due:`, or without one."""
     path, found = TOP / "crates" / crate / table, []
     for line in text_of(path).splitlines() if path.is_file() else []:
         key, _, text = line.partition(":")
@@ -69,7 +71,7 @@ def blocks(table, crate):
             found[-1].pairs.append((file, old, text))
         elif line and not line.startswith("#"):
             found[-1].notes[key].append(text)
-    return found
+    return [block for block in found if " ".join(block.notes["due"]) == due]
 
 
 def tenth():
@@ -78,8 +80,8 @@ def tenth():
     return lambda name: hashlib.sha256(f"{commit}{name}".encode()).digest()[0] * 10 < 256
 
 
-def all_blocks(table):
-    return [block for crate in crates() for block in blocks(table, crate)]
+def all_blocks(table, due=""):
+    return [block for crate in crates() for block in blocks(table, crate, due)]
 
 
 def table_of(name):

@@ -20,6 +20,7 @@ import re
 import crafted_files
 import trusted
 from comparing.peers import KNOWN, TABLES as PEERS
+from doc_examples import blocks as examples
 from edits import BUGS_TRIED, PLANTED_BUGS, WRONG_DEFINITIONS, all_blocks, blocks, rows as recorded
 from sources import TOP, cited, crates, files, public_clauses, module_of, text_of, uses, words_of
 from try_definitions import PINNED
@@ -210,7 +211,7 @@ def counts():
     bugs = all_blocks(PLANTED_BUGS)
     refuted, still_open, listed = (sum(int(row[column]) for row in recorded(BUGS_TRIED).values()) for column in (2, 3, 4))
     return {
-        "tests in Rattle": how_often(r"(?m)^#\[test\]$", files("tests", ".txt")),
+        "tests in Rattle": how_often(r"(?m)^#\[test\]$", files("tests", ".txt")) + sum(1 for crate in crates() for _ in examples(crate)),
         "worked examples": how_often(r"(?m)^pub fn ", pins),
         "of these": how_often(r"(?m)^pub fn ", pins) - len(own_pins()),
         "words of public contracts without a pin": len(exceptions()),

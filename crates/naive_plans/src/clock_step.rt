@@ -54,7 +54,7 @@ impl ClockStep {
     /// number of them.
     ///
     /// ```
-    /// let quarter = ClockStep::seconds(900)?; // 00:00, 00:15, 00:30, ..
+    /// let quarter = ClockStep::seconds(900)?; // at 00:00, 00:15, 00:30, ..
     /// let none = ClockStep::seconds(7 * 3_600); // None
     /// ```
     pub fn seconds(seconds: u32) -> Option<ClockStep>

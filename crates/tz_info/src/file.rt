@@ -77,9 +77,8 @@ impl TimeZone {
     /// number of bytes in front of it.
     ///
     /// ```
-    /// match TimeZone::parse_tz_data(alloc, b"TZif4") {
-    ///     Ok(zone) => Ok(zone),
-    ///     Err(e) => Err(e.position), // Some(4), at the version
+    /// if let Err(e) = TimeZone::parse_tz_data(alloc, b"TZif4") {
+    ///     let position = e.position; // Some(4), at the version
     /// }
     /// ```
     ///

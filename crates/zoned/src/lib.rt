@@ -52,8 +52,8 @@
 //! let parsed = tz_info::TimeZone::from_tz_data(alloc, bytes)?;
 //! let new_york = TimeZoneRef::new(&parsed).ok_or(MyError::WideZone)?;
 //! let gap = new_york.with_ymd_and_hms(2021, 3, 14, 2, 30, 0); // None
-//! let fold = new_york.with_ymd_and_hms(2021, 11, 7, 1, 30, 0); // Ambiguous(-04:00, -05:00)
-//! let noon = new_york.with_ymd_and_hms(2021, 7, 1, 12, 0, 0); // Single(-04:00)
+//! let fold = new_york.with_ymd_and_hms(2021, 11, 7, 1, 30, 0); // Ambiguous(2021-11-07 01:30:00 -04:00, 2021-11-07 01:30:00 -05:00)
+//! let noon = new_york.with_ymd_and_hms(2021, 7, 1, 12, 0, 0); // Single(2021-07-01 12:00:00 -04:00)
 //! ```
 //!
 //! [`TimeZone::resolve`] returns the one instant that a policy selects, or the reason why there isn't
@@ -89,6 +89,7 @@
 //!     let instant = instant?;
 //!     lines.push(format!(in alloc; "{instant}")?)?;
 //! }
+//! let after_the_gap = lines[1].as_str(); // 2021-03-14 03:30:00 -04:00
 //! ```
 //!
 //! | 02:30 from 2021-03-13 on | 01:30 from 2021-11-06 on |

@@ -48,7 +48,7 @@ pub struct Moves<Old, New, P> {
 /// Local times that are stored are a plan too, [`LocalTimes`](naive_plans::LocalTimes).
 ///
 /// ```
-/// let moves = moved(&old, &new, daily, &last_run, &now).count();
+/// let moves = moved(&old, &new, daily, &last_run, &now).count(); // 0, by an equal zone
 /// ```
 pub fn moved<Old: ZoneDays, New: ZoneDays, P: Plan + Drop, Tz: TimeZone, Tz2: TimeZone>(
     old: &Old,

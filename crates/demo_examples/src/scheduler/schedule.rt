@@ -23,7 +23,7 @@ impl Schedule {
     ///
     /// ```
     /// let schedule = Schedule { days: RunDays::Workdays, times }; // at 09:00 and 17:30
-    /// let next = schedule.next_fire(&new_york, &friday_evening); // 2021-11-08 09:00:00 -05:00
+    /// let next = schedule.next_fire(&new_york, &friday_evening); // Some(2021-11-08 09:00:00 -05:00)
     /// ```
     pub fn next_fire<Tz: ZoneDays>(&self, zone: &Tz, after: &DateTime<Tz>) -> Option<DateTime<Tz>>
         ensures { let law = Tz.law zone.now in let now = (zoned after.now).utc.s in

@@ -24,7 +24,7 @@ impl TimeZone {
     ///
     /// ```
     /// let counts = TimeZone::file_counts(&bytes)?;    // of /usr/share/zoneinfo/Europe/Paris
-    /// let few = counts.transitions <= 2_000 && counts.leap_seconds <= 100;
+    /// let few = counts.transitions <= 2_000 && counts.leap_seconds <= 100; // true
     /// ```
     pub fn file_counts(bytes: &[u8]) -> Option<FileCounts>
         ensures { (c : FileCounts) → (result ≡ Some c) ↔ HasCounts bytes.now c }

@@ -21,8 +21,8 @@ use tz_base::LocalTimeType;
 /// let types = vec![in alloc; LocalTimeType::utc(), LocalTimeType::with_offset(3600)?]?;
 /// let transitions = vec![in alloc; Transition::new(0, 1)]?;
 /// let zone = TimeZone::new(alloc, transitions, types, Vec::new(alloc), None)?;
-/// let before = zone.find_local_time_type(-1)?;    // UTC
-/// let after = zone.find_local_time_type(0)?;      // 3600 seconds east of UTC
+/// let before = zone.find_local_time_type(-1)?.offset();    // 0
+/// let after = zone.find_local_time_type(0)?.offset();      // 3600
 /// ```
 #[derive(Drop)]
 pub struct TimeZone {

@@ -29,7 +29,7 @@ impl TimeZone {
     /// let zone = TimeZone::from_posix_tz(alloc, "EST5EDT,M3.2.0,M11.1.0")?;
     /// let change = zone.next_change(1_609_459_200)?;    // from 2021-01-01 00:00:00 UTC on
     /// let at = change.at;                               // 1615705200: 14 March, 02:00 EST
-    /// let name = change.after.name();                   // EDT
+    /// let name = change.after.name();                   // Some("EDT")
     /// ```
     pub fn next_change(&self, after: i64) -> Option<Change>
         ensures { IsFirst (TypeAt self.now) (λ u. after <ℤ u) result }

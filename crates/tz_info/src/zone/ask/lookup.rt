@@ -23,7 +23,7 @@ impl TimeZone {
     ///
     /// ```
     /// let zone = TimeZone::from_posix_tz(alloc, "CET-1CEST,M3.5.0,M10.5.0/3")?;
-    /// let winter = zone.find_local_time_type(1_609_459_200)?;    // CET, 3600 seconds east of UTC
+    /// let winter = zone.find_local_time_type(1_609_459_200)?.name();    // Some("CET")
     /// ```
     ///
     /// Before the last transition it is the type of the latest transition that has come, and the
@@ -65,7 +65,7 @@ impl TimeZone {
     /// ```
     /// let mut probes = Probes::new();
     /// let local = zone.find_local_time_type_counted(0, &mut probes)?;
-    /// let reads = probes.reads();
+    /// let reads = probes.reads(); // 0, since the rule answers
     /// ```
     ///
     /// # Errors

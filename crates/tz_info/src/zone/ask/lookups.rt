@@ -59,8 +59,8 @@ impl TimeZone {
     ///
     /// ```
     /// let mut lookups = zone.lookups();
-    /// let first = lookups.find_local_time_type(1_609_459_200)?;
-    /// let next = lookups.find_local_time_type(1_609_462_800)?;
+    /// let first = lookups.find_local_time_type(1_609_459_200)?.offset(); // -18000
+    /// let next = lookups.find_local_time_type(1_609_462_800)?.offset(); // -18000
     /// ```
     pub fn lookups(&self) -> Lookups<'_>
         ensures { result ≡ self.now }

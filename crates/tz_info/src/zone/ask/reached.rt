@@ -21,7 +21,7 @@ impl TimeZone {
     /// second that [`TimeZone::find_first_at_or_after`] finds for it is at or before that date-time.
     ///
     /// ```
-    /// let second_pass = NaiveDate::from_ymd_opt(2021, 11, 7)?.and_hms_opt(6, 30, 0)?; // 01:30 EST
+    /// let second_pass = NaiveDate::from_ymd_opt(2021, 11, 7)?.and_hms_opt(6, 30, 0)?; // at 01:30 EST
     /// let reached = new_york.find_reached(second_pass); // 1636250399: 2021-11-07 01:59:59
     /// ```
     pub fn find_reached(&self, utc: NaiveDateTime) -> i64

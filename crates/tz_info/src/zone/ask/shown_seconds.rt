@@ -58,7 +58,6 @@ impl TimeZone {
     /// midnight, they show the old date again after they have shown the new one.
     ///
     /// ```
-    /// let apia = TimeZone::from_tz_data(alloc, bytes)?;
     /// let skipped = apia.find_seconds_of_day(NaiveDate::from_ymd_opt(2011, 12, 30)?); // None: skipped
     /// let day = apia.find_seconds_of_day(NaiveDate::from_ymd_opt(2011, 12, 31)?)?;
     /// let at = day.first.at; // 1325239200: 2011-12-30 10:00:00 UTC
