@@ -1,7 +1,3 @@
-pub mod SearchWords
-pub mod FirstItems
-pub mod DigitLaws
-pub mod SearchSteps
 pub mod Words
 pub mod Fits
 pub mod RuleDays
@@ -39,8 +35,6 @@ pub mod RunLaws
 pub mod ShownSecondLaws
 pub mod RuleReached
 pub mod DifferenceLaws
-pub mod FilePieceLaws
-pub mod TrimLaws
 pub mod TzFileLaws
 pub mod EntryLaws
 pub mod EntryChanges
