@@ -1,5 +1,6 @@
-//! Parts that rules, files and zones share: errors, the cursor over bytes, abbreviations, local time
-//! types, clock changes, and the spans between them.
+//! Parts that rules, files and zones share: errors, the cursor over bytes, the place of a fault, white
+//! space, abbreviations, local time types, transitions, leap seconds, clock changes, and the spans between
+//! them.
 //!
 //! A contract sees of a `Cursor` what is left to read, of a `TimeZoneName` its bytes. Proved: a call of
 //! `Cursor` that returns an error doesn't move the cursor; names, types and the numbers of errors are
