@@ -25,7 +25,7 @@ same_years u v time low high = grind linear
 -- seconds of a season on the same side of both moments
 pub by_season : (a : Alternate) (s : Season) (p : RulePiece) (v : ℤ) → IsSeason a s → p.is_dst ≡ is_dst_by_one s.turns.start s.turns.end v
     → ((u : ℤ) → IsInPiece p u → IsRuleTime u × (s.from ≤ℤ u) × (u <ℤ s.until) × (int_le s.turns.start u ≡ int_le s.turns.start v)
-      × (int_le s.turns.end u ≡ int_le s.turns.end v))
+    × (int_le s.turns.end u ≡ int_le s.turns.end v))
     → HasOneAnswer a p
 by_season a s p v season is side = record {
   each = λ u inside.

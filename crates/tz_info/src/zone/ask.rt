@@ -9,6 +9,7 @@ mod leap_times;
 mod lookup;
 pub(crate) mod lookups;
 mod offset_changes;
+pub(crate) mod offset_stretch;
 pub(crate) mod piece;
 mod reached;
 pub(super) mod runs;

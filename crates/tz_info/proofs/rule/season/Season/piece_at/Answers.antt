@@ -20,5 +20,11 @@ returns-clause-inside c =
     let s = c.args.second in
     let fu = c.ranges.second in
     let ff : SFits w64 c.args.self.from = search rules in let fe : SFits w64 c.args.self.until = search rules in
-    ((simp fits at c.cut_at-3.ensures.side) s).1 (((simp fits at c.cut_at-2.ensures.side) s).1 (((simp fits at c.cut_at-answered.ensures.side) s).1
-    (((simp fits at c.cut_at.ensures.side) s).1 (c.requires.decided, refl), refl), refl), refl)
+    ((simp fits at c.cut_at-3.ensures.side) s).1 (
+      ((simp fits at c.cut_at-2.ensures.side) s).1 (
+        ((simp fits at c.cut_at-answered.ensures.side) s).1
+            (((simp fits at c.cut_at.ensures.side) s).1 (c.requires.decided, refl), refl),
+        refl,
+      ),
+      refl,
+    )
