@@ -6,6 +6,7 @@ pub mod RuleLaws
 pub mod KindLaws
 pub mod YearKeys
 pub mod SeasonLaws
+pub mod RulePieces
 pub mod RuleChanges
 pub mod ChangeSearch
 pub mod ChangingYears

@@ -5,6 +5,7 @@ pub mod Extremes
 pub mod Below
 pub mod Turns
 pub mod Seasons
+pub mod RulePieces
 pub mod Answers
 pub mod Segments
 pub mod Walk

@@ -22,5 +22,6 @@ pub use zone::ask::all_changes::Changes;
 pub use zone::ask::differences::Difference;
 pub use zone::ask::lookups::Lookups;
 pub use zone::ask::offset_stretch::OffsetStretch;
+pub use zone::ask::piece::Piece;
 pub use zone::ask::shown_seconds::ShownSeconds;
 pub use zone::ask::spans::Spans;

@@ -215,6 +215,7 @@ impl TimeZone {
     // no transition.
     pub(in crate::zone) fn rule_begin(&self) -> i128
         ensures begin { IsBegin self.now result }
+        ensures valid { IsValid self.now }
         ensures bound { neg_ℤ (pos 9_223_372_036_854_775_808) ≤ℤ result }
     {
         self.change_table().rule_begin()
