@@ -1,20 +1,29 @@
-//! A series as a plan: its time on its first day and on each day after it, whatever the zone.
+//! One local time on each day from a first one on.
 ghost use Rattle.std.specs.Prelude.{◌≡◌};
 ghost use Rattle.{
   naive_base.specs.{NaiveDate.{day_of}, NaiveDateTime.{reading}, NaiveTime.{second_of}, Reading.{reading_at}},
-  naive_plans.specs.DayPlans.{IsPlannedOnItsDay},
-  zoned_series.specs.{Series.{series_of}, Series.{IsPlannedOn}},
+  naive_plans.specs.{DailyTimes.{IsDailyFrom}, DayPlans.{IsPlannedOnItsDay}},
 };
 
-use crate::DailySeries;
+use crate::{DayPlan, Plan, ReversibleDayPlan, ReversiblePlan, last_local_time, next_local_time};
 use naive_base::{NaiveDate, NaiveDateTime, NaiveTime, Timelike};
-use naive_plans::{
-    DayPlan, Plan, ReversibleDayPlan, ReversiblePlan, last_local_time, next_local_time,
-};
 
-/// As a plan a series knows neither its zone nor its policy. Fractions of a second are ignored.
-impl<Tz> Plan for DailySeries<Tz> {
-    ghost planned = { λ s. IsPlannedOnItsDay (IsPlannedOn (series_of s)) };
+/// One local time on each day from a first day on. Fractions of a second are ignored.
+///
+/// It is what a daily series of `zoned_series` says without its zone and its policy. In a zone a plan
+/// fires at no instant twice.
+///
+/// ```
+/// let daily = DailyTime { first: series.first(), time: series.time() };
+/// ```
+#[derive(Clone, Copy, Debug)]
+pub struct DailyTime {
+    pub first: NaiveDate,
+    pub time: NaiveTime,
+}
+
+impl Plan for DailyTime {
+    ghost planned = { λ d. IsPlannedOnItsDay (IsDailyFrom (day_of d.first) (second_of d.time)) };
 
     fn next_after(&self, local: &NaiveDateTime) -> Option<NaiveDateTime> {
         let first = first_local(self.first, self.time);
@@ -25,7 +34,7 @@ impl<Tz> Plan for DailySeries<Tz> {
     }
 }
 
-impl<Tz> ReversiblePlan for DailySeries<Tz> {
+impl ReversiblePlan for DailyTime {
     fn last_until(&self, local: &NaiveDateTime) -> Option<NaiveDateTime> {
         let first = first_local(self.first, self.time);
         if local.secs_since_epoch() < first.secs_since_epoch() {
@@ -35,8 +44,8 @@ impl<Tz> ReversiblePlan for DailySeries<Tz> {
     }
 }
 
-impl<Tz> DayPlan for DailySeries<Tz> {
-    ghost planned_on = { λ s. IsPlannedOn (series_of s) };
+impl DayPlan for DailyTime {
+    ghost planned_on = { λ d. IsDailyFrom (day_of d.first) (second_of d.time) };
 
     fn first_second_from(&self, date: NaiveDate, second: u32) -> Option<u32> {
         let planned = self.time.num_seconds_from_midnight();
@@ -51,7 +60,7 @@ impl<Tz> DayPlan for DailySeries<Tz> {
     }
 }
 
-impl<Tz> ReversibleDayPlan for DailySeries<Tz> {
+impl ReversibleDayPlan for DailyTime {
     fn last_second_until(&self, date: NaiveDate, second: u32) -> Option<u32> {
         let planned = self.time.num_seconds_from_midnight();
         if date < self.first || second < planned {
