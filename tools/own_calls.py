@@ -14,7 +14,7 @@ from pathlib import Path
 
 from sources import block_end, files, is_public, text_of, without_comments
 
-PORT = ["offset_core", "naive_base", "tz_base", "tz_info", "zoned_time", "zoned_round", "zoned_ref"]
+PORT = ["offset_core", "naive_base", "tz_base", "tz_info", "zoned_time", "zoned_plans", "zoned_round", "zoned_ref"]
 CHRONO = Path(__file__).resolve().parent / "chrono_calls.txt"
 
 

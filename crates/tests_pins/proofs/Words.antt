@@ -9,8 +9,9 @@ pub use Rattle.tz_info.proofs.Words.{AreLeapSeconds, Contains, IsAskedAt, IsAske
 pub use Rattle.tz_info.proofs.Words.{IsTextFault, IsYearOf, LiesIn, add-one, days_at_least, one_year, weekday_of, year_step}
 pub use Rattle.tz_info.specs.{Questions.{IsByRule}, declared.file.header.{Counts.{Counts}, Place.{Place}, Version.{Version}}}
 pub use Rattle.tz_info.specs.declared.{rule.transition_rule.TransitionRule.{TransitionRule}, zone.lists.leap_second.LeapSecond.{LeapSecond}}
-pub use Rattle.zoned_time.proofs.Words.{IsEarlier, IsFirstInstantFrom, IsGiven, day_at, day_of_year_is, AreFires, IsFire, IsFirstToReach, IsNextFire}
+pub use Rattle.zoned_time.proofs.Words.{IsEarlier, IsFirstInstantFrom, IsGiven, day_at, day_of_year_is, IsFirstToReach}
 pub use Rattle.zoned_time.proofs.Words.{IsReachedAt}
+pub use Rattle.zoned_plans.specs.Fires.{AreFires, IsFire, IsNextFire}
 pub use Rattle.zoned_time.specs.Years.{IsEarlierInYear, IsWholeYears}
 pub use Rattle.demo_own_zone.proofs.Words.{IsShownBetween, ShowsByOffset, midnight}
 pub use Rattle.zoned_ref.proofs.Words.{AreEndsOfDay, IsBeforeGap, IsNeverOnDay, lies_in, ◌*ℤ◌}
