@@ -1,6 +1,6 @@
 -- When plans fire: the fires up to a second are those of the plan's local times up to the last one that clocks have shown.
 use Rattle.std.proofs.Common.{Contains, length, slice_index_or}
-use Rattle.zoned_plans.specs.Fires.{second_before, usual_policy}
+use Rattle.zoned_plans.specs.Fires.{usual_policy}
 use Rattle.zoned_plans.proofs.Words.{AreAllOf, HasNoneAfter, HasNoneUntil, IsFire, IsFireBy, IsFirstSecondOutOfRange, IsFirstToReach, IsInRange, IsLastFire}
 use Rattle.zoned_plans.proofs.Words.{IsLastUntil, IsNextAfter, IsNextFire, IsReachedAt, IsWide, IsZonedFirst, IsZonedLastFire, IsZonedNextFire, IsZonedNextOf}
 use Rattle.zoned_plans.proofs.Words.{IsZoneSecond, Law, List, MatchOption, Meaning, None, NoneAfter, NoneBetween, NoneFiresAfter, NoneFiresUntil, Option}
@@ -114,10 +114,3 @@ pub usual_between : {O T : Type 0} {m : Meaning O} (law : Law m) (plan : ℤ →
     (λ d. IsZonedNextOf law (IsFireBy usual_policy law.off plan) t (told d) × ((told d).utc.s ≤ℤ until))
     → MatchOption found (NoneBetween (IsFire law.off plan) t until) (λ d. IsZonedNextOf law (IsFire law.off plan) t (told d) × ((told d).utc.s ≤ℤ until))
 usual_between = grind arith
-
--- ---- the last fire before an instant
-pub none_before_first : {off : ℤ → ℤ} {plan : ℤ → Type 0} {s : ℤ} → IsInRange s → (IsInRange (s -ℤ pos 1) → ⊥) → NoneFiresUntil off plan (s -ℤ pos 1)
-none_before_first = grind numbers
-
-pub before_whole : (r : Reading) → r.f ≡ 0 → second_before r ≡ r.s -ℤ pos 1
-before_whole = grind arith

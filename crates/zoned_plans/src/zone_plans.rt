@@ -10,11 +10,12 @@ ghost use Rattle.{
 ghost use Rattle.zoned_plans.specs.Fires as fire_times;
 ghost use Rattle.zoned_plans.specs.StepBounds as bounds;
 
+use crate::instants::{last_second_before, utc_at};
 use crate::last_fires::{last_by_policy, previous_by_policy};
 use crate::policies::next_by_policy;
 use crate::{FirePolicy, Fires};
 use naive_plans::{ClockStep, Plan, ReversiblePlan};
-use zoned_time::{DateTime, TimeZone, Utc, ZoneDays};
+use zoned_time::{DateTime, TimeZone, ZoneDays};
 
 /// The begin of a step of the local clock, and its end, which is the begin of the next step.
 #[derive(Clone, Copy, Debug)]
@@ -109,10 +110,7 @@ pub trait ZonePlans: ZoneDays {
             MatchOption result (fire_times.NoneFiresUntil law.off (P.planned plan.now) s)
             (λ d. fire_times.IsZonedLastFire law (P.planned plan.now) s (zoned d)) }
     {
-        if before.timestamp_subsec_nanos() > 0 {
-            return self.last_fire(plan, before);
-        }
-        let until = DateTime::<Utc>::from_timestamp(before.timestamp() - 1, 0)?;
+        let until = utc_at(last_second_before(before))?;
         self.last_fire(plan, &until)
     }
 
