@@ -13,6 +13,7 @@ pub use Rattle.tz_info.specs.declared.rule.transition_rule.TransitionRule.{Trans
 pub use Rattle.tz_base.specs.declared.leap_second.LeapSecond.{LeapSecond}
 pub use Rattle.zoned_time.proofs.Words.{IsEarlier, IsFirstInstantFrom, IsGiven, day_at, day_of_year_is, AreFires, IsFire, IsFirstToReach, IsNextFire}
 pub use Rattle.zoned_time.proofs.Words.{IsReachedAt}
+pub use Rattle.zoned_plans.specs.Fires.{AreFires, IsFire, IsNextFire}
 pub use Rattle.zoned_time.specs.Years.{IsEarlierInYear, IsWholeYears}
 pub use Rattle.demo_own_zone.proofs.Words.{IsShownBetween, ShowsByOffset, midnight}
 pub use Rattle.zoned_ref.proofs.Words.{AreEndsOfDay, IsBeforeGap, IsNeverOnDay, lies_in, ◌*ℤ◌}

@@ -38,8 +38,9 @@ ghost use Rattle.{
   zoned_ffi.specs.WholeSeconds.{step_number, IsDayAt, IsFound, IsNoDayAt, IsStep},
   zoned_ffi.specs.WrittenChanges.{written_change, written_into, IsNoLocalChange},
   zoned_ffi.specs.WrittenTypes.{mark, no_type, written_type, zero_ended, zeros},
+  zoned_plans.specs.StepBounds.{AreStepBounds},
   zoned_ref.specs.Offsets.{AreOffsetsOf},
-  zoned_time.specs.{Days.{IsInDay}, StepBounds.{AreStepBounds}},
+  zoned_time.specs.Days.{IsInDay},
 };
 
 use crate::choice::{Choice, ChoiceInGap};
