@@ -11,7 +11,7 @@ pub use Rattle.tz_info.specs.Questions.{IsByRule}
 pub use Rattle.tz_file.specs.declared.header.{Counts.{Counts}, Place.{Place}, Version.{Version}}
 pub use Rattle.tz_info.specs.declared.rule.transition_rule.TransitionRule.{TransitionRule}
 pub use Rattle.tz_base.specs.declared.leap_second.LeapSecond.{LeapSecond}
-pub use Rattle.zoned_time.proofs.Words.{IsEarlier, IsFirstInstantFrom, IsGiven, day_at, day_of_year_is, AreFires, IsFire, IsFirstToReach, IsNextFire}
+pub use Rattle.zoned_time.proofs.Words.{IsEarlier, IsFirstInstantFrom, IsGiven, day_at, day_of_year_is, IsFirstToReach}
 pub use Rattle.zoned_time.proofs.Words.{IsReachedAt}
 pub use Rattle.zoned_plans.specs.Fires.{AreFires, IsFire, IsNextFire}
 pub use Rattle.zoned_time.specs.Years.{IsEarlierInYear, IsWholeYears}

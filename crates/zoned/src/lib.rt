@@ -37,6 +37,7 @@
 //! | [`LocalResult`] | what a lookup by local time returns: `None`, `Single` or `Ambiguous` |
 //! | [`Choice`] | the policy for gaps and folds |
 //! | [`ZoneDays`], [`ShownDay`] | the trait of zones whose days can be found, and a day |
+//! | [`ZonePlans`], [`Plan`] | the calls of such a zone that take a plan or a step of the clock, and the trait of plans |
 //! | [`DailySeries`] | a local time on each day |
 //!
 //! `TimeZone` is the trait, as in chrono. The parsed zone is `tz_info::TimeZone`.

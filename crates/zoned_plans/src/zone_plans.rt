@@ -36,7 +36,7 @@ pub trait ZonePlans: ZoneDays {
     /// one. So local times in a gap fire once, at its end, and one in a fold fires on the first pass only.
     ///
     /// ```
-    /// let next = new_york.next_fire(&daily, &noon)?; // of 02:30 each day: 2021-03-14 03:00:00 -04:00
+    /// let next = new_york.next_fire(&daily, &noon)?; // 2021-03-14 03:00:00 -04:00, of 02:30 each day
     /// ```
     final fn next_fire<P: Plan, Tz: TimeZone>(
         &self,
@@ -56,7 +56,7 @@ pub trait ZonePlans: ZoneDays {
     /// if no such instant is in the range of [`DateTime`].
     ///
     /// ```
-    /// let first = new_york.first_fire(&daily, &last)?; // of 02:30 each day, from its last fire on: that one
+    /// let first = new_york.first_fire(&daily, &last)?; // 2021-03-13 02:30:00 -05:00, of 02:30 each day
     /// ```
     final fn first_fire<P: ReversiblePlan, Tz: TimeZone>(
         &self,
@@ -78,7 +78,7 @@ pub trait ZonePlans: ZoneDays {
     /// if no such instant is in the range of [`DateTime`].
     ///
     /// ```
-    /// let last = new_york.last_fire(&daily, &noon)?; // of 02:30 each day: 2021-03-13 02:30:00 -05:00
+    /// let last = new_york.last_fire(&daily, &noon)?; // 2021-03-13 02:30:00 -05:00, of 02:30 each day
     /// ```
     final fn last_fire<P: ReversiblePlan, Tz: TimeZone>(
         &self,
@@ -120,7 +120,7 @@ pub trait ZonePlans: ZoneDays {
     /// From a job's last run to now these are the runs that it missed.
     ///
     /// ```
-    /// let missed = new_york.fires(daily, &last_run, &now).count();
+    /// let missed = new_york.fires(daily, &last_run, &now).count(); // 3, from 2021-03-13 02:30:00 to 2021-03-16 02:30:00
     /// ```
     final fn fires<P: Plan + Drop, Tz: TimeZone, Tz2: TimeZone>(
         &self,
@@ -142,7 +142,7 @@ pub trait ZonePlans: ZoneDays {
     ///
     /// ```
     /// let policy = FirePolicy { gap: GapFires::Never, fold: FoldFires::EachPass };
-    /// let next = new_york.next_fire_by(&daily, policy, &noon)?; // of 02:30 each day: 2021-03-15 02:30:00 -04:00
+    /// let next = new_york.next_fire_by(&daily, policy, &noon)?; // 2021-03-15 02:30:00 -04:00, of 02:30 each day
     /// ```
     final fn next_fire_by<P: Plan, Tz: TimeZone>(
         &self,
@@ -164,7 +164,7 @@ pub trait ZonePlans: ZoneDays {
     ///
     /// ```
     /// let policy = FirePolicy { gap: GapFires::Never, fold: FoldFires::EachPass };
-    /// let last = new_york.last_fire_by(&daily, policy, &noon)?; // of 02:30 each day: 2021-03-13 02:30:00 -05:00
+    /// let last = new_york.last_fire_by(&daily, policy, &noon)?; // 2021-03-13 02:30:00 -05:00, of 02:30 each day
     /// ```
     final fn last_fire_by<P: ReversiblePlan, Tz: TimeZone>(
         &self,
@@ -207,7 +207,7 @@ pub trait ZonePlans: ZoneDays {
     ///
     /// ```
     /// let policy = FirePolicy { gap: GapFires::Never, fold: FoldFires::EachPass };
-    /// let missed = new_york.fires_by(daily, policy, &last_run, &now).count();
+    /// let missed = new_york.fires_by(daily, policy, &last_run, &now).count(); // 2, without that of 2021-03-14
     /// ```
     final fn fires_by<P: Plan + Drop, Tz: TimeZone, Tz2: TimeZone>(
         &self,
@@ -232,7 +232,7 @@ pub trait ZonePlans: ZoneDays {
     /// when clocks went from 02:00 back to 01:30.
     ///
     /// ```
-    /// let second_pass = Utc.with_ymd_and_hms(2021, 11, 7, 6, 30, 0).single()?; // 01:30:00 -05:00
+    /// let second_pass = Utc.with_ymd_and_hms(2021, 11, 7, 6, 30, 0).single()?; // at 01:30:00 -05:00
     /// let hour = new_york.floor(&second_pass, ClockStep::HOUR)?; // 2021-11-07 01:00:00 -04:00
     /// ```
     final fn floor<Tz: TimeZone>(
@@ -252,7 +252,7 @@ pub trait ZonePlans: ZoneDays {
     /// local clock begins; `None` if no such instant is in the range of [`DateTime`].
     ///
     /// ```
-    /// let second_pass = Utc.with_ymd_and_hms(2021, 11, 7, 6, 30, 0).single()?; // 01:30:00 -05:00
+    /// let second_pass = Utc.with_ymd_and_hms(2021, 11, 7, 6, 30, 0).single()?; // at 01:30:00 -05:00
     /// let next = new_york.ceil(&second_pass, ClockStep::HOUR)?; // 2021-11-07 02:00:00 -05:00
     /// ```
     final fn ceil<Tz: TimeZone>(
@@ -272,7 +272,7 @@ pub trait ZonePlans: ZoneDays {
     /// `None` if one of the two is out of the range of [`DateTime`].
     ///
     /// ```
-    /// let second_pass = Utc.with_ymd_and_hms(2021, 11, 7, 6, 30, 0).single()?; // 01:30:00 -05:00
+    /// let second_pass = Utc.with_ymd_and_hms(2021, 11, 7, 6, 30, 0).single()?; // at 01:30:00 -05:00
     /// let hour = new_york.step_at(&second_pass, ClockStep::HOUR)?;
     /// let length = hour.end.signed_duration_since(&hour.begin).num_minutes(); // 120
     /// ```

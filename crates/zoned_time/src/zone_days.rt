@@ -172,7 +172,7 @@ pub trait ZoneDays: TimeZone {
     /// before this one.
     ///
     /// ```
-    /// let second_pass = Utc.with_ymd_and_hms(2021, 11, 7, 6, 30, 0).single()?; // 01:30:00 -05:00
+    /// let second_pass = Utc.with_ymd_and_hms(2021, 11, 7, 6, 30, 0).single()?; // at 01:30:00 -05:00
     /// let reached = new_york.reached(&second_pass); // 2021-11-07 01:59:59
     /// ```
     final fn reached<Tz: TimeZone>(&self, instant: &DateTime<Tz>) -> NaiveDateTime
@@ -190,7 +190,7 @@ pub trait ZoneDays: TimeZone {
     /// before again. [`DateTime::date_naive`] is the date that is shown.
     ///
     /// ```
-    /// let second_pass = Utc.with_ymd_and_hms(2005, 10, 30, 3, 2, 0).single()?; // 2005-10-29 23:32:00 -03:30
+    /// let second_pass = Utc.with_ymd_and_hms(2005, 10, 30, 3, 2, 0).single()?; // at 2005-10-29 23:32:00 -03:30
     /// let date = st_johns.date_of(&second_pass); // 2005-10-30
     /// ```
     final fn date_of<Tz: TimeZone>(&self, instant: &DateTime<Tz>) -> NaiveDate
