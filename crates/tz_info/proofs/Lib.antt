@@ -1,7 +1,3 @@
-pub mod SearchWords
-pub mod FirstItems
-pub mod DigitLaws
-pub mod SearchSteps
 pub mod Words
 pub mod Fits
 pub mod RuleDays
@@ -10,6 +6,7 @@ pub mod RuleLaws
 pub mod KindLaws
 pub mod YearKeys
 pub mod SeasonLaws
+pub mod RulePieces
 pub mod RuleChanges
 pub mod ChangeSearch
 pub mod ChangingYears
@@ -39,8 +36,6 @@ pub mod RunLaws
 pub mod ShownSecondLaws
 pub mod RuleReached
 pub mod DifferenceLaws
-pub mod FilePieceLaws
-pub mod TrimLaws
 pub mod TzFileLaws
 pub mod EntryLaws
 pub mod EntryChanges

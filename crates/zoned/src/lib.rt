@@ -37,6 +37,7 @@
 //! | [`LocalResult`] | what a lookup by local time returns: `None`, `Single` or `Ambiguous` |
 //! | [`Choice`] | the policy for gaps and folds |
 //! | [`ZoneDays`], [`ShownDay`] | the trait of zones whose days can be found, and a day |
+//! | [`ZonePlans`], [`Plan`] | the calls of such a zone that take a plan or a step of the clock, and the trait of plans |
 //! | [`DailySeries`] | a local time on each day |
 //!
 //! `TimeZone` is the trait, as in chrono. The parsed zone is `tz_info::TimeZone`.
@@ -161,12 +162,12 @@
 //! | a date | when its week, month or year starts | [`ZoneDays::start_of_week`], [`ZoneDays::start_of_month`], [`ZoneDays::start_of_year`] |
 //! | an instant | the date of the day that it lies in; when that day starts | [`ZoneDays::date_of`]; [`DateTime::start_of_day`] |
 //! | an instant | the last local time that clocks have shown by then | [`ZoneDays::reached`] |
-//! | an instant | when its day, week, month, year, hour or another [`ClockStep`] begins and ends | [`ZoneDays::floor`], [`ZoneDays::ceil`], [`ZoneDays::step_at`] |
+//! | an instant | when its day, week, month, year, hour or another [`ClockStep`] begins and ends | [`ZonePlans::floor`], [`ZonePlans::ceil`], [`ZonePlans::step_at`] |
 //! | a rule of RFC 5545 and its start | its local times, as a plan | [`Recurrence::new`] |
 //! | local times, or several plans | a plan of them | [`LocalTimes`], [`Union`], [`Intersection`], [`Except`] |
-//! | a plan, such as a line of a crontab ([`Cron`]) | when it fires next, or fired last | [`ZoneDays::next_fire`], [`ZoneDays::first_fire`]; [`ZoneDays::last_fire`], [`ZoneDays::previous_fire`] |
-//! | a plan | each time that it fires between two instants | [`ZoneDays::fires`] |
-//! | a plan, and a [`FirePolicy`] for its local times in gaps and folds | when it fires next | [`ZoneDays::next_fire_by`] |
+//! | a plan, such as a line of a crontab ([`Cron`]) | when it fires next, or fired last | [`ZonePlans::next_fire`], [`ZonePlans::first_fire`]; [`ZonePlans::last_fire`], [`ZonePlans::previous_fire`] |
+//! | a plan | each time that it fires between two instants | [`ZonePlans::fires`] |
+//! | a plan, and a [`FirePolicy`] for its local times in gaps and folds | when it fires next | [`ZonePlans::next_fire_by`] |
 //! | two versions of a zone, and a plan | the runs that only one of them has | [`moved`] |
 //! | a date | the first and the last second at which clocks show it | [`ZoneDays::day`] |
 //! | a local time | the first instant at which clocks have reached it | [`ZoneDays::first_at_or_after`] |
@@ -256,7 +257,7 @@ pub use naive_base::{
     Timelike, Weekday,
 };
 pub use naive_plans::{
-    ClockStep, Cron, DayPlan, Except, Frequency, Intersection, LocalTimes, NthWeekday, PartOfDay,
+    ClockStep, Cron, DailyTime, DayPlan, Except, Frequency, Intersection, LocalTimes, NthWeekday, PartOfDay,
     Plan, Recurrence, RecurrenceEnd, RecurrenceError, RecurrenceRule, ReversibleDayPlan,
     ReversiblePlan, Union, last_local_time, next_local_time,
 };
@@ -268,13 +269,15 @@ pub use tz_base;
 pub use tz_info;
 pub use tz_saving::{Saving, daylight_saving};
 pub use tz_write::{ToPosixTz, ToTzData, ToTzString, TzText};
+pub use zoned_plans::{
+    FirePolicy, Fires, FoldFires, GapFires, Move, Moves, StepBounds, ZonePlans, moved,
+};
 pub use zoned_ref::{
     KeepError, KeptChange, KeptZone, OpenError, TimeZoneRef, WallClock, ZoneChange, ZoneOffset,
 };
 pub use zoned_round::{DurationRound, RoundingError, SubsecRound};
 pub use zoned_series::{DailyItems, DailySeries, SeriesError};
 pub use zoned_time::{
-    AsInstant, DateTime, FirePolicy, Fires, FoldFires, GapFires, Instant, MAX_DATETIME,
-    MIN_DATETIME, Move, Moves, NaiveZoned, Offset, OffsetStretch, ShownDay, StepBounds, TimeZone,
-    Utc, ZoneDays, moved,
+    AsInstant, DateTime, Instant, MAX_DATETIME, MIN_DATETIME, NaiveZoned, Offset, OffsetStretch,
+    ShownDay, TimeZone, Utc, ZoneDays,
 };

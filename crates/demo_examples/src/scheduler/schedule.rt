@@ -7,7 +7,8 @@ ghost use Rattle.{
 
 use crate::scheduler::RunDays;
 use zoned::{
-    DateTime, DayPlan, NaiveDate, NaiveDateTime, NaiveTime, Plan, ZoneDays, next_local_time,
+    DateTime, DayPlan, NaiveDate, NaiveDateTime, NaiveTime, Plan, ZoneDays, ZonePlans,
+    next_local_time,
 };
 
 /// Times of day, in any order, on some days. Fractions of a second are ignored.

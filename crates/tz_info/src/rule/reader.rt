@@ -6,7 +6,6 @@ ghost use Rattle.tz_info.specs.{Steps.Spelled.{IsParsed}, TzGrammar.{text_fault_
 mod clock;
 mod date;
 mod name;
-pub(crate) mod place;
 pub(crate) mod text;
 
 use crate::rule::transition_rule::TransitionRule;

@@ -11,9 +11,9 @@ ghost use Rattle.{
 use crate::rule::TransitionRule;
 use crate::rule::reader::read_all;
 use crate::rule::reader::text::{Spelled, rule_of};
-use crate::trims::{space_in_front, trimmed};
 use crate::zone::time_zone::TimeZone;
 use std::alloc::Global;
+use tz_base::trims::{space_in_front, trimmed};
 use tz_base::{Error, LocalTimeType, ParseError};
 
 impl TimeZone {

@@ -4,19 +4,19 @@ ghost use Rattle.std.specs.Prelude.{◌≡◌, ◌↔◌, ◌<◌, ◌≤◌, �
 ghost use Rattle.{
   naive_base.specs.Range.{IsWide},
   offset_core.specs.WallAnswer.{IsShownOnce},
-  tz_info.specs.{Counts.{HasRoom, RoseWithin}, Steps.RisingCounts.{HasRoomFor}, Looks.{digits}},
   tz_info.specs.Steps.{Starts.{leap_time_at}, Entries.{HaveComeAt}, Asked.{IsAskedAtLeapTime}},
   tz_info.specs.{HeldChanges.{span_held}, Looks.{RoseByInstant}, Leaps.{IsLeapTime, IsLeapTimeRefused, IsNear}},
   tz_info.specs.{Questions.{IsAskedAt}, Spans.{IsSpanAt}, Transitions.{passed}, WallClocks.{Shows}},
   tz_info.specs.Zones.{IsFromLast, IsRefusedBy, IsTypeError, RuleOrType, TypeAt, TypeAtLeapTime},
+  tz_search.specs.{Counts.{HasRoom, RoseWithin}, RisingCounts.{HasRoomFor}, Digits.{digits}},
 };
 
 use crate::change::HeldSpan;
 use crate::rule::TransitionRule;
-use crate::timeline::Probes;
+use crate::zone::TimeZone;
 use crate::zone::made::change_table::Come;
-use crate::zone::{TimeZone, Transition};
-use tz_base::{Error, Expected, LocalTimeType};
+use tz_base::{Error, Expected, LocalTimeType, Transition};
+use tz_search::Probes;
 
 impl TimeZone {
     /// The type in force at the second of Unix time.

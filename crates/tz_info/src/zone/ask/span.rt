@@ -8,9 +8,9 @@ ghost use Rattle.std.specs.Prelude.{◌≡◌, ◌<◌, ◌<ℤ◌, ◌≤ℤ◌
 ghost use Rattle.tz_info.specs.{HeldChanges.{span_held}, Spans.{IsSpanAt}, Zones.{IsTypeError, TypeAt}};
 
 use crate::change::HeldSpan;
-use crate::timeline::Probes;
 use crate::zone::TimeZone;
 use tz_base::{Error, Span};
+use tz_search::Probes;
 
 impl TimeZone {
     /// Returns the span of the second of Unix time: the local time type in force, the second since
