@@ -3,7 +3,7 @@
 
 ghost use Rattle.std.specs.Prelude.{◌∷◌, [], neg_ℤ, pos, Contains};
 ghost use Rattle.{
-  naive_plans.specs.AllowedRules.{HasAllowedNumbers, IsAllowed, IsFault},
+  naive_rrule.specs.AllowedRules.{HasAllowedNumbers, IsAllowed, IsFault},
   tests_pins.specs.Recurrences.{every, local, nth, on_weekdays, plain},
 };
 ghost use Rattle.tests_pins.specs.Recurrences as rfc;

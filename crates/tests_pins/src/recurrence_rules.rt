@@ -4,7 +4,7 @@
 ghost use Rattle.std.specs.Prelude.{◌≡◌, ◌∷◌, [], neg_ℤ, pos};
 ghost use Rattle.{
   naive_base.specs.Date.{day_number},
-  naive_plans.specs.RecurrenceRules.{fourth_of_week, IsOccasion, IsOnYearDay},
+  naive_rrule.specs.RecurrenceRules.{fourth_of_week, IsOccasion, IsOnYearDay},
   tests_pins.specs.Recurrences.{at_nine, nth, on_weekdays, plain},
 };
 ghost use Rattle.tests_pins.specs.Recurrences as rfc;

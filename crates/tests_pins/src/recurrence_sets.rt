@@ -5,7 +5,7 @@
 ghost use Rattle.std.specs.Prelude.{◌≡◌, pos};
 ghost use Rattle.{
   naive_base.specs.NaiveDateTime.{reading},
-  naive_plans.specs.RecurrenceSets.{HasTimesOf, IsAtPosition, IsRecurrenceTime, IsRuleTime},
+  naive_rrule.specs.RecurrenceSets.{HasTimesOf, IsAtPosition, IsRecurrenceTime, IsRuleTime},
   tests_pins.specs.Recurrences.{at_nine},
 };
 ghost use Rattle.tests_pins.specs.Recurrences as rfc;

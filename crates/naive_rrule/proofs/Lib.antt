@@ -1,0 +1,9 @@
+mod RuleParts
+mod Periods
+mod OccasionWalk
+mod OccasionsBack
+mod RuleTimes
+mod Counted
+mod NthTimes
+mod Chains
+mod PeriodsOfDay

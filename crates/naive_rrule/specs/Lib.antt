@@ -1,0 +1,4 @@
+pub mod RecurrenceRules
+pub mod AllowedRules
+pub mod RecurrenceSets
+pub mod Steps
