@@ -10,7 +10,7 @@ ghost use Rattle.{
 ghost use Rattle.tests_pins.specs.Recurrences as rfc;
 
 use naive_base::Weekday;
-use naive_plans::Frequency;
+use naive_rrule::Frequency;
 
 /// `FREQ=MONTHLY;BYDAY=1FR` from 1997-09-05 on has 3 October, and not the second Friday, the 10th.
 /// `BYDAY=-2MO` from 1997-09-22 on has 20 October, and not the second Monday from the front, the

@@ -11,7 +11,7 @@ ghost use Rattle.{
 ghost use Rattle.tests_pins.specs.Recurrences as rfc;
 
 use naive_base::NaiveDateTime;
-use naive_plans::RecurrenceEnd;
+use naive_rrule::RecurrenceEnd;
 
 /// `FREQ=DAILY;INTERVAL=10;COUNT=5` from 1997-09-02 on has 12 October as its fifth time, and not
 /// the 22nd. Its times are those of the rule without `COUNT` up to 12 October, and not those up to
