@@ -7,3 +7,4 @@ mod Counted
 mod NthTimes
 mod Chains
 mod PeriodsOfDay
+mod Texts
