@@ -244,7 +244,7 @@ def ours(plans, folder):
     (src / "plans.rt").write_text(Path(__file__).with_suffix(".txt").read_text().replace("FOLDER", str(folder)))
     (folder / "zones.txt").write_text("".join(f"{FOLDER / name}\n" for name in ZONES))
     (folder / "plans.txt").write_text("".join(" ".join(map(str, plan)) + "\n" for plan in plans))
-    status, said = tried(src.parent, ["naive_base", "naive_plans", "tz_info", "zoned_plans", "zoned_ref", "zoned_time"], LONGEST)
+    status, said = tried(src.parent, ["naive_base", "naive_plans", "naive_rrule", "tz_info", "zoned_plans", "zoned_ref", "zoned_time"], LONGEST)
     if status != 0:
         sys.exit(said)
     made = []

@@ -5,7 +5,4 @@ pub mod PlanSets
 pub mod Cron
 pub mod PartsOfDay
 pub mod ClockSteps
-pub mod RecurrenceRules
-pub mod AllowedRules
-pub mod RecurrenceSets
 pub mod Steps

@@ -7,8 +7,7 @@ ghost use Rattle.{
 };
 
 use crate::day_plan::{at_second, date_after, date_before};
-use crate::rule::{days_of_week, month_length, place_in_year};
-use crate::seconds::{day_of, second_at, second_of};
+use crate::days::{day_of, days_of_week, month_length, place_in_year, second_at, second_of};
 use crate::{PartOfDay, Plan, ReversiblePlan};
 use naive_base::{NaiveDate, NaiveDateTime, Weekday};
 

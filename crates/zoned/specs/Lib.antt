@@ -39,9 +39,9 @@ pub use Rattle.naive_plans.specs.DayPlans
 pub use Rattle.naive_plans.specs.Cron
 pub use Rattle.naive_plans.specs.ClockSteps
 pub use Rattle.naive_plans.specs.PlanSets
-pub use Rattle.naive_plans.specs.RecurrenceRules
-pub use Rattle.naive_plans.specs.AllowedRules
-pub use Rattle.naive_plans.specs.RecurrenceSets
+pub use Rattle.naive_rrule.specs.RecurrenceRules
+pub use Rattle.naive_rrule.specs.AllowedRules
+pub use Rattle.naive_rrule.specs.RecurrenceSets
 pub use Rattle.tz_base.specs.Errors
 pub use Rattle.tz_base.specs.Names
 pub use Rattle.tz_base.specs.LocalTypes

@@ -257,9 +257,11 @@ pub use naive_base::{
     Timelike, Weekday,
 };
 pub use naive_plans::{
-    ClockStep, Cron, DailyTime, DayPlan, Except, Frequency, Intersection, LocalTimes, NthWeekday, PartOfDay,
-    Plan, Recurrence, RecurrenceEnd, RecurrenceError, RecurrenceRule, ReversibleDayPlan,
+    ClockStep, Cron, DailyTime, DayPlan, Except, Intersection, LocalTimes, PartOfDay, Plan, ReversibleDayPlan,
     ReversiblePlan, Union, last_local_time, next_local_time,
+};
+pub use naive_rrule::{
+    Frequency, NthWeekday, Recurrence, RecurrenceEnd, RecurrenceError, RecurrenceRule,
 };
 pub use offset_core::{
     Around, Choice, FixedOffset, FoldChoice, GapChoice, LocalResult, MappedLocalTime,
