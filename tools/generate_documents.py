@@ -209,12 +209,13 @@ def counts():
     """The words after the number, at the start of a row or in bold: `| 468 | tests in Rattle ..`, `**468** tests in Rattle ..`."""
     pins = [*files("src", ".rt", ["tests_pins"]), TOP / "crates/zoned_ffi/src/pins.rt"]
     bugs = all_blocks(PLANTED_BUGS)
-    refuted, still_open, listed = (sum(int(row[column]) for row in recorded(BUGS_TRIED).values()) for column in (2, 3, 4))
+    tried, refuted, still_open, listed = (sum(int(row[column]) for row in recorded(BUGS_TRIED).values()) for column in (1, 2, 3, 4))
     return {
         "tests in Rattle": how_often(r"(?m)^#\[test\]$", files("tests", ".txt")) + sum(1 for crate in crates() for _ in examples(crate)),
         "worked examples": how_often(r"(?m)^pub fn ", pins),
         "of these": how_often(r"(?m)^pub fn ", pins) - len(own_pins()),
         "words of public contracts without a pin": len(exceptions()),
+        "tried in": tried,
         "refuted": refuted,
         "open": still_open,
         "listed": listed,
