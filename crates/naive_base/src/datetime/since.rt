@@ -62,7 +62,7 @@ impl NaiveDateTime {
     /// ```
     /// let start = NaiveDate::from_ymd_opt(2021, 1, 31)?.and_hms_opt(12, 0, 0)?;
     /// let end = NaiveDate::from_ymd_opt(2021, 3, 1)?.and_hms_opt(12, 0, 0)?;
-    /// let (months, days) = end.months_and_days_since(&start); // (1, 1): from 28 February a day
+    /// let length = end.months_and_days_since(&start); // (1, 1)
     /// ```
     pub fn months_and_days_since(&self, base: &NaiveDateTime) -> (u32, u32)
         ensures months { AreMonthsCounted (reading self.now) (reading base.now) result.0 }
