@@ -9,6 +9,7 @@ ghost use Rattle.{
 mod fields;
 mod moves;
 mod operators;
+mod since;
 
 use crate::range::{FIRST_SECOND, LAST_SECOND};
 use crate::{NaiveDate, NaiveTime, Timelike};

@@ -14,11 +14,15 @@ use naive_base::{NaiveDate, NaiveDateTime, NaiveTime, Timelike};
 /// fires at no instant twice.
 ///
 /// ```
-/// let daily = DailyTime { first: series.first(), time: series.time() };
+/// let half_past_two = NaiveTime::from_hms_opt(2, 30, 0)?;
+/// let daily = DailyTime { first: sunday_noon.date(), time: half_past_two };
+/// let next = daily.next_after(&sunday_noon)?; // 2021-03-15 02:30:00
 /// ```
 #[derive(Clone, Copy, Debug)]
 pub struct DailyTime {
+    /// The first day.
     pub first: NaiveDate,
+    /// The time of day.
     pub time: NaiveTime,
 }
 

@@ -4,12 +4,12 @@ pub mod RuleDays
 pub mod Neighbours
 pub mod RuleLaws
 pub mod KindLaws
-pub mod YearKeys
 pub mod SeasonLaws
 pub mod RulePieces
 pub mod RuleChanges
 pub mod ChangeSearch
-pub mod ChangingYears
+pub mod CalmYears
+pub mod SteadyRules
 pub mod AskedYears
 pub mod Prefixes
 pub mod LeapOrder

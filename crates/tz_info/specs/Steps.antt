@@ -34,6 +34,5 @@ pub mod Differences
 pub mod Asked
 pub mod KindPlaces
 pub mod Kinds
-pub mod ChangingYears
 pub mod AskedYears
 pub mod RuleDays

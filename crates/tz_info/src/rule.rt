@@ -4,7 +4,6 @@ mod alternate;
 mod asked;
 mod beside;
 mod changes;
-mod changing;
 mod day;
 mod day_places;
 mod kind_places;
