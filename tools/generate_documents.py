@@ -6,7 +6,7 @@ usage: tools/generate_documents.py
 - docs/TRUSTED.md: the definitions and ghost members of the headline, the `unsafe` code, and what is used of the kit (tools/trusted.py).
 - docs/TESTING.md: a table of planted bugs and wrong definitions by crate, with how many functions they cover, and one of the tables of
   tools/comparing/peers.
-- docs/MAP.md: a table of crates, each with its README, the libraries of crates.txt and the first sentence of its root.
+- docs/MAP.md: a table of crates, each with its README and the first sentence of its root.
 - docs/PROGRAMS.md: the error numbers 1 to 17 with the words of the comments of tz_info's `Error`.
 - docs/PYTHON.md: the calls about columns, each with the first sentence of its docstring.
 - README.md and docs/TESTING.md: how many tests, planted bugs and wrong definitions there are, and the last line that the tests print.
@@ -22,7 +22,7 @@ import trusted
 from comparing.peers import KNOWN, TABLES as PEERS
 from doc_examples import blocks as examples
 from edits import BUGS_TRIED, PLANTED_BUGS, WRONG_DEFINITIONS, all_blocks, blocks, rows as recorded
-from sources import TOP, cited, crates, files, public_clauses, module_of, text_of, uses, words_of
+from sources import TOP, cited, crates, files, public_clauses, module_of, text_of, words_of
 from try_definitions import PINNED
 from try_edits import bodies
 from unpinned import exceptions
@@ -129,15 +129,15 @@ def head_of(path):
 
 
 def with_crates(text):
-    """The map with a row for each crate: its name, the libraries that it uses, and what its root says first."""
+    """The map with a row for each crate: its name, and what its root says first."""
 
     def row(crate):
         root = next(path for path in (TOP / "crates" / crate / "src" / name for name in ("lib.rt", "main.rt")) if path.exists())
         readme = TOP / "crates" / crate / "README.md"
         name = f"[`{crate}`](../{readme.relative_to(TOP)})" if readme.exists() else f"`{crate}`"
-        return f"| {name} | {', '.join(f'`{library}`' for library in uses()[crate]) or 'std'} | {head_of(root)} |"
+        return f"| {name} | {head_of(root)} |"
 
-    return between("crates", text, ["| crate | uses | is |", "|---|---|---|", *map(row, crates())])
+    return between("crates", text, ["| crate | is |", "|---|---|", *map(row, crates())])
 
 
 # Error numbers
