@@ -7,6 +7,7 @@ Prints the ghost members of each public trait and impl, and the structs that say
 """
 
 import re
+import signal
 
 from believed import cited_words, in_order
 from check_headline import names_of
@@ -159,6 +160,8 @@ def parts():
 
 
 def main():
+    # Nobody may read on, as after `head`.
+    signal.signal(signal.SIGPIPE, signal.SIG_DFL)
     for each in ghosts():
         print(f"{shown(each.path)}: {each.head}: {', '.join(each.names)}")
     for path, name in owners():
