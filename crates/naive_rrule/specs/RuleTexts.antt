@@ -1,11 +1,13 @@
 -- The text of a rule: the RECUR value of RFC 5545, section 3.3.10. Letters may be in either case.
-use Rattle.std.specs.Prelude.{◌==◌, ◌&&◌, ◌⊎◌, ◌≡◌, ◌+◌, ◌-◌, ◌*◌, ◌+ℤ◌, ◌*ℤ◌, ℕ, suc, ℤ, pos, neg_ℤ, unsigned_abs, Bool, true, false, not, nat_lt, if◌then◌else◌, List, [], ◌∷◌, ◌++◌}
+use Rattle.std.specs.Prelude.{◌==◌, ◌&&◌, ◌⊎◌, ◌≡◌, ◌<◌, ◌≤◌, ⊤, ◌+◌, ◌-◌, ◌*◌, ◌+ℤ◌, ◌*ℤ◌, ℕ, suc, ℤ, pos, neg_ℤ, unsigned_abs, Bool, true, false, not, nat_lt, if◌then◌else◌, List, [], ◌∷◌, ◌++◌}
 use Rattle.std.specs.{Prelude.{length, take, drop, get_or, Option, Some, None, option_map, Result, Ok, Err, codes}, Char.{is_ascii_digit, to_ascii_uppercase}, List.{slice_split, find}}
-use Rattle.gregorian.specs.{Date.{day_number}, Month.{days_in_month}, Year.{is_leap}}
-use Rattle.naive_base.specs.{NaiveDate.{day_of}, NaiveDateTime.{reading}, declared.weekday.Weekday.{Weekday}}
+use Rattle.gregorian.specs.{Date.{IsDate, day_number}, Month.{days_in_month}, Year.{is_leap}}
+use Rattle.naive_base.specs.{NaiveDateTime.{reading}, declared.weekday.Weekday.{Weekday}}
 use Rattle.naive_base.specs.declared.weekday.Weekday.TheVariants as days
 use Rattle.naive_rrule.specs.declared.rule.{RecurrenceRule.{RecurrenceRule}, Frequency.{Frequency, TheVariants.{Yearly, Monthly, Weekly, Daily, Hourly, Minutely, Secondly}}, NthWeekday.{NthWeekday}}
-use Rattle.naive_rrule.specs.declared.rule_text.{PartName.{PartName}, RuleEnd.{RuleEnd}, Expected.{Expected}, RuleTextError.{RuleTextError, TheVariants.{Syntax, OutOfMemory}}}
+use Rattle.naive_rrule.specs.declared.rule_text.{CalendarDay.{CalendarDay}, ClockTime.{ClockTime}, PartName.{PartName}, RuleEnd.{RuleEnd}, Expected.{Expected}, RuleTextError.{RuleTextError, TheVariants.{Syntax, OutOfMemory}}}
+use Rattle.naive_rrule.specs.declared.recurrence.RecurrenceEnd.{RecurrenceEnd}
+use Rattle.naive_rrule.specs.declared.recurrence.RecurrenceEnd.TheVariants as local_ends
 use Rattle.naive_rrule.specs.declared.rule_text.PartName.TheVariants as names
 use Rattle.naive_rrule.specs.declared.rule_text.RuleEnd.TheVariants as ends
 use Rattle.naive_rrule.specs.declared.rule_text.Expected.TheVariants as expected
@@ -91,48 +93,68 @@ entry text = let front = length text - 2 in if_some (word_of weekday_text weekda
     if front == 0 then Some (record { weekday = day; nth = pos 0 }) else if_some (signed 2 (take front text)) (numbered day))
 
 -- ---- dates and times
--- a recurrence's end as text gives it
-pub data End : Type 0 where
-  Open : End
-  After : ℕ → End
-  OnDay : ℤ → End
-  AtLocal : ℤ → End
-  AtUtc : ℤ → End
-
-abbrev pub end_shown : RuleEnd → End
-end_shown ends.Never = Open
-end_shown (ends.Count n) = After n
-end_shown (ends.Date date) = OnDay (day_of date)
-end_shown (ends.Local local) = AtLocal (reading local).s
-end_shown (ends.Utc utc) = AtUtc (reading utc).s
-
 -- the two digits at a place
-abbrev pub two_at : ℕ → List ℕ → Option ℕ
-two_at i text = number 2 99 (take 2 (drop i text))
+abbrev pub two_at : ℕ → ℕ → List ℕ → Option ℕ
+two_at i most text = number 2 most (take 2 (drop i text))
 
-abbrev pub day_in : ℕ → ℕ → ℕ → Option ℤ
-day_in y m d = if nat_lt 0 m && nat_lt m 13 && nat_lt 0 d && nat_lt d (suc (days_in_month (is_leap (pos y)) m)) then Some (day_number (pos y) m d) else None
+abbrev pub day_in : ℕ → ℕ → ℕ → Option CalendarDay
+day_in y m d =
+    if nat_lt 0 m && nat_lt m 13 && nat_lt 0 d && nat_lt d (suc (days_in_month (is_leap (pos y)) m)) then Some (record { year = y; month = m; day = d })
+    else None
 
 -- `YYYYMMDD`
-abbrev pub date : List ℕ → Option ℤ
-date text = if_some (number 4 9999 (take 4 text)) (λ y. if_some (two_at 4 text) (λ m. if_some (two_at 6 text) (day_in y m)))
+abbrev pub date : List ℕ → Option CalendarDay
+date text = if_some (number 4 9999 (take 4 text)) (λ y. if_some (two_at 4 99 text) (λ m. if_some (two_at 6 99 text) (day_in y m)))
 
-abbrev pub second_in : ℕ → ℕ → ℕ → Option ℕ
-second_in h m s = if nat_lt h 24 && nat_lt m 60 && nat_lt s 60 then Some (3600 * h + 60 * m + s) else None
-
--- `YYYYMMDDTHHMMSS` ('T' is 84)
-abbrev pub date_time : List ℕ → Option ℤ
-date_time text = if_some (date text) (λ day. if to_ascii_uppercase (get_or text 8 0) == 84 then
-    if_some (two_at 9 text) (λ h. if_some (two_at 11 text) (λ m. if_some (two_at 13 text) (λ s.
-    option_map (λ second. day *ℤ pos 86_400 +ℤ pos second) (second_in h m s)))) else None)
+-- `THHMMSS` ('T' is 84) after a date
+abbrev pub time : List ℕ → Option ClockTime
+time text = if to_ascii_uppercase (get_or text 8 0) == 84 then
+    if_some (two_at 9 23 text) (λ h. if_some (two_at 11 59 text) (λ m. option_map (λ s. record { hour = h; minute = m; second = s }) (two_at 13 59 text)))
+    else None
 
 -- a date, a local date-time, or one in UTC, with `Z` (90) behind it
-abbrev pub until : List ℕ → Option End
+abbrev pub until : List ℕ → Option RuleEnd
 until text =
-    if length text == 8 then option_map OnDay (date text)
-    else if length text == 15 then option_map AtLocal (date_time text)
-    else if (length text == 16) && (to_ascii_uppercase (get_or text 15 0) == 90) then option_map AtUtc (date_time text)
+    if length text == 8 then option_map ends.Date (date text)
+    else if length text == 15 then if_some (date text) (λ d. option_map (ends.Local d) (time text))
+    else if (length text == 16) && (to_ascii_uppercase (get_or text 15 0) == 90) then if_some (date text) (λ d. option_map (ends.Utc d) (time text))
     else None
+
+abbrev pub IsCalendarDay : CalendarDay → Type 0
+IsCalendarDay d = (d.year ≤ 9999) × IsDate (pos d.year) d.month d.day
+
+abbrev pub IsClockTime : ClockTime → Type 0
+IsClockTime t = (t.hour < 24) × (t.minute < 60) × (t.second < 60)
+
+-- an UNTIL of the calendar and of the clock
+abbrev pub IsEnd : RuleEnd → Type 0
+IsEnd ends.Never = ⊤
+IsEnd (ends.Count n) = ⊤
+IsEnd (ends.Date d) = IsCalendarDay d
+IsEnd (ends.Local d t) = IsCalendarDay d × IsClockTime t
+IsEnd (ends.Utc d t) = IsCalendarDay d × IsClockTime t
+
+abbrev pub number_of : CalendarDay → ℤ
+number_of d = day_number (pos d.year) d.month d.day
+
+abbrev pub second_of : CalendarDay → ClockTime → ℤ
+second_of d t = number_of d *ℤ pos 86_400 +ℤ pos (t.hour * 3600 + t.minute * 60 + t.second)
+
+abbrev pub IsUntil : ℤ → RecurrenceEnd → Type 0
+IsUntil s (local_ends.Until l) = (reading l).s ≡ s
+IsUntil s _ = ⊥
+
+-- UNTIL of a date lets the whole day through, and one in UTC is what clocks at an offset show then
+abbrev pub IsLocalEnd : RuleEnd → ℤ → RecurrenceEnd → Type 0
+IsLocalEnd ends.Never z e = e ≡ local_ends.Never
+IsLocalEnd (ends.Count n) z e = e ≡ local_ends.Count n
+IsLocalEnd (ends.Date d) z e = IsUntil (number_of d *ℤ pos 86_400 +ℤ pos 86_399) e
+IsLocalEnd (ends.Local d t) z e = IsUntil (second_of d t) e
+IsLocalEnd (ends.Utc d t) z e = IsUntil (second_of d t +ℤ z) e
+
+abbrev pub utc_of : RuleEnd → Option ℤ
+utc_of (ends.Utc d t) = Some (second_of d t)
+utc_of _ = None
 
 -- ---- parts
 pub record RuleParts : Type 0 where
@@ -148,11 +170,11 @@ pub record RuleParts : Type 0 where
   pub by_minute : List ℕ
   pub by_second : List ℕ
   pub by_set_position : List ℤ
-  pub end : End
+  pub end : RuleEnd
 
 abbrev pub none : RuleParts
 none = record { frequency = None; interval = None; week_start = None; by_month = []; by_week_number = []; by_year_day = []; by_month_day = [];
-    by_weekday = []; by_hour = []; by_minute = []; by_second = []; by_set_position = []; end = Open }
+    by_weekday = []; by_hour = []; by_minute = []; by_second = []; by_set_position = []; end = ends.Never }
 
 infixl 10 ◌>>=◌
 abbrev pub ◌>>=◌ : {X Y : Type 0} → Result X RuleTextError → (X → Result Y RuleTextError) → Result Y RuleTextError
@@ -189,7 +211,7 @@ frequencies = Yearly ∷ Monthly ∷ Weekly ∷ Daily ∷ Hourly ∷ Minutely �
 abbrev pub with_value : PartName → ℕ → List ℕ → RuleParts → Result RuleParts RuleTextError
 with_value names.Freq at text p = expect (word_of frequency_text frequencies text) at expected.Frequency >>= λ f. Ok (record p { frequency = Some f })
 with_value names.Interval at text p = count at text >>= λ n. Ok (record p { interval = Some n })
-with_value names.Count at text p = count at text >>= λ n. Ok (record p { end = After n })
+with_value names.Count at text p = count at text >>= λ n. Ok (record p { end = ends.Count n })
 with_value names.Until at text p = expect (until text) at expected.DateOrDateTime >>= λ e. Ok (record p { end = e })
 with_value names.Wkst at text p = expect (word_of weekday_text weekdays text) at expected.Weekday >>= λ d. Ok (record p { week_start = Some d })
 with_value names.ByMonth at text p = numbers at text >>= λ l. Ok (record p { by_month = l })
@@ -206,8 +228,8 @@ abbrev pub is_some : {X : Type 0} → Option X → Bool
 is_some None = false
 is_some (Some x) = true
 
-abbrev pub is_open : End → Bool
-is_open Open = true
+abbrev pub is_open : RuleEnd → Bool
+is_open ends.Never = true
 is_open _ = false
 
 -- the part is there already; COUNT and UNTIL exclude one another

@@ -1,15 +1,23 @@
 //! Rules of RFC 5545 as text: `FREQ=MONTHLY;BYDAY=-1FR;COUNT=3`.
 ghost use Rattle.std.specs.Prelude.{[], ◌∷◌, ◌≡◌, ◌<◌, ◌≤◌, ◌+◌, ◌-◌, ◌^◌, ◌==◌, ◌++◌, Option, Ok, option_map, length, true, false, IfSome, List, ℕ};
 ghost use Rattle.std.specs.Char.{to_ascii_uppercase};
-ghost use Rattle.naive_base.specs.{NaiveDate.{day_of}, NaiveDateTime.{reading}};
+ghost use Rattle.naive_base.specs.{NaiveDate.{day_of}, NaiveDateTime.{reading}, Range.{IsDayInRange, IsInRange}};
+ghost use Rattle.offset_core.specs.FixedOffset.{seconds_of};
 ghost use Rattle.naive_rrule.specs.RuleTexts as recur;
 ghost use Rattle.naive_rrule.specs.declared.rule_text.RuleTextError.TheVariants as errors;
 
-use crate::{Frequency, NthWeekday, RecurrenceRule};
+use crate::{Frequency, NthWeekday, RecurrenceEnd, RecurrenceRule};
 use naive_base::{NaiveDate, NaiveDateTime, Weekday};
+use offset_core::FixedOffset;
 use std::alloc::Global;
 use std::marker::Model;
 use thiserror::Error;
+
+const LAST_TIME: ClockTime = ClockTime {
+    hour: 23,
+    minute: 59,
+    second: 59,
+};
 
 /// The name of a part.
 #[derive(Clone, Copy)]
@@ -38,16 +46,55 @@ pub(crate) enum RuleEnd {
     /// `COUNT`
     Count(u32),
     /// `UNTIL` with a date: the end of that day.
-    Date(NaiveDate),
+    Date(CalendarDay),
     /// `UNTIL` with a local date-time.
-    Local(NaiveDateTime),
+    Local(CalendarDay, ClockTime),
     /// `UNTIL` with a date-time in UTC.
-    Utc(NaiveDateTime),
+    Utc(CalendarDay, ClockTime),
+}
+
+#[derive(Clone, Copy, Debug)]
+pub(crate) struct CalendarDay {
+    pub(crate) year: u32,
+    pub(crate) month: u32,
+    pub(crate) day: u32,
+}
+
+#[derive(Clone, Copy, Debug)]
+pub(crate) struct ClockTime {
+    pub(crate) hour: u32,
+    pub(crate) minute: u32,
+    pub(crate) second: u32,
+}
+
+impl CalendarDay {
+    fn date(&self) -> NaiveDate
+        requires { recur.IsCalendarDay self.now }
+        ensures value { day_of result ≡ recur.number_of self.now }
+        ensures in_range { IsDayInRange (day_of result) }
+    {
+        match NaiveDate::from_ymd_opt(self.year as i32, self.month, self.day) {
+            Some(date) => date,
+            None => unreachable!(),
+        }
+    }
+
+    fn at(&self, time: &ClockTime) -> NaiveDateTime
+        requires day { recur.IsCalendarDay self.now }
+        requires time { recur.IsClockTime time.now }
+        ensures value { (reading result).s ≡ recur.second_of self.now time.now }
+        ensures in_range { IsInRange (reading result).s }
+    {
+        match self.date().and_hms_opt(time.hour, time.minute, time.second) {
+            Some(local) => local,
+            None => unreachable!(),
+        }
+    }
 }
 
 impl RuleEnd {
     fn is_open(&self) -> bool
-        ensures { result ≡ recur.is_open (recur.end_shown self.now) }
+        ensures { result ≡ recur.is_open self.now }
     {
         match self {
             RuleEnd::Never => true,
@@ -378,29 +425,33 @@ fn list<T: Entry>(
 }
 
 // `YYYYMMDD`
-fn date(bytes: &[u8]) -> Option<NaiveDate>
+fn date(bytes: &[u8]) -> Option<CalendarDay>
     requires { 8 ≤ length bytes.now }
-    ensures { option_map (λ d. day_of d) result ≡ recur.date bytes.now }
+    ensures value { result ≡ recur.date bytes.now }
+    ensures real { IfSome result (λ d. recur.IsCalendarDay d) }
 {
     let year = number(&bytes[..4], 4, 9999)?;
     let month = number(&bytes[4..6], 2, 99)?;
     let day = number(&bytes[6..8], 2, 99)?;
-    NaiveDate::from_ymd_opt(year as i32, month, day)
+    if !gregorian::is_date(year as i32, month, day) {
+        return None;
+    }
+    Some(CalendarDay { year, month, day })
 }
 
-// `YYYYMMDDTHHMMSS`
-fn date_time(bytes: &[u8]) -> Option<NaiveDateTime>
+// `THHMMSS`, after a date.
+fn time(bytes: &[u8]) -> Option<ClockTime>
     requires { 15 ≤ length bytes.now }
-    ensures { option_map (λ l. (reading l).s) result ≡ recur.date_time bytes.now }
+    ensures value { result ≡ recur.time bytes.now }
+    ensures real { IfSome result (λ t. recur.IsClockTime t) }
 {
-    let date = date(bytes)?;
     if !is_letter(bytes[8], b'T') {
         return None;
     }
-    let hour = number(&bytes[9..11], 2, 99)?;
-    let minute = number(&bytes[11..13], 2, 99)?;
-    let second = number(&bytes[13..15], 2, 99)?;
-    date.and_hms_opt(hour, minute, second)
+    let hour = number(&bytes[9..11], 2, 23)?;
+    let minute = number(&bytes[11..13], 2, 59)?;
+    let second = number(&bytes[13..15], 2, 59)?;
+    Some(ClockTime { hour, minute, second })
 }
 
 fn is_letter(byte: u8, letter: u8) -> bool
@@ -411,18 +462,19 @@ fn is_letter(byte: u8, letter: u8) -> bool
 
 // A date, a local date-time, or one in UTC.
 fn until(bytes: &[u8]) -> Option<RuleEnd>
-    ensures { option_map recur.end_shown result ≡ recur.until bytes.now }
+    ensures value { result ≡ recur.until bytes.now }
+    ensures real { IfSome result (λ e. recur.IsEnd e) }
 {
     if bytes.len() == 8 {
         return Some(RuleEnd::Date(date(bytes)?));
     }
     if bytes.len() == 15 {
-        return Some(RuleEnd::Local(date_time(bytes)?));
+        return Some(RuleEnd::Local(date(bytes)?, time(bytes)?));
     }
     if bytes.len() != 16 || !is_letter(bytes[15], b'Z') {
         return None;
     }
-    Some(RuleEnd::Utc(date_time(bytes)?))
+    Some(RuleEnd::Utc(date(bytes)?, time(bytes)?))
 }
 
 fn count(bytes: &[u8], at: usize) -> Result<u32, RuleTextError>
@@ -450,7 +502,7 @@ struct Parts {
 }
 
 impl Model for Parts {
-    ghost use Rattle.naive_rrule.specs.RuleTexts.{RuleParts, end_shown};
+    ghost use Rattle.naive_rrule.specs.RuleTexts.{IsEnd, RuleParts};
 
     ghost Value = { RuleParts };
 
@@ -467,8 +519,10 @@ impl Model for Parts {
         by_minute = p.by_minute.items;
         by_second = p.by_second.items;
         by_set_position = p.by_set_position.items;
-        end = end_shown p.end;
+        end = p.end;
     } };
+
+    ghost invariant = { λ p. IsEnd p.end };
 }
 
 impl Parts {
@@ -668,6 +722,32 @@ impl RuleText {
             by_minute: &self.parts.by_minute,
             by_second: &self.parts.by_second,
             by_set_position: &self.parts.by_set_position,
+        }
+    }
+
+    /// Returns its end as a local time. `offset` is that of the clocks at an `UNTIL` in UTC
+    /// ([`RuleText::until_utc`]); any other end needs none.
+    pub fn end(&self, offset: FixedOffset) -> RecurrenceEnd
+        ensures { recur.IsLocalEnd self.now.end (seconds_of offset) result }
+    {
+        match self.parts.end {
+            RuleEnd::Never => RecurrenceEnd::Never,
+            RuleEnd::Count(count) => RecurrenceEnd::Count(count),
+            RuleEnd::Date(day) => RecurrenceEnd::Until(day.at(&LAST_TIME)),
+            RuleEnd::Local(day, time) => RecurrenceEnd::Until(day.at(&time)),
+            RuleEnd::Utc(day, time) => {
+                RecurrenceEnd::Until(day.at(&time).overflowing_add_offset(offset))
+            }
+        }
+    }
+
+    /// Returns its `UNTIL`, if that is in UTC.
+    pub fn until_utc(&self) -> Option<NaiveDateTime>
+        ensures { option_map (λ l. (reading l).s) result ≡ recur.utc_of self.now.end }
+    {
+        match self.parts.end {
+            RuleEnd::Utc(day, time) => Some(day.at(&time)),
+            _ => None,
         }
     }
 }
