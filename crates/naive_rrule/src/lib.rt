@@ -12,6 +12,7 @@ mod positions;
 mod recurrence;
 mod rule;
 mod rule_periods;
+mod rule_print;
 mod rule_text;
 mod seconds;
 

@@ -214,7 +214,7 @@ fn signed(bytes: &[u8], digits: usize) -> Option<i32>
 }
 
 // A value that has a word.
-trait Word: Copy + Drop {
+pub(crate) trait Word: Copy + Drop {
     ghost spelling: { Self → List ℕ };
 
     fn word(&self) -> &'static str
@@ -485,20 +485,20 @@ fn count(bytes: &[u8], at: usize) -> Result<u32, RuleTextError>
 
 // The parts that a text has.
 #[derive(Drop)]
-struct Parts {
-    frequency: Option<Frequency>,
-    interval: Option<u32>,
-    week_start: Option<Weekday>,
-    by_month: Vec<u32>,
-    by_week_number: Vec<i32>,
-    by_year_day: Vec<i32>,
-    by_month_day: Vec<i32>,
-    by_weekday: Vec<NthWeekday>,
-    by_hour: Vec<u32>,
-    by_minute: Vec<u32>,
-    by_second: Vec<u32>,
-    by_set_position: Vec<i32>,
-    end: RuleEnd,
+pub(crate) struct Parts {
+    pub(crate) frequency: Option<Frequency>,
+    pub(crate) interval: Option<u32>,
+    pub(crate) week_start: Option<Weekday>,
+    pub(crate) by_month: Vec<u32>,
+    pub(crate) by_week_number: Vec<i32>,
+    pub(crate) by_year_day: Vec<i32>,
+    pub(crate) by_month_day: Vec<i32>,
+    pub(crate) by_weekday: Vec<NthWeekday>,
+    pub(crate) by_hour: Vec<u32>,
+    pub(crate) by_minute: Vec<u32>,
+    pub(crate) by_second: Vec<u32>,
+    pub(crate) by_set_position: Vec<i32>,
+    pub(crate) end: RuleEnd,
 }
 
 impl Model for Parts {
@@ -678,8 +678,8 @@ fn read_parts(alloc: Global, bytes: &[u8]) -> Result<Parts, RuleTextError>
 /// A rule of RFC 5545 and its end, read from text. It owns its lists.
 #[derive(Drop)]
 pub struct RuleText {
-    frequency: Frequency,
-    parts: Parts,
+    pub(crate) frequency: Frequency,
+    pub(crate) parts: Parts,
 }
 
 impl Model for RuleText {
