@@ -162,6 +162,7 @@
 //! | an instant | the last local time that clocks have shown by then | [`ZoneDays::reached`] |
 //! | an instant | when its day, week, month, year, hour or another [`ClockStep`] begins and ends | [`ZoneDays::floor`], [`ZoneDays::ceil`], [`ZoneDays::step_at`] |
 //! | a rule of RFC 5545 and its start | its local times, as a plan | [`Recurrence::new`] |
+//! | the text of a rule, such as `FREQ=MONTHLY;BYDAY=-1FR` | the rule | [`RuleText::parse`] |
 //! | local times, or several plans | a plan of them | [`LocalTimes`], [`Union`], [`Intersection`], [`Except`] |
 //! | a plan, such as a line of a crontab ([`Cron`]) | when it fires next, or fired last | [`ZoneDays::next_fire`], [`ZoneDays::first_fire`]; [`ZoneDays::last_fire`], [`ZoneDays::previous_fire`] |
 //! | a plan | each time that it fires between two instants | [`ZoneDays::fires`] |
@@ -260,6 +261,7 @@ pub use naive_plans::{
 };
 pub use naive_rrule::{
     Frequency, NthWeekday, Recurrence, RecurrenceEnd, RecurrenceError, RecurrenceRule,
+    RuleExpected, RuleText, RuleTextError,
 };
 pub use offset_core::{
     Around, Choice, FixedOffset, FoldChoice, GapChoice, LocalResult, MappedLocalTime,
