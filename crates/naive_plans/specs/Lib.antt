@@ -1,4 +1,5 @@
 pub mod Plans
+pub mod DailyTimes
 pub mod DayPlans
 pub mod PlanSets
 pub mod Cron

@@ -7,6 +7,7 @@
 
 mod clock_step;
 mod cron;
+mod daily_time;
 mod day_plan;
 pub mod days;
 pub mod laws;
@@ -16,6 +17,7 @@ mod sets;
 
 pub use clock_step::ClockStep;
 pub use cron::Cron;
+pub use daily_time::DailyTime;
 pub use day_plan::{DayPlan, ReversibleDayPlan, last_local_time, next_local_time};
 pub use part_of_day::PartOfDay;
 pub use plan::{Plan, ReversiblePlan};

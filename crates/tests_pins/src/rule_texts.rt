@@ -74,6 +74,7 @@ pub fn ends()
 {}
 
 /// Parts in capital letters, and a list's entries with commas between.
+#[tactic(auto, unfolding(crate::proofs::Computed::printing))]
 pub fn printed()
     ensures fridays { prints.rule_text (record recur.none { frequency = Some Frequency.Monthly;
         by_weekday = nth (neg_ℤ (pos 1)) Weekday.Fri ∷ nth (pos 0) Weekday.Mon ∷ []; end = ends.Count 3 })
