@@ -173,8 +173,21 @@ pub record RuleParts : Type 0 where
   pub end : RuleEnd
 
 abbrev pub none : RuleParts
-none = record { frequency = None; interval = None; week_start = None; by_month = []; by_week_number = []; by_year_day = []; by_month_day = [];
-    by_weekday = []; by_hour = []; by_minute = []; by_second = []; by_set_position = []; end = ends.Never }
+none = record {
+  frequency = None;
+  interval = None;
+  week_start = None;
+  by_month = [];
+  by_week_number = [];
+  by_year_day = [];
+  by_month_day = [];
+  by_weekday = [];
+  by_hour = [];
+  by_minute = [];
+  by_second = [];
+  by_set_position = [];
+  end = ends.Never;
+}
 
 infixl 10 ◌>>=◌
 abbrev pub ◌>>=◌ : {X Y : Type 0} → Result X RuleTextError → (X → Result Y RuleTextError) → Result Y RuleTextError

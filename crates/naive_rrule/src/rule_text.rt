@@ -4,7 +4,6 @@ ghost use Rattle.std.specs.Char.{to_ascii_uppercase};
 ghost use Rattle.naive_base.specs.{NaiveDate.{day_of}, NaiveDateTime.{reading}, Range.{IsDayInRange, IsInRange}};
 ghost use Rattle.offset_core.specs.FixedOffset.{seconds_of};
 ghost use Rattle.naive_rrule.specs.RuleTexts as recur;
-ghost use Rattle.naive_rrule.specs.declared.rule_text.RuleTextError.TheVariants as errors;
 
 use crate::{Frequency, NthWeekday, RecurrenceEnd, RecurrenceRule};
 use naive_base::{NaiveDate, NaiveDateTime, Weekday};
@@ -199,7 +198,11 @@ fn with_digit(value: u32, byte: u8, most: u32) -> Option<u32>
         return None;
     }
     let more = value as u64 * 10 + (byte - b'0') as u64;
-    if more > most as u64 { None } else { Some(more as u32) }
+    if more > most as u64 {
+        None
+    } else {
+        Some(more as u32)
+    }
 }
 
 // A number with or without a sign.
@@ -451,7 +454,11 @@ fn time(bytes: &[u8]) -> Option<ClockTime>
     let hour = number(&bytes[9..11], 2, 23)?;
     let minute = number(&bytes[11..13], 2, 59)?;
     let second = number(&bytes[13..15], 2, 59)?;
-    Some(ClockTime { hour, minute, second })
+    Some(ClockTime {
+        hour,
+        minute,
+        second,
+    })
 }
 
 fn is_letter(byte: u8, letter: u8) -> bool
@@ -480,7 +487,11 @@ fn until(bytes: &[u8]) -> Option<RuleEnd>
 fn count(bytes: &[u8], at: usize) -> Result<u32, RuleTextError>
     ensures { result ≡ recur.count at bytes.now }
 {
-    expect(number(bytes, bytes.len(), u32::MAX), at, RuleExpected::Number)
+    expect(
+        number(bytes, bytes.len(), u32::MAX),
+        at,
+        RuleExpected::Number,
+    )
 }
 
 // The parts that a text has.
@@ -507,19 +518,19 @@ impl Model for Parts {
     ghost Value = { RuleParts };
 
     ghost view = { λ p. record {
-        frequency = p.frequency;
-        interval = p.interval;
-        week_start = p.week_start;
-        by_month = p.by_month.items;
-        by_week_number = p.by_week_number.items;
-        by_year_day = p.by_year_day.items;
-        by_month_day = p.by_month_day.items;
-        by_weekday = p.by_weekday.items;
-        by_hour = p.by_hour.items;
-        by_minute = p.by_minute.items;
-        by_second = p.by_second.items;
-        by_set_position = p.by_set_position.items;
-        end = p.end;
+      frequency = p.frequency;
+      interval = p.interval;
+      week_start = p.week_start;
+      by_month = p.by_month.items;
+      by_week_number = p.by_week_number.items;
+      by_year_day = p.by_year_day.items;
+      by_month_day = p.by_month_day.items;
+      by_weekday = p.by_weekday.items;
+      by_hour = p.by_hour.items;
+      by_minute = p.by_minute.items;
+      by_second = p.by_second.items;
+      by_set_position = p.by_set_position.items;
+      end = p.end;
     } };
 
     ghost invariant = { λ p. IsEnd p.end };

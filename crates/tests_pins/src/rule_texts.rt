@@ -20,18 +20,29 @@ pub fn texts()
     ensures ten_days { recur.rule_of (codes "FREQ=DAILY;COUNT=10")
         ≡ Ok (record recur.none { frequency = Some Frequency.Daily; end = ends.Count 10 }) }
     ensures sundays { recur.rule_of (codes "byday=1su,-1SU;Interval=2;FREQ=MONTHLY")
-        ≡ Ok (record recur.none { frequency = Some Frequency.Monthly; interval = Some 2;
-        by_weekday = nth (pos 1) Weekday.Sun ∷ nth (neg_ℤ (pos 1)) Weekday.Sun ∷ [] }) }
+        ≡ Ok (record recur.none {
+          frequency = Some Frequency.Monthly;
+          interval = Some 2;
+          by_weekday = nth (pos 1) Weekday.Sun ∷ nth (neg_ℤ (pos 1)) Weekday.Sun ∷ [];
+        }) }
     ensures numbers { recur.rule_of (codes "FREQ=DAILY;BYMONTHDAY=+03,-4;BYHOUR=09;WKST=SU")
-        ≡ Ok (record recur.none { frequency = Some Frequency.Daily; week_start = Some Weekday.Sun;
-        by_month_day = pos 3 ∷ neg_ℤ (pos 4) ∷ []; by_hour = 9 ∷ [] }) }
+        ≡ Ok (record recur.none {
+          frequency = Some Frequency.Daily;
+          week_start = Some Weekday.Sun;
+          by_month_day = pos 3 ∷ neg_ℤ (pos 4) ∷ [];
+          by_hour = 9 ∷ [];
+        }) }
     ensures until_date { recur.rule_of (codes "FREQ=DAILY;UNTIL=19971224")
-        ≡ Ok (record recur.none { frequency = Some Frequency.Daily;
-        end = ends.Date (record { year = 1997; month = 12; day = 24 }) }) }
+        ≡ Ok (record recur.none {
+          frequency = Some Frequency.Daily;
+          end = ends.Date (record { year = 1997; month = 12; day = 24 });
+        }) }
     ensures until_utc { recur.rule_of (codes "FREQ=DAILY;UNTIL=19971224T000000Z")
-        ≡ Ok (record recur.none { frequency = Some Frequency.Daily;
-        end = ends.Utc (record { year = 1997; month = 12; day = 24 })
-        (record { hour = 0; minute = 0; second = 0 }) }) }
+        ≡ Ok (record recur.none {
+          frequency = Some Frequency.Daily;
+          end = ends.Utc (record { year = 1997; month = 12; day = 24 })
+              (record { hour = 0; minute = 0; second = 0 });
+        }) }
 {}
 
 /// The first fault: a part that comes twice, `COUNT` with `UNTIL`, no `FREQ`, an empty text and an empty
@@ -76,11 +87,17 @@ pub fn ends()
 /// Parts in capital letters, and a list's entries with commas between.
 #[tactic(auto, unfolding(crate::proofs::Computed::printing))]
 pub fn printed()
-    ensures fridays { prints.rule_text (record recur.none { frequency = Some Frequency.Monthly;
-        by_weekday = nth (neg_ℤ (pos 1)) Weekday.Fri ∷ nth (pos 0) Weekday.Mon ∷ []; end = ends.Count 3 })
+    ensures fridays { prints.rule_text (record recur.none {
+      frequency = Some Frequency.Monthly;
+      by_weekday = nth (neg_ℤ (pos 1)) Weekday.Fri ∷ nth (pos 0) Weekday.Mon ∷ [];
+      end = ends.Count 3;
+    })
         ≡ codes "FREQ=MONTHLY;BYDAY=-1FR,MO;COUNT=3" }
-    ensures until { prints.rule_text (record recur.none { frequency = Some Frequency.Daily;
-        interval = Some 2; end = ends.Utc (record { year = 1997; month = 12; day = 4 })
-        (record { hour = 9; minute = 5; second = 0 }) })
+    ensures until { prints.rule_text (record recur.none {
+      frequency = Some Frequency.Daily;
+      interval = Some 2;
+      end = ends.Utc (record { year = 1997; month = 12; day = 4 })
+          (record { hour = 9; minute = 5; second = 0 });
+    })
         ≡ codes "FREQ=DAILY;INTERVAL=2;UNTIL=19971204T090500Z" }
 {}

@@ -258,8 +258,8 @@ pub use naive_base::{
     Timelike, Weekday,
 };
 pub use naive_plans::{
-    ClockStep, Cron, DailyTime, DayPlan, Except, Intersection, LocalTimes, PartOfDay, Plan, ReversibleDayPlan,
-    ReversiblePlan, Union, last_local_time, next_local_time,
+    ClockStep, Cron, DailyTime, DayPlan, Except, Intersection, LocalTimes, PartOfDay, Plan,
+    ReversibleDayPlan, ReversiblePlan, Union, last_local_time, next_local_time,
 };
 pub use naive_rrule::{
     Frequency, NthWeekday, Recurrence, RecurrenceEnd, RecurrenceError, RecurrenceRule,
