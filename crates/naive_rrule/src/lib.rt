@@ -17,5 +17,5 @@ mod rule_text;
 mod seconds;
 
 pub use recurrence::{Recurrence, RecurrenceEnd, RecurrenceError};
-pub use rule_text::{Expected, RuleText, RuleTextError};
 pub use rule::{Frequency, NthWeekday, RecurrenceRule};
+pub use rule_text::{RuleExpected, RuleText, RuleTextError};

@@ -2,8 +2,8 @@
 ghost use Rattle.std.specs.Prelude.{Some};
 ghost use Rattle.naive_rrule.specs.RulePrints as prints;
 
-use crate::rule_text::{CalendarDay, ClockTime, PartName, Parts, RuleEnd, RuleText, Word};
 use crate::NthWeekday;
+use crate::rule_text::{CalendarDay, ClockTime, PartName, Parts, RuleEnd, RuleText, Word};
 use naive_base::Weekday;
 use offset_core::ShortText;
 use std::fmt;

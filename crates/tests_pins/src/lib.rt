@@ -34,6 +34,7 @@ pub mod readings;
 pub mod recurrence_rules;
 pub mod recurrence_sets;
 pub mod roundings;
+pub mod rule_texts;
 pub mod rules;
 pub mod runs;
 pub mod savings;
