@@ -1,7 +1,7 @@
 //! The days of rules, and New York's clocks in 2021 by `EST5EDT,M3.2.0,M11.1.0` (POSIX.1 section
 //! 8.3).
 
-ghost use Rattle.std.specs.Prelude.{◌≡◌, neg_ℤ, pos, ℤ};
+ghost use Rattle.std.specs.Prelude.{◌≡◌, false, neg_ℤ, pos, true, ℤ};
 ghost use Rattle.{
   naive_base.specs.Date.{day_number},
   tests_pins.specs.NewYork.{edt, est, new_york, new_york_rule},
