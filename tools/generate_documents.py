@@ -226,13 +226,24 @@ def byte_changes():
     return len(made), sum(old != new for old, new in made)
 
 
+# A line below a definition: pins, and what they say, with their source in parentheses at its end.
+SOURCE = re.compile(r"(?m)^  - ((?:`\w+::\w+`(?:, )?)+): .*?\(([^()]*)\)\.(?: Rejects .*)?$")
+
+
+def own_examples():
+    """How many pins have no source but a definition or a limit of our own."""
+    lines = SOURCE.findall(text_of(DEFINITIONS))
+    return sum(names.count("::") for names, source in lines if source.startswith("own") and ";" not in source)
+
+
 def counts():
     """The words after the number, at the start of a row or in bold: `| 468 | tests in Rattle ..`, `**468** tests in Rattle ..`."""
     pins = [*files("src", ".rt", ["tests_pins"]), TOP / "crates/zoned_ffi/src/pins.rt"]
     bugs = all_blocks(PLANTED_BUGS)
     return {
         "tests in Rattle": how_often(r"(?m)^#\[test\]$", files("tests", ".txt")),
-        "worked examples": how_often(r"(?m)^pub fn ", pins),
+        "worked examples of public standards": how_often(r"(?m)^pub fn ", pins) - own_examples(),
+        "worked examples of our own definitions": own_examples(),
         "planted bugs in the gate": sum(block.is_in_gate for block in bugs),
         "planted bugs in all": len(bugs),
         "wrong definitions": len(all_blocks(WRONG_DEFINITIONS)),

@@ -23,6 +23,8 @@ pub fn limits()
     ensures two_at_once { ¬ (AreLeapSeconds (entry (pos 78_796_800) 2 ∷ [])) }
     ensures two_more { ¬ (AreLeapSeconds
         (entry (pos 78_796_800) 1 ∷ entry (pos 94_694_401) 3 ∷ [])) }
+    ensures none_more { ¬ (AreLeapSeconds
+        (entry (pos 78_796_800) 1 ∷ entry (pos 94_694_401) 1 ∷ [])) }
     ensures taken_away { AreLeapSeconds (record {
       unix_leap_time = pos 78_796_800;
       correction = neg_ℤ (pos 1);

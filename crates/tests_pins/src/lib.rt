@@ -37,6 +37,7 @@ pub mod roundings;
 pub mod rules;
 pub mod runs;
 pub mod savings;
+pub mod series;
 pub mod shown_seconds;
 pub mod spans;
 pub mod steps;
