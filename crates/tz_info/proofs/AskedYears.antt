@@ -1,23 +1,9 @@
 -- The nearest change of a rule, by questions about two years.
-use Rattle.tz_info.proofs.{
-  ChangeSearch.{decided, in_ahead, nearest_moved},
-  ChangingYears.{none_in, one_in, steady_alike},
-  ListFaults.equal_known,
-  RuleChanges.{change_again, change_then, cycles_to, rule_second, seconds_follow, year_on, years_rise},
-  RuleLaws.rule_year,
-  Words.{Alternate, AlternateAt, AreFrom, Bool, Change, HasNoChange, HasNoneBeyond, IsAhead, IsAlternateRule, IsChange, IsNearest, IsNearestChange},
-  Words.{IsNextChanging, IsOfYear, IsRuleYear, IsStretchAhead, IsYearNear, IsYearOf, NeverChanges, None, Option, Precedes, Some, by_lt_z, changes_in_year},
-  Words.{false, linear, neg_ℤ, pos, refl, true, type_exact, year_at, ℕ, ℤ, ⊎_elim, ◌+ℤ◌, ◌+◌, ◌-ℤ◌, ◌<◌, ◌≡◌, ◌≤ℤ◌, ◌⊎◌},
-}
+use Rattle.tz_info.proofs.{ChangeSearch.{in_ahead, nearest_moved}, ListFaults.equal_known, RuleChanges.{change_again, change_then, cycles_to, rule_second, seconds_follow, year_on, years_rise}, RuleLaws.rule_year, Words.{Alternate, AlternateAt, AreFrom, Bool, Change, HasNoChange, HasNoneBeyond, IsAhead, IsAlternateRule, IsChange, IsNearest, IsNearestChange}, Words.{IsOfYear, IsRuleYear, IsStretchAhead, IsYearNear, IsYearOf, NeverChanges, Option, Precedes, by_lt_z}, Words.{false, linear, neg_ℤ, pos, true, year_at, ℕ, ℤ, ⊎_elim, ◌+◌, ◌-ℤ◌, ◌≡◌, ◌≤ℤ◌}}
 
 -- ahead of the second, and the second before lies in the year
 abbrev IsAheadIn : Bool → ℤ → ℤ → ℤ → Type 0
 IsAheadIn w s year u = IsAhead w s u × IsYearOf (u -ℤ pos 1) year
-
--- the year after it is one of the rule's, or no other year lies beyond
-one_or_last : (w : Bool) (first year y : ℤ) → IsRuleYear first → IsRuleYear year → IsRuleYear y → Precedes w (year_at w first 1) year → Precedes w year y
-    → IsRuleYear (year +ℤ pos 1) ⊎ (y ≡ year)
-one_or_last w first year y h k l m n = grind linear
 
 -- a second, and a rule's change in a year
 module _ (a : Alternate) (s : ℤ) (d : Change) (y : ℤ) (is : IsChange (AlternateAt a) d) (of_year : IsYearOf (d.at -ℤ pos 1) y) where
@@ -75,37 +61,24 @@ module _ (w : Bool) (a : Alternate) (s : ℤ) where
     pub found_here : (c : Change) → IsNearestChange w (AlternateAt a) (IsAheadIn w s first) c → IsNearestChange w (AlternateAt a) (IsAhead w s) c
     found_here c = found_first _ c (λ d is ahead y of_year. here_or_beyond a s d y is of_year w _ h ahead)
 
+    -- from year to year: if a year beyond has none, all come beyond it, too
+    pub from_next : (n : ℕ) → HasNoChange (AlternateAt a) (IsAheadIn w s (year_at w first n)) → AreFrom a w first (year_at w first n)
+        → AreFrom a w first (year_at w first (n + 1))
+    from_next n empty from d is y of_year beyond =
+        year_on w _ y n (λ e. empty d is (ahead_by_year a s d y is of_year w _ h beyond, rw e at of_year)) (from d is y of_year beyond)
+
     -- the first year asked has none
     module _ (none : HasNoChange (AlternateAt a) (IsAheadIn w s first)) where
       pub none_beyond : HasNoneBeyond a w first → HasNoChange (AlternateAt a) (IsAhead w s)
       none_beyond all d is ahead = all d is is.before.year is.before.of_second (beyond_only a s d _ is is.before.of_second w _ h none ahead)
 
-      -- the nearest one, by the next year in which clocks change
-      pub nearest_next : (year : ℤ) (found : Option Change) → IsAlternateRule a → IsNextChanging a w first year
-          → IsNearest w (AlternateAt a) (IsAheadIn w s year) found → IsNearest w (AlternateAt a) (IsAhead w s) found
-      nearest_next year None rule next empty = λ d is ahead.
-          let y = is.before.year in
-          let on = next.from d is y is.before.of_second (beyond_only a s d y is is.before.of_second w _ h none ahead) in
-          ⊎_elim (λ same. is.differ (steady_alike a same (d.at -ℤ pos 1) d.at d.before d.after is.before is.after))
-          (λ differ. ⊎_elim
-          (λ more.
-          let (e, is_e, of_year) = one_in a rule _ _ next.inside more differ refl next.changes in
-          empty e is_e (ahead_by_year a s e _ is_e of_year w _ h next.beyond, of_year))
-          (λ last. empty d is (ahead, rw last at is.before.of_second)) (one_or_last w _ _ y h.inside next.inside is.before.inside next.beyond on))
-          (decided _ _ (type_exact a.std a.dst))
-      nearest_next year (Some c) rule next k = found_first _ c
-          (λ d is ahead y of_year. next.from d is y of_year (beyond_only a s d y is of_year w _ h none ahead)) k
+      -- the nearest one of the first year that has one
+      pub found_beyond : (year : ℤ) (c : Change) → AreFrom a w first year → IsNearestChange w (AlternateAt a) (IsAheadIn w s year) c
+          → IsNearestChange w (AlternateAt a) (IsAhead w s) c
+      found_beyond year c from = found_first year c
+          (λ d is ahead y of_year. from d is y of_year (beyond_only a s d y is of_year w _ h none ahead))
 
--- ---- from year to year
-pub beyond_first : (w : Bool) (first : ℤ) (n : ℕ) → 0 < n → Precedes w (year_at w first 1) (year_at w first n)
-beyond_first w first n h = grind linear
-
-pub from_next : (a : Alternate) (w : Bool) (first : ℤ) (n : ℕ) → IsAlternateRule a → changes_in_year a (year_at w first n) ≡ false
-    → AreFrom a w first (year_at w first n)
-    → AreFrom a w first (year_at w first (n + 1))
-from_next a w _ n rule none from d is y of_year beyond =
-    year_on w _ y n (λ e. none_in a rule _ _ refl none d is (rw e at of_year)) (from d is y of_year beyond)
-
+-- ---- where no year beyond has one
 pub none_out : (a : Alternate) (w : Bool) (first : ℤ) (n : ℕ) → IsRuleYear first → (IsRuleYear (year_at w first n) → ⊥) → AreFrom a w first (year_at w first n)
     → HasNoneBeyond a w first
 none_out a true _ n inside out from d is y of_year beyond =

@@ -9,7 +9,7 @@ use Rattle.tz_info.proofs.{
   Words.{places_by_kind, pos, refl, second_in, seconds_by_kind, start_in, sym, true, weekday_below, weekday_later, weekday_of, year_start, ℕ, ℤ, ◌%◌, ◌*ℤ◌},
   Words.{◌+ℤ◌, ◌+◌, ◌-ℤ◌, ◌-◌, ◌<◌, ◌∙◌, ◌≡◌, ◌≤ℤ◌, ◌⊎◌},
 }
-use Rattle.tz_info.specs.Steps.{ChangingYears.{AreWithinYears}, Kinds.{ends_of, starts_of}}
+use Rattle.tz_info.specs.Steps.Kinds.{ends_of, starts_of}
 
 first_of_month : (year : ℤ) (month : ℕ) → day_number year month 1 ≡ year_start year +ℤ pos (days_of_months (is_leap year) (month - 1))
 unfolding day_number
@@ -29,7 +29,7 @@ unfolding seconds_by_kind places_by_kind
 kind_at t offset kind d h =
     grind (arith, get_or-map, get_or-map-range_with_len (λ k. place_by t.day (nat_le 7 k) (k % 7)) 0 14 kind kind 0 h)
 
-kind_parts : (leap : Bool) (first : ℕ) → first < 7
+pub kind_parts : (leap : Bool) (first : ℕ) → first < 7
     → (cond leap 7 0 + first < 14) × (nat_le 7 (cond leap 7 0 + first) ≡ leap) × ((cond leap 7 0 + first) % 7 ≡ first)
 kind_parts leap first h = grind arith
 
@@ -51,11 +51,6 @@ pub moment_by_kind : (t : DayTime) (offset year first d : ℤ) (seconds : List �
 moment_by_kind t offset year first d seconds kind fits near e f g =
     let low = near.low year in let high = near.high year in
     rw (e, f, g, kind_found t offset year d fits) (omega (arith, floors), omega (arith, floors), omega (arith, floors))
-
-pub within_years : (t : DayTime) (offset : ℤ) (seconds : List ℤ) → IsRuleDay t.day → IsNear (moment t offset) → seconds ≡ seconds_by_kind t offset
-    → AreWithinYears seconds
-within_years t offset seconds fits near e year =
-    let kept = moment_by_kind t _ _ (year_start year) (pos 0) _ _ fits near e refl refl in grind (arith, floors)
 
 -- ---- margins
 -- how far the moments of a rule lie from the ends of their years; further outside than eight days they never lie

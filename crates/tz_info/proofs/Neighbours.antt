@@ -2,9 +2,9 @@
 use Rattle.std.proofs.lemmas.Bool.Decides.{Decides-like}
 use Rattle.tz_info.proofs.{
   RuleDays.day_within,
-  Words.{Alternate, Bool, DayTime, Decides, Decides-or, IsAlternateRule, IsDstAt, IsInSomeYear, IsRuleDay, IsWithinDay, IsWithinWeek, IsYearOf, arith, by_lt_z},
+  Words.{Alternate, Bool, DayTime, Decides, Decides-or, IsAlternateRule, IsDstAt, IsInSomeYear, IsRuleDay, IsRuleYear, IsWithinDay, IsWithinWeek, IsYearOf, SFits, arith, by_lt_z},
   Words.{cond, days_at_least, end_in, floors, int_le, is_between, is_in_three, linear, moment, neg_ℤ, new_year, not, pos, start_in, starts_rise, year_start},
-  Words.{year_step, ℤ, ◌*ℤ◌, ◌+ℤ◌, ◌-ℤ◌, ◌<ℤ◌, ◌≡◌, ◌≤ℤ◌, ◌⊎◌},
+  Words.{w32, year_step, ℤ, ◌*ℤ◌, ◌+ℤ◌, ◌-ℤ◌, ◌<ℤ◌, ◌≡◌, ◌≤ℤ◌, ◌⊎◌},
 }
 
 -- the moments of each year keep that margin from its ends
@@ -98,3 +98,7 @@ pub dst_by_three : (starts ends : ℤ → ℤ) (year u : ℤ) (dst : Bool) → I
     → dst ≡ cond (int_le (starts year) (ends year)) (is_in_three starts ends year u) (not (is_in_three ends starts year u)) → IsDstAt starts ends year u dst
 dst_by_three starts ends year u dst near_start near_end of_second is =
     grind (arith, decides_dst, by_three starts ends year u near_start near_end of_second, by_three ends starts year u near_end near_start of_second)
+
+-- a year that a rule answers in and the years near it fit 32 bits
+pub near_fit : (year : ℤ) → IsRuleYear year → SFits w32 year × SFits w32 (year -ℤ pos 1) × SFits w32 (year +ℤ pos 1) × SFits w32 (year +ℤ pos 2)
+near_fit year h = omega linear

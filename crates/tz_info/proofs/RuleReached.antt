@@ -2,7 +2,7 @@
 use Rattle.std.{proofs.lemmas.Int.clamps, specs.Int.int_max}
 use Rattle.tz_base.specs.declared.change.Change.{Change}
 use Rattle.tz_info.proofs.{
-  ChangingYears.{still, unchanged},
+  CalmYears.{still, unchanged},
   Words.{Alternate, AlternateAt, Bool, HasNoChange, IsAhead, IsAlternateRule, IsNear, IsNearestChange, IsUtOffset, IsWide, LocalType, RuleAt, Shows},
   Words.{ShowsAtOrAfter, ap, by_lt_z, false, inl, inr, linear, pos, sym, true, type_when, ℤ, ◌+ℤ◌, ◌-ℤ◌, ◌<ℤ◌, ◌∙◌, ◌≡◌, ◌≤ℤ◌, ◌⊎◌},
 }

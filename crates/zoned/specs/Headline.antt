@@ -12,9 +12,11 @@ use Rattle.naive_base.specs.{Months.{days_of, months_of}, NaiveDate.{day_of}, Na
 use Rattle.naive_base.specs.{Range.{IsInRange, IsWide, IsYearInRange, epoch, first_reading, last_reading}, Stamp.{IsStamp, of_secs}}
 use Rattle.naive_base.specs.Reading.{Reading, reading_at, day_at, moved, difference, total, of_total, ahead, behind}
 use Rattle.tz_base.specs.{LocalTypes.{LocalType}, declared.error.Error.{Error}, declared.error.Error.TheVariants.{OutOfMemory}}
-use Rattle.tz_info.specs.{Counts.{Counts}, FilePieces.{FilePieces, HasPieces}, Looks.{RoseByInstant, RoseByWalk, RoseByWallClock}}
-use Rattle.tz_info.specs.{PosixZones.{IsPosixZone, IsPosixFault}, RuleTypes.{RuleAt, IsRuleRefused}, TzFiles.{IsTzFile, IsFileFault}}
-use Rattle.tz_info.specs.{TzGrammar.{IsTzText, IsTextFault}, WallClocks.{Shows}, Zones.{Zone, IsValid, TypeAt, IsTypeError}}
+use Rattle.tz_file.specs.FilePieces.{FilePieces, HasPieces}
+use Rattle.tz_info.specs.{Looks.{RoseByInstant, RoseByWalk, RoseByWallClock}, PosixZones.{IsPosixZone, IsPosixFault}}
+use Rattle.tz_info.specs.{RuleTypes.{RuleAt, IsRuleRefused}, TzFiles.{IsTzFile, IsFileFault}, TzGrammar.{IsTzText, IsTextFault}, WallClocks.{Shows}}
+use Rattle.tz_info.specs.Zones.{Zone, IsValid, TypeAt, IsTypeError}
+use Rattle.tz_search.specs.Counts.{Counts}
 use Rattle.tz_info.specs.declared.rule.transition_rule.TransitionRule.{TransitionRule}
 use Rattle.zoned_time.specs.{declared.datetime.Instant.{Instant}, Choice.{IsOffsetBeforeGap, IsResolved, IsUnresolved}, Relocal.{IsRelocal, instant_of}}
 use Rattle.zoned_time.specs.DateTime.{zoned, wall_of, home_law_of, day_shown_by, IsOnlyOnDay, IsOnlyAtTime, IsOnlyMonthsLater, IsOnlyDaysLater}

@@ -5,13 +5,9 @@ use Rattle.tz_info.specs.{
   Changes.{IsChange, Precedes},
   Moments.{AlternateAt, IsRuleYear, IsYearOf, end_in, start_in},
   Rules.{Alternate, IsAlternateRule},
-  Steps.{Changes.{IsNearRuleTime, year_at}, ChangingYears.{is_changing}, Kinds.{are_calm, ends_of, starts_of}},
+  Steps.{Changes.{IsNearRuleTime, year_at}, Kinds.{are_calm, ends_of, starts_of}},
   declared.rule.asked.AskedYear.{AskedYear},
 }
-
--- whether clocks change in the year, by a rule whose types differ
-abbrev pub changes_in_year : Alternate → ℤ → Bool
-changes_in_year a year = is_changing (starts_of a) (ends_of a) (are_calm (starts_of a) (ends_of a)) year
 
 -- all moments of the rule keep away from the ends of their years
 abbrev pub IsCalmRule : Alternate → Type 0
@@ -44,10 +40,3 @@ AreFrom a w first year =
 abbrev pub HasNoneBeyond : Alternate → Bool → ℤ → Type 0
 HasNoneBeyond a w first =
     (d : Change) → IsChange (AlternateAt a) d → (y : ℤ) → IsYearOf (d.at -ℤ pos 1) y → Precedes w (year_at w first 1) y → ⊥
-
--- the first year beyond that one in which clocks change
-pub record IsNextChanging (a : Alternate) (w : Bool) (first year : ℤ) : Type 0 where
-  pub inside : IsRuleYear year
-  pub beyond : Precedes w (year_at w first 1) year
-  pub from : AreFrom a w first year
-  pub changes : changes_in_year a year ≡ true

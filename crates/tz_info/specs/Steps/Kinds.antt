@@ -1,5 +1,5 @@
 -- Kinds of years: a year is a leap year or not, and begins with one of the seven weekdays.
-use Rattle.std.specs.Prelude.{ℕ, ◌+◌, Bool, ◌&&◌, if◌then◌else◌, List, map, slice_index_or, ℤ, pos, neg_ℤ, ◌-ℤ◌, ◌*ℤ◌, int_le, int_lt, ◌+ℤ◌}
+use Rattle.std.specs.Prelude.{ℕ, ◌+◌, ◌*◌, ◌/◌, ◌%◌, Bool, ◌&&◌, ◌||◌, if◌then◌else◌, List, map, slice_index_or, ℤ, pos, neg_ℤ, ◌-ℤ◌, ◌*ℤ◌, int_le, int_lt, ◌+ℤ◌}
 use Rattle.{
   naive_base.specs.{Year.{is_leap, year_start}, Weekday.{weekday_of}},
   tz_info.specs.{Moments.{moment}, Rules.{Alternate}, Steps.{Below.{all_below}, KindPlaces.{places_by_kind}}, declared.rule.day.DayTime.{DayTime}},
@@ -49,3 +49,26 @@ are_calm starts ends = all_below 14 (is_calm_kind starts ends)
 -- how far from the ends of their year moments lie
 unfoldable pub margin_of : List ℤ → List ℤ → ℤ
 margin_of starts ends = if are_calm starts ends then pos 172_800 else neg_ℤ (pos 691_200)
+
+-- how many seconds a year of that kind has, and the weekday that the next year begins with
+abbrev pub year_seconds : ℕ → ℤ
+year_seconds kind = pos (86_400 * (365 + kind / 7))
+
+abbrev pub next_weekday : ℕ → ℕ
+next_weekday kind = (kind % 7 + kind / 7 + 1) % 7
+
+-- the last moment of a year of that kind comes at or after the first one of the next year, whether that is a leap year or not
+abbrev pub runs_on : List ℤ → List ℤ → ℕ → Bool
+runs_on firsts lasts kind =
+    int_le (year_seconds kind +ℤ slice_index_or firsts (next_weekday kind) (pos 0)) (slice_index_or lasts kind (pos 0))
+    && int_le (year_seconds kind +ℤ slice_index_or firsts (7 + next_weekday kind) (pos 0)) (slice_index_or lasts kind (pos 0))
+
+-- the two moments of a year of that kind are one
+abbrev pub is_one_moment : List ℤ → List ℤ → ℕ → Bool
+is_one_moment starts ends kind =
+    int_le (slice_index_or starts kind (pos 0)) (slice_index_or ends kind (pos 0))
+    && int_le (slice_index_or ends kind (pos 0)) (slice_index_or starts kind (pos 0))
+
+-- in all years the two moments are one, or in each year the one season lasts until it begins again
+unfoldable pub are_steady : List ℤ → List ℤ → Bool
+are_steady starts ends = all_below 14 (is_one_moment starts ends) || all_below 14 (runs_on starts ends) || all_below 14 (runs_on ends starts)

@@ -7,9 +7,8 @@ ghost use Rattle.{
 };
 
 use crate::change::is_same_type;
-use crate::rule::changing::{any_of, changing_keys, year_key};
 use crate::rule::day::{DayTime, RuleDay};
-use crate::rule::kinds::margin_of;
+use crate::rule::kinds::{are_steady, margin_of};
 use std::fmt;
 use std::marker::Model;
 use tz_base::{Error, Expected, LocalTimeType};
@@ -27,16 +26,14 @@ pub struct AlternateTime {
     pub(super) ends: [i64; 14],
     // How far inside its year each moment lies at least; below 0, how far outside at most.
     pub(super) margin: i64,
-    // Whether clocks change in a year, by the year's key, if the types differ.
-    pub(super) changing: [bool; 35],
-    // Whether they do in some year.
-    pub(super) is_changing: bool,
+    // Whether clocks never change, whatever the types.
+    is_steady: bool,
 }
 
 impl Model for AlternateTime {
-    ghost use Rattle.std.{proofs.Common.{sym}, specs.{List.{list_any}, Prelude.{◌≡◌}}};
+    ghost use Rattle.std.{proofs.Common.{sym}, specs.Prelude.{◌≡◌}};
     ghost use Rattle.tz_info.specs.Rules.{Alternate, IsAlternateRule};
-    ghost use Rattle.tz_info.specs.Steps.{ChangingYears.{keys_of}, Kinds.{ends_of, margin_of, starts_of}};
+    ghost use Rattle.tz_info.specs.Steps.Kinds.{are_steady, ends_of, margin_of, starts_of};
 
     ghost Value = { Alternate };
 
@@ -57,8 +54,7 @@ impl Model for AlternateTime {
         × (a.starts ≡ starts_of shown)
         × (a.ends ≡ ends_of shown)
         × (a.margin ≡ margin_of (starts_of shown) (ends_of shown))
-        × (a.changing ≡ keys_of shown)
-        × (a.is_changing ≡ list_any (λ b. b) (keys_of shown)) };
+        × (a.is_steady ≡ are_steady (starts_of shown) (ends_of shown)) };
 
     ghost inverse = { λ a. record {
       std_type = a.std;
@@ -68,8 +64,7 @@ impl Model for AlternateTime {
       starts = starts_of a;
       ends = ends_of a;
       margin = margin_of (starts_of a) (ends_of a);
-      changing = keys_of a;
-      is_changing = list_any (λ b. b) (keys_of a);
+      is_steady = are_steady (starts_of a) (ends_of a);
     } };
 
     ghost inverse_ok = { λ a h i. record {
@@ -80,8 +75,7 @@ impl Model for AlternateTime {
       starts = sym h.1 i;
       ends = sym h.2 i;
       margin = sym h.3 i;
-      changing = sym h.4 i;
-      is_changing = sym h.5 i;
+      is_steady = sym h.4 i;
     } };
 }
 
@@ -124,7 +118,7 @@ impl fmt::Debug for AlternateTime {
 }
 
 impl AlternateTime {
-    ghost use Rattle.tz_info.specs.{Moments.{type_when, IsRuleYear, NeverChanges}, Steps.AskedYears.{changes_in_year}};
+    ghost use Rattle.tz_info.specs.Moments.{type_when, NeverChanges};
 
     /// The rule by which daylight saving time starts on one day and ends on another, each a
     /// number of seconds after the day's midnight: the start on the clock of standard time, the end on that
@@ -164,8 +158,6 @@ impl AlternateTime {
         let starts = start.seconds_by_kind(std.offset());
         let ends = end.seconds_by_kind(dst.offset());
         let margin = margin_of(&starts, &ends);
-        // Only a rule whose moments keep away from the ends of their years has such a margin.
-        let changing = changing_keys(&starts, &ends, margin > 0);
         Ok(AlternateTime {
             std_type: std,
             dst_type: dst,
@@ -174,25 +166,15 @@ impl AlternateTime {
             starts,
             ends,
             margin,
-            changing,
-            is_changing: any_of(&changing),
+            is_steady: are_steady(&starts, &ends),
         })
     }
 
-    // Whether clocks change in the year, or as the next one begins, if the types differ.
-    pub(super) fn changes_in_year(&self, year: i32) -> bool
-        requires { IsRuleYear year }
-        ensures value { result ≡ changes_in_year self.now year }
-        ensures rule { IsAlternateRule self.now }
-    {
-        self.changing[year_key(year)]
-    }
-
-    // Whether no two seconds have different types.
+    // Whether clocks are known never to change: no two seconds have different types.
     pub(crate) fn never_changes(&self) -> bool
-        ensures { IsTrue result ↔ NeverChanges self.now }
+        ensures { IsTrue result → NeverChanges self.now }
     {
-        if !self.is_changing {
+        if self.is_steady {
             return true;
         }
         is_same_type(&self.std_type, &self.dst_type)

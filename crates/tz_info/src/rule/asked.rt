@@ -1,22 +1,23 @@
 //! A rule is asked about a year, and each question is counted.
 //!
-//! Only `ask_year` makes an `AskedYear`, without which a year's changes aren't found.
+//! A year's changes need its `AskedYear`. `ask_year`, which counts, makes one. Years beyond it, up to
+//! the first one in which clocks change, are one question together.
 
 ghost use Rattle.std.specs.Prelude.{◌≡◌, ◌≢◌, ◌+◌, true, MatchOption};
 ghost use Rattle.{
   tz_info.specs.{Changes.{IsChange}, Moments.{type_when, AlternateAt, IsRuleTime, IsRuleYear, IsYearOf}},
-  tz_info.specs.Steps.RisingCounts.{HasRoomFor},
   tz_info.specs.Steps.{AskedYears.{turn_of, IsAskedYear, IsCalmRule}, Beside.{change_found, IsNearestMomentOf}},
   tz_info.specs.Steps.Changes.{IsIdle, IsInStretch, IsOfYear},
+  tz_search.specs.RisingCounts.{HasRoomFor},
 };
 
 use crate::change::is_same_type;
 use crate::rule::alternate::AlternateTime;
 use crate::rule::moments::{Moment, Turns, nearer};
 use crate::rule::years::{Stretch, rule_year_of};
-use crate::timeline::Probes;
+use tz_search::Probes;
 
-// A year that a rule was asked about, and the year's two moments.
+// A year, and the two moments of a rule in it.
 #[derive(Clone, Copy)]
 pub(super) struct AskedYear {
     year: i32,
@@ -43,6 +44,16 @@ impl AlternateTime {
             ≡ record probes.old { rule_questions = probes.old.rule_questions + 1 } }
     {
         probes.count_question();
+        self.moments_of(year)
+    }
+
+    // The year's moments, without a question.
+    #[inline(always)]
+    pub(super) fn moments_of(&self, year: i32) -> AskedYear
+        requires { IsRuleYear year }
+        ensures asked { IsAskedYear self.now result }
+        ensures year { result.year ≡ year }
+    {
         AskedYear {
             year,
             turns: self.turns(year),
@@ -92,7 +103,7 @@ impl AlternateTime {
 
     // The same by the year's own two moments.
     #[inline(always)]
-    #[tactic(auto, using(crate::proofs::Fits::in_range, crate::proofs::ChangingYears::none_of_one, crate::proofs::ChangingYears::nearest_of_two))]
+    #[tactic(auto, using(crate::proofs::Fits::in_range, crate::proofs::CalmYears::none_of_one, crate::proofs::CalmYears::nearest_of_two))]
     fn nearest_amid(&self, asked: AskedYear, stretch: Stretch, forward: bool) -> Option<Moment>
         requires asked { IsAskedYear self.now asked }
         requires calm { IsCalmRule self.now }

@@ -4,9 +4,10 @@ ghost use Rattle.std.specs.Prelude.{◌≡◌, ◌↔◌, ◌≤◌, ◌<ℤ◌,
 ghost use Rattle.{
   tz_info.specs.Changes.{HasNoChange, IsNearest},
   tz_info.specs.Steps.{Changes.{year_at, IsAhead, IsNearRuleTime}, Beside.{change_found, IsNearestMomentOf}},
-  tz_info.specs.Steps.AskedYears.{HasNoneBeyond, IsAskedYear, IsNextChanging, IsYearNear},
-  tz_info.specs.{Counts.{RoseWithin}, Steps.RisingCounts.{HasRoomFor}, HeldChanges.{change_held}},
+  tz_info.specs.Steps.AskedYears.{IsAskedYear, IsYearNear},
+  tz_info.specs.HeldChanges.{change_held},
   tz_info.specs.Moments.{type_when, AlternateAt, IsRuleTime, IsRuleYear, IsYearOf},
+  tz_search.specs.{Counts.{RoseWithin}, RisingCounts.{HasRoomFor}},
 };
 
 use crate::change::HeldChange;
@@ -15,7 +16,7 @@ use crate::rule::asked::AskedYear;
 use crate::rule::moments::Moment;
 use crate::rule::season::{FIRST_RULE_TIME, LAST_RULE_TIME};
 use crate::rule::years::stretch_ahead;
-use crate::timeline::Probes;
+use tz_search::Probes;
 
 // The first and the last of the years that a rule answers in.
 const FIRST_RULE_YEAR: i64 = -2_147_483_646;
@@ -98,30 +99,32 @@ impl AlternateTime {
         ensures nearest { IsNearestMomentOf forward self.now (IsAhead forward second) result }
         ensures cost { RoseWithin probes.old probes.new 0 1 }
     {
-        let year = self.changing_year(first, forward)?;
-        let asked = self.ask_year(year, probes);
-        self.nearest_in(asked, stretch_ahead(i64::MIN, second, forward), forward)
-    }
-
-    // The nearest year beyond that one in which clocks change. Every 400 years the rule does the
-    // same, so that no more years are looked at. The rule isn't asked about them.
-    #[tactic(auto, using(crate::proofs::Fits::in_range))]
-    fn changing_year(&self, first: i32, forward: bool) -> Option<i32>
-        requires { IsRuleYear first }
-        ensures { MatchOption result (HasNoneBeyond self.now forward first)
-            (IsNextChanging self.now forward first) }
-    {
-        let _ = &self.std_type;
         if self.never_changes() {
             return None;
         }
+        probes.count_question();
+        self.nearest_beyond(first, second, forward)
+    }
+
+    // The same, year by year. Every 400 years the rule does the same, so that no more years are looked at:
+    // one in nearly all rules, and 40 in the rarest that are known.
+    #[tactic(auto, using(crate::proofs::Fits::in_range))]
+    fn nearest_beyond(&self, first: i32, second: i64, forward: bool) -> Option<Moment>
+        requires near { IsYearNear second first }
+        requires none { HasNoChange (AlternateAt self.now)
+            (λ u. IsAhead forward second u × IsYearOf (u -ℤ pos 1) first) }
+        ensures { IsNearestMomentOf forward self.now (IsAhead forward second) result }
+    {
+        let _ = &self.std_type;
+        let stretch = stretch_ahead(i64::MIN, second, forward);
         for step in 1..401u32 {
             let year = year_at(first, step, forward);
             if !is_rule_year(year) {
                 return None;
             }
-            if self.changes_in_year(year as i32) {
-                return Some(year as i32);
+            let moments = self.moments_of(year as i32);
+            if let Some(moment) = self.nearest_in(moments, stretch, forward) {
+                return Some(moment);
             }
         }
         None

@@ -3,13 +3,14 @@
 //! A rule's moments, counted from the first second of their year, are the same in all years of a
 //! kind. They are found once for each of the fourteen kinds, when the rule is made.
 
-ghost use Rattle.std.specs.Prelude.{◌≡◌, ◌<◌, ◌+◌, if◌then◌else◌, int_le, int_lt};
+ghost use Rattle.std.specs.Prelude.{◌≡◌, ◌<◌, ◌+◌, ◌+ℤ◌, if◌then◌else◌, int_le, int_lt};
 ghost use Rattle.{
   naive_base.specs.Year.{year_start, IsDay},
   offset_core.specs.Offset.{IsWithinDay},
   tz_info.specs.Rules.{IsWithinWeek},
   tz_info.specs.Steps.Kinds.{seconds_by_kind, are_calm, day_time_second, is_calm_kind, is_inside, kind_place},
-  tz_info.specs.Steps.Kinds.{margin_of},
+  tz_info.specs.Steps.Kinds.{is_one_moment, are_steady, margin_of, runs_on},
+  tz_info.specs.Steps.Below.{all_below},
 };
 
 use crate::rule::day::DayTime;
@@ -116,4 +117,64 @@ fn is_inside(second: i64) -> bool
     ensures { result ≡ is_inside second }
 {
     172_800 <= second && second <= 31_363_200
+}
+
+// Whether the clocks of a rule with those moments never change: the two of each year are one, or the
+// one season lasts until it begins again.
+#[tactic(auto, unfolding(crate::specs::Steps::Kinds::are_steady))]
+pub(super) fn are_steady(starts: &[i64; 14], ends: &[i64; 14]) -> bool
+    ensures { result ≡ are_steady starts.now ends.now }
+{
+    are_one_moment(starts, ends) || run_on(starts, ends) || run_on(ends, starts)
+}
+
+// Whether the two moments of each year are one.
+fn are_one_moment(starts: &[i64; 14], ends: &[i64; 14]) -> bool
+    ensures { result ≡ all_below 14 (is_one_moment starts.now ends.now) }
+{
+    for kind in 0..14 {
+        if !is_one_moment(starts, ends, kind) {
+            return false;
+        }
+    }
+    true
+}
+
+fn is_one_moment(starts: &[i64; 14], ends: &[i64; 14], kind: usize) -> bool
+    requires { kind < 14 }
+    ensures { result ≡ is_one_moment starts.now ends.now kind }
+{
+    let (start, end) = (starts[kind], ends[kind]);
+    start <= end && end <= start
+}
+
+// Whether each year's last moment comes at or after the first one of the next year.
+fn run_on(firsts: &[i64; 14], lasts: &[i64; 14]) -> bool
+    ensures { result ≡ all_below 14 (runs_on firsts.now lasts.now) }
+{
+    for kind in 0..14 {
+        if !runs_on(firsts, lasts, kind) {
+            return false;
+        }
+    }
+    true
+}
+
+// Whether that of a year of that kind does, whether the next year is a leap year or not.
+fn runs_on(firsts: &[i64; 14], lasts: &[i64; 14], kind: usize) -> bool
+    requires { kind < 14 }
+    ensures { result ≡ runs_on firsts.now lasts.now kind }
+{
+    let is_leap = kind / 7;
+    let weekday = (kind % 7 + is_leap + 1) % 7;
+    let year = 86_400 * (365 + is_leap) as i64;
+    let last = lasts[kind];
+    is_reached(year, firsts[weekday], last) && is_reached(year, firsts[7 + weekday], last)
+}
+
+// Whether the first moment of the year after one of so many seconds comes by the last one of that year.
+fn is_reached(year: i64, first: i64, last: i64) -> bool
+    ensures { result ≡ int_le (year +ℤ first) last }
+{
+    i128::from(year) + i128::from(first) <= i128::from(last)
 }

@@ -1,4 +1,4 @@
-use Rattle.tz_info.proofs.{Words.{arith, to_z-of_z}, Neighbours.{dst_by_three, ends_near, starts_near}, YearKeys.{near_fit}}
+use Rattle.tz_info.proofs.{Words.{arith, to_z-of_z}, Neighbours.{dst_by_three, ends_near, starts_near}, Neighbours.{near_fit}}
 use Rattle.tz_info.proofs.rule.alternate.AlternateTime.is_dst.Goals as goal
 
 pub returns : goal.returns

@@ -1,4 +1,4 @@
-use Rattle.tz_info.proofs.{ChangingYears.calm_tells, Neighbours.in_year, Words.{linear, to_z-of_z}}
+use Rattle.tz_info.proofs.{CalmYears.calm_tells, Neighbours.in_year, Words.{linear, to_z-of_z}}
 use Rattle.tz_info.proofs.rule.alternate.AlternateTime.is_dst_in_year.Goals as goal
 
 pub returns-then-is_calm : goal.returns-then-is_calm

@@ -1,4 +1,4 @@
-use Rattle.tz_info.proofs.{Words.{arith, linear, moments_near, to_z-of_z}, YearKeys.near_fit}
+use Rattle.tz_info.proofs.{Words.{arith, linear, moments_near, to_z-of_z}, Neighbours.near_fit}
 use Rattle.tz_info.proofs.rule.alternate.AlternateTime.moments_near.Goals as goal
 
 pub returns-clause-moments : goal.returns-clause-moments

@@ -2,7 +2,7 @@ use Rattle.tz_info.proofs.{AskedYears.never_at_all, Fits.fits, RuleChanges.neare
 use Rattle.tz_info.proofs.rule.alternate.AlternateTime.nearest_by_three.Goals as goal
 
 pub returns-then-never_changes : goal.returns-then-never_changes
-returns-then-never_changes c = λ d is inside. never_at_all _ d (c.never_changes.ensures.0 c.if-never_changes.true) is
+returns-then-never_changes c = λ d is inside. never_at_all _ d (c.never_changes.ensures c.if-never_changes.true) is
 
 pub returns : goal.returns
 returns c =

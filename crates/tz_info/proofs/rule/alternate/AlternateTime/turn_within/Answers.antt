@@ -1,4 +1,4 @@
-use Rattle.tz_info.proofs.{ChangingYears.turn_change, Words.{arith, to_z-of_z}}
+use Rattle.tz_info.proofs.{CalmYears.turn_change, Words.{arith, to_z-of_z}}
 use Rattle.tz_info.proofs.rule.alternate.AlternateTime.turn_within.Goals as goal
 
 pub returns-then-has : goal.returns-then-has
