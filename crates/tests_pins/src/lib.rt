@@ -38,6 +38,7 @@ pub mod rule_texts;
 pub mod rules;
 pub mod runs;
 pub mod savings;
+pub mod series;
 pub mod shown_seconds;
 pub mod spans;
 pub mod steps;
