@@ -1,10 +1,10 @@
 //! Two files compared, or the files of two folders.
 
 use crate::output::print;
-use crate::source::{STANDARD, path_of, zone_of_file};
+use crate::source::{Place, STANDARD, place_of, zone_at};
 use crate::summary::Summary;
-use crate::words::{NOT_UTF8, is_utf8, report, say, shown};
-use crate::{files, folders, guesses, times};
+use crate::words::{report, say, shown};
+use crate::{files, folders, times};
 use folders::Contents;
 use std::fmt::Write;
 use std::io::ErrorKind;
@@ -21,20 +21,20 @@ pub const ERROR: u8 = 2;
 
 /// The form in which differences are printed.
 #[derive(Clone, Copy)]
-pub enum Form<'a> {
+pub enum Form {
     Lines,
     Json,
     /// Zones with the same differences together.
     Summary,
-    /// Which of the times in that file move.
-    Times(&'a str),
 }
 
 /// How zones are compared.
 #[derive(Clone, Copy)]
 pub struct Compared<'a> {
     pub period: Period,
-    pub form: Form<'a>,
+    pub form: Form,
+    /// A file with times: which of them move is printed in place of the differences.
+    pub times: Option<&'a str>,
     /// The folders of the tz database with the zones that are named.
     pub folders: &'a [String],
 }
@@ -61,34 +61,31 @@ fn compare_words(rt: &HostRuntime, words: [&str; 2], asked: Compared<'_>) -> io:
         );
         return Ok(ERROR);
     }
-    let old = path_or_report(rt, old, asked.folders)?;
-    let new = path_or_report(rt, new, asked.folders)?;
+    let old = place_of(rt, old, asked.folders)?;
+    let new = place_of(rt, new, asked.folders)?;
     match (old, new) {
-        (Some(old), Some(new)) => compare_paths(rt, old.as_str(), new.as_str(), asked),
+        (Some(Place::File(old)), Some(Place::File(new))) => {
+            compare_paths(rt, old.as_str(), new.as_str(), false, asked)
+        }
+        (Some(Place::Folder(old)), Some(Place::Folder(new))) => {
+            compare_paths(rt, old.as_str(), new.as_str(), true, asked)
+        }
+        (Some(Place::Folder(folder)), Some(Place::File(file)))
+        | (Some(Place::File(file)), Some(Place::Folder(folder))) => {
+            Ok(refuse_kinds(rt, folder.as_str(), file.as_str()))
+        }
         _ => Ok(ERROR),
     }
 }
 
-fn path_or_report(rt: &HostRuntime, word: &str, folders: &[String]) -> io::Result<Option<String>> {
-    if word == STANDARD {
-        return Ok(Some(String::from_str(rt.alloc(), word)?));
-    }
-    let found = path_of(rt, word, folders)?;
-    if found.is_none() {
-        guesses::report_unknown(rt, word, folders)?;
-    }
-    Ok(found)
-}
-
-fn compare_paths(rt: &HostRuntime, old: &str, new: &str, asked: Compared<'_>) -> io::Result<u8> {
-    let are_folders = match (path_kind(rt, old), path_kind(rt, new)) {
-        (PathKind::Folder, PathKind::Folder) => true,
-        (PathKind::File, PathKind::File) => false,
-        (PathKind::Folder, PathKind::File) => return Ok(refuse_kinds(rt, old, new)),
-        (PathKind::File, PathKind::Folder) => return Ok(refuse_kinds(rt, new, old)),
-        _ => return Ok(ERROR),
-    };
-    if let Form::Times(file) = asked.form {
+fn compare_paths(
+    rt: &HostRuntime,
+    old: &str,
+    new: &str,
+    are_folders: bool,
+    asked: Compared<'_>,
+) -> io::Result<u8> {
+    if let Some(file) = asked.times {
         return times::print_moves(rt, old, new, are_folders, file);
     }
     let mut summary = Summary::new(rt.alloc());
@@ -101,34 +98,6 @@ fn compare_paths(rt: &HostRuntime, old: &str, new: &str, asked: Compared<'_>) ->
         print_part(rt, summary.text(rt.alloc(), old, new)?.as_bytes())?;
     }
     Ok(status)
-}
-
-// What a path leads to.
-#[derive(Clone, Copy)]
-enum PathKind {
-    Folder,
-    // or what else isn't a folder
-    File,
-    // Nothing, which is reported.
-    Unread,
-}
-
-fn path_kind(rt: &HostRuntime, path: &str) -> PathKind {
-    if path == STANDARD {
-        return PathKind::File;
-    }
-    if !is_utf8(path) {
-        report(rt, path, NOT_UTF8);
-        return PathKind::Unread;
-    }
-    match fs::metadata(rt, path) {
-        Ok(found) if found.is_dir() => PathKind::Folder,
-        Ok(_) => PathKind::File,
-        Err(error) => {
-            report(rt, path, error);
-            PathKind::Unread
-        }
-    }
 }
 
 /// What `--diff` compares.
@@ -266,7 +235,7 @@ fn print_lone(rt: &HostRuntime, folder: &str, name: &str, asked: Compared<'_>) -
             let line = format!(in rt.alloc(); "{name}: only in {folder}\n")?;
             print_part(rt, line.as_bytes())?;
         }
-        Form::Summary | Form::Times(_) => {}
+        Form::Summary => {}
     }
     Ok(DIFFERENT)
 }
@@ -292,8 +261,8 @@ fn compare_files(
     asked: Compared<'_>,
     summary: &mut Summary,
 ) -> io::Result<u8> {
-    let old_zone = zone_of_file(rt, old, &[])?;
-    let new_zone = zone_of_file(rt, new, &[])?;
+    let old_zone = zone_at(rt, old, old);
+    let new_zone = zone_at(rt, new, new);
     let Some(old_zone) = old_zone else {
         return Ok(ERROR);
     };
@@ -308,7 +277,7 @@ fn compare_files(
     match asked.form {
         Form::Json => print_difference_json(rt, name, old, new, asked.period, &found)?,
         Form::Summary => summary.add(rt.alloc(), name.unwrap_or(new), found)?,
-        Form::Lines | Form::Times(_) => print_difference_lines(rt, name, &found)?,
+        Form::Lines => print_difference_lines(rt, name, &found)?,
     }
     Ok(status)
 }

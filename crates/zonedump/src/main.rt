@@ -119,6 +119,7 @@ fn compare_two(
     let asked = Compared {
         period: asked.period,
         form: requests::form_of(matches),
+        times: matches.get_str("times"),
         folders: folders.as_slice(),
     };
     Ok(compared::compare(rt, [old, new], asked))

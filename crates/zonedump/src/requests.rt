@@ -114,10 +114,8 @@ fn when_of<'a>(time: &'a str, is_local: bool) -> Result<When, Fault<'a>> {
 }
 
 /// The form in which differences are printed.
-pub fn form_of<'a>(matches: &ArgMatches<'a>) -> Form<'a> {
-    if let Some(file) = matches.get_str("times") {
-        Form::Times(file)
-    } else if matches.get_flag("summary") {
+pub fn form_of(matches: &ArgMatches<'_>) -> Form {
+    if matches.get_flag("summary") {
         Form::Summary
     } else if matches.get_flag("json") {
         Form::Json

@@ -1,13 +1,12 @@
 //! What a zone is read from: a file, a zone of the tz database, standard input, or a TZ string.
 
+use crate::guesses;
 use crate::words::{NOT_UTF8, OneLine, is_utf8, report, shown};
-use crate::{folders, guesses};
 use std::alloc::Global;
 use std::fmt::Write;
 use std::fs;
 use std::io::{self, ErrorKind};
 use tz_info::{Error, ParseError, TimeZone};
-use zoned_files::ReadError;
 
 // Why a folder is no zone.
 const FOLDER: &str = "a folder; name a file in it, or compare two with zonedump --diff OLD NEW";
@@ -113,15 +112,37 @@ pub fn zone_of_file(
     word: &str,
     folders: &[String],
 ) -> io::Result<Option<TimeZone>> {
-    let Some(bytes) = bytes_of(rt, word, folders)? else {
-        return Ok(None);
+    match place_of(rt, word, folders)? {
+        Some(Place::File(path)) => Ok(zone_at(rt, path.as_str(), word)),
+        Some(Place::Folder(_)) => {
+            report(rt, word, FOLDER);
+            Ok(None)
+        }
+        None => Ok(None),
+    }
+}
+
+/// Returns the zone of the file at a path, or of standard input. `None` if it can't be read, which is
+/// reported under a name.
+pub fn zone_at(rt: &HostRuntime, path: &str, name: &str) -> Option<TimeZone> {
+    let read = if path == STANDARD {
+        zoned_files::read_all(rt.alloc(), rt.stdin())
+    } else {
+        zoned_files::read_limited(rt, path)
+    };
+    let bytes = match read {
+        Ok(bytes) => bytes,
+        Err(error) => {
+            report(rt, name, error);
+            return None;
+        }
     };
     match TimeZone::parse_tz_data(rt.alloc(), bytes.as_slice()) {
-        Ok(zone) => Ok(Some(zone)),
+        Ok(zone) => Some(zone),
         Err(fault) => {
-            reject_file(rt, word, &fault);
-            guesses::hint_for_file(rt, word, bytes.as_slice());
-            Ok(None)
+            reject_file(rt, name, &fault);
+            guesses::hint_for_file(rt, name, bytes.as_slice());
+            None
         }
     }
 }
@@ -140,38 +161,46 @@ fn reject_file(rt: &HostRuntime, name: &str, fault: &ParseError) {
     );
 }
 
-// The bytes of a file, or the error if it can't be read.
-fn bytes_of(rt: &HostRuntime, word: &str, folders: &[String]) -> io::Result<Option<Vec<u8>>> {
+/// The path of what a word leads to.
+#[derive(Drop)]
+pub enum Place {
+    /// A file, or standard input.
+    File(String),
+    Folder(String),
+}
+
+/// Returns what a word leads to: what has that path, or else the file of the zone of that name in the
+/// folders. `None` if there is neither or it can't be looked at, which is reported.
+///
+/// # Errors
+///
+/// There is no memory for the path.
+pub fn place_of(rt: &HostRuntime, word: &str, folders: &[String]) -> io::Result<Option<Place>> {
     if !is_utf8(word) {
         report(rt, word, NOT_UTF8);
         return Ok(None);
     }
     if word == STANDARD {
-        return Ok(bytes_or_report(rt, word, zoned_files::read_all(rt.alloc(), rt.stdin())));
+        return Ok(Some(Place::File(String::from_str(rt.alloc(), word)?)));
     }
-    match path_of(rt, word, folders)? {
-        Some(path) if folders::is_folder(rt, path.as_str()) => {
-            report(rt, word, FOLDER);
-            Ok(None)
-        }
-        Some(path) => Ok(bytes_or_report(rt, word, zoned_files::read_limited(rt, path.as_str()))),
-        None => {
-            guesses::report_unknown(rt, word, folders)?;
+    match fs::metadata(rt, word) {
+        Ok(found) if found.is_dir() => Ok(Some(Place::Folder(String::from_str(rt.alloc(), word)?))),
+        Ok(_) => Ok(Some(Place::File(String::from_str(rt.alloc(), word)?))),
+        Err(error) if error.kind() == ErrorKind::NotFound => named(rt, word, folders),
+        Err(error) => {
+            report(rt, word, error);
             Ok(None)
         }
     }
 }
 
-fn bytes_or_report(
-    rt: &HostRuntime,
-    word: &str,
-    read: Result<Vec<u8>, ReadError>,
-) -> Option<Vec<u8>> {
-    match read {
-        Ok(bytes) => Some(bytes),
-        Err(error) => {
-            report(rt, word, error);
-            None
+// The file of the zone of that name.
+fn named(rt: &HostRuntime, word: &str, folders: &[String]) -> io::Result<Option<Place>> {
+    match zoned_files::path_of(rt, word, folders)? {
+        Some(path) => Ok(Some(Place::File(path))),
+        None => {
+            guesses::report_unknown(rt, word, folders)?;
+            Ok(None)
         }
     }
 }

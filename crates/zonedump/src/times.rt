@@ -3,7 +3,7 @@
 use crate::answers::instant_of;
 use crate::compared::{DIFFERENT, EQUAL, ERROR, print_part};
 use crate::moments::{Typed, read_time};
-use crate::source::{STANDARD, zone_of_file};
+use crate::source::{STANDARD, zone_at};
 use crate::words::{OneLine, report, say, shown};
 use naive_base::NaiveDateTime;
 use offset_core::Around;
@@ -172,12 +172,12 @@ fn zone_in(
     is_folder: bool,
 ) -> io::Result<Option<TimeZone>> {
     if !is_folder {
-        return zone_of_file(rt, version, &[]);
+        return Ok(zone_at(rt, version, version));
     }
     let mut folders = Vec::new(rt.alloc());
     folders.push(String::from_str(rt.alloc(), version)?)?;
     match zoned_files::path_of(rt, name, folders.as_slice())? {
-        Some(path) => zone_of_file(rt, path.as_str(), &[]),
+        Some(path) => Ok(zone_at(rt, path.as_str(), path.as_str())),
         None => {
             let (version, name) = (shown(version), shown(name));
             let number = place as u64 as u128 + 1;
