@@ -1,4 +1,4 @@
-use Rattle.std.specs.Prelude.{slice_index_or, ◌×◌}
+use Rattle.std.specs.Prelude.{slice_index_or}
 use Rattle.tz_info.proofs.WallLaws.{window_count_once}
 use Rattle.tz_info.specs.Windows.{IsWindowCount, offsets}
 use Rattle.tests_pins.proofs.Words.{List, arith, honolulu, hst10, ints, neg_ℤ, pos, refl, suc, zero, ℕ, ℤ, ◌<◌, ◌≤ℤ◌}
