@@ -30,7 +30,6 @@ pub fn read_leap_seconds(alloc: Global, pieces: &Pieces<'_>) -> Result<Vec<LeapS
 }
 
 /// The time of the transition at that place.
-#[inline(always)]
 pub fn time_at(pieces: &Pieces<'_>, k: usize) -> i64
     requires lengths { HasLengths (pieces_of pieces.now) }
     requires place { k < pieces.now.counts.transitions }

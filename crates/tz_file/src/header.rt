@@ -39,6 +39,7 @@ pub struct Counts {
     pub designations: u32,
 }
 
+/// A header: the version, and the counts of the block that follows.
 #[derive(Clone, Copy)]
 pub struct Header {
     pub version: Version,

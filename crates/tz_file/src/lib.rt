@@ -1,4 +1,8 @@
 //! TZif files (RFC 8536): from bytes to the pieces of a file, and to the lists that they say.
+//!
+//! Proved: each reader returns a value if and only if the bytes spell it by the grammar of `specs/`, and
+//! else their first fault, with the cursor at its place; running out of memory is the only other error.
+//! `tz_info` reads the footer and makes the zone.
 #![tactic(auto)]
 
 mod block;

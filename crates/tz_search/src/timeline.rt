@@ -23,7 +23,7 @@ use std::fmt;
 use std::marker::Model;
 pub use timed::Timed;
 
-// Items that come in order of time.
+/// Items that come in order of time.
 #[derive(Drop)]
 pub struct Timeline<T: Timed> {
     items: Vec<T>,
@@ -38,7 +38,7 @@ struct Ends {
     last: i64,
 }
 
-// How many items come at or before a second, and the last of them.
+/// How many items come at or before a second, and the last of them.
 #[derive(Drop)]
 pub struct Passed<'a, T> {
     pub count: usize,
@@ -86,11 +86,11 @@ impl<T: Timed + PartialEq> PartialEq for Timeline<T> {
 }
 
 impl<T: Timed> Timeline<T> {
-    // Returns the timeline of those items, none of which is before one with a lower index.
-    //
-    // # Errors
-    //
-    // [`AllocError`] if there is no memory for the hints.
+    /// Returns the timeline of those items, none of which is before one with a lower index.
+    ///
+    /// # Errors
+    ///
+    /// [`AllocError`] if there is no memory for the hints.
     pub fn new(alloc: Global, items: Vec<T>) -> Result<Timeline<T>, AllocError>
         requires { AreOrdered (map T.time items.items) }
         ensures { MatchResult result (λ t. t ≡ items.items) (λ _. ⊤) }
@@ -100,7 +100,7 @@ impl<T: Timed> Timeline<T> {
         Ok(Timeline { items, ends, hints })
     }
 
-    // Returns the timeline of those items, without hints: a search halves all of them.
+    /// Returns the timeline of those items, without hints: a search halves all of them.
     pub fn without_hints(alloc: Global, items: Vec<T>) -> Timeline<T>
         requires { AreOrdered (map T.time items.items) }
         ensures { result ≡ items.items }
@@ -110,7 +110,7 @@ impl<T: Timed> Timeline<T> {
         Timeline { items, ends, hints }
     }
 
-    // Returns a timeline without items, which takes no memory.
+    /// Returns a timeline without items, which takes no memory.
     pub fn none(alloc: Global) -> Timeline<T>
         ensures { result ≡ [] }
     {
@@ -121,7 +121,7 @@ impl<T: Timed> Timeline<T> {
         }
     }
 
-    // Returns the number of items.
+    /// Returns the number of items.
     #[inline(always)]
     pub fn len(&self) -> usize
         ensures count { result ≡ length self.now }
@@ -130,7 +130,7 @@ impl<T: Timed> Timeline<T> {
         self.items.len()
     }
 
-    // Returns the item at that index, which counts as one probe.
+    /// Returns the item at that index, which counts as one probe.
     #[inline(always)]
     pub fn read(&self, place: usize, probes: &mut Probes) -> &T
         requires place { place < length self.now }
@@ -142,7 +142,7 @@ impl<T: Timed> Timeline<T> {
         &self.items[place]
     }
 
-    // The item at that index and the one before it, if there is one: one probe, since they lie side by side.
+    /// Returns the item at that index and the one before it, if there is one: one probe, since they lie side by side.
     #[inline(always)]
     pub fn read_pair(&self, place: usize, probes: &mut Probes) -> (Option<&T>, &T)
         requires place { place < length self.now }
@@ -160,7 +160,7 @@ impl<T: Timed> Timeline<T> {
         (before, &self.items[place])
     }
 
-    // Returns how many items come at or before the second, and the last of them.
+    /// Returns how many items come at or before the second, and the last of them.
     #[inline(always)]
     pub fn passed(&self, second: i64, probes: &mut Probes) -> Passed<'_, T>
         requires { HasRoomFor (digits (length self.now)) (T.probed probes.old) }

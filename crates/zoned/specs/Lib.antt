@@ -56,6 +56,7 @@ pub use Rattle.tz_info.specs.Lists
 pub use Rattle.tz_info.specs.Leaps
 pub use Rattle.tz_search.specs.Counts
 pub use Rattle.tz_search.specs.Digits
+pub use Rattle.tz_search.specs.RisingCounts
 pub use Rattle.tz_info.specs.Transitions
 pub use Rattle.tz_info.specs.Zones
 pub use Rattle.tz_info.specs.WallClocks

@@ -72,7 +72,7 @@ impl Probes {
             && self.index_reads < Self::ROOM
     }
 
-    // Counts a probe of a transition. Only what makes one calls this.
+    /// Counts a probe of a transition.
     #[inline(always)]
     pub fn count_read(&mut self)
         requires { HasRoomFor 1 self.old.reads }
@@ -81,7 +81,7 @@ impl Probes {
         self.transition_reads += 1;
     }
 
-    // Counts a probe of a piece of an index.
+    /// Counts a probe of a piece of an index.
     #[inline(always)]
     pub fn count_piece_read(&mut self)
         requires { HasRoomFor 1 self.old.piece_reads }
@@ -90,7 +90,7 @@ impl Probes {
         self.index_reads += 1;
     }
 
-    // Counts a question to a rule.
+    /// Counts a question to a rule.
     #[inline(always)]
     pub fn count_question(&mut self)
         requires { HasRoomFor 1 self.old.rule_questions }

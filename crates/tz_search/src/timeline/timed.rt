@@ -5,7 +5,7 @@ ghost use Rattle.tz_search.specs.{Counts.{Counts}, RisingCounts.{HasRoomFor}};
 
 use crate::timeline::probes::Probes;
 
-// An item that has a time.
+/// An item that has a time.
 pub trait Timed: Drop {
     ghost use Rattle.std.specs.Prelude.{ℤ};
 
@@ -18,11 +18,11 @@ pub trait Timed: Drop {
     // how many probes there were
     ghost probed: { Counts → ℕ };
 
-    // Its time, a second.
+    /// Returns its time, a second.
     fn second(&self) -> i64
         ensures { result ≡ time self.now };
 
-    // Counts a probe of one.
+    /// Counts a probe of one.
     fn count_probe(probes: &mut Probes)
         requires { HasRoomFor 1 (probed probes.old) }
         ensures { probes.new ≡ counted probes.old 1 };
