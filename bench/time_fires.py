@@ -1,5 +1,5 @@
 #!/usr/bin/env python3
-"""Times when plans fire next: `ZoneDays::next_fire` of crontab lines in a kept zone, and croniter's get_next with Python's zoneinfo.
+"""Times when plans fire next: `ZonePlans::next_fire` of crontab lines in a kept zone, and croniter's get_next with Python's zoneinfo.
 
 usage: /usr/bin/python3 bench/time_fires.py     (it needs Debian's python3-croniter)
 
@@ -36,8 +36,9 @@ use naive_plans::Cron;
 use std::fs;
 use std::test::Fail;
 use std::time::Instant;
+use zoned_plans::ZonePlans;
 use zoned_ref::KeptZone;
-use zoned_time::{DateTime, Utc, ZoneDays};
+use zoned_time::{DateTime, Utc};
 
 fn plan(line: usize) -> Cron {
     let mut cron = Cron {
@@ -139,7 +140,7 @@ def ours():
         words = {"LISTED": listed(), "ZONE": DATABASE / ZONE, "OUT": folder / "out"}
         words |= {"COUNT": len(LINES), "PASSES": PASSES, "RUNS": RUNS, "START": START}
         (src / "fires.rt").write_text(re.sub("|".join(words), lambda word: str(words[word[0]]), PROGRAM))
-        status, said = tried(src.parent, ["naive_base", "naive_plans", "tz_info", "zoned_ref", "zoned_time"], "1200")
+        status, said = tried(src.parent, ["naive_base", "naive_plans", "tz_info", "zoned_plans", "zoned_ref", "zoned_time"], "1200")
         if status != 0:
             sys.exit(said)
         rows = [line.split("|") for line in (folder / "out").read_text().splitlines()]

@@ -24,7 +24,7 @@ CHANGES = {
     "the instant of a local time in a gap": "The instant of a local time in a gap, 2020 to 2029",
 }
 PARSING, WORK, DATES, COLUMNS = "Reading a zone", "Instants at work", "Dates without a time zone", "Columns of instants"
-PROGRAMS, DIFFER = "The programs", "Answers that differ"
+DIFFER = "Answers that differ"
 WORDS = {"Sahvumbi": "Sahvumbi's", "the peer": "its answer", "peer": "library", "one of them": "for example", "in the years": "in"}
 
 
@@ -76,8 +76,8 @@ SLOWER = [
         ".*",
         "parsing a zone",
         "The file is checked and indexed before the first question. chrono's reader checks it and has no index; glibc does neither. Of a "
-        "zone with leap seconds the transitions are kept by Unix time too. ([`shapes.txt`](../tools/shapes.txt) has the instructions for "
-        "each byte of a zone that is opened; the gate counts them again.)",
+        "zone with leap seconds the transitions are kept by Unix time too. (The gate counts the instructions for each byte of a zone that "
+        "is opened: `tools/try_shapes.py`.)",
     ),
 ]
 
@@ -111,21 +111,15 @@ def spread(numbers):
 
 
 def headline(found):
-    at, wall = (ratios(found, titles) for titles in LOOKUPS.values())
-    others = {
-        "work with instants": WORK,
+    kinds = {f"a lookup {words}, also in 2020 to 2029": titles for words, titles in LOOKUPS.items()} | {
+        "work with instants": [WORK],
         "clock changes, spans and gaps": list(CHANGES.values()),
-        "columns": COLUMNS,
-        "dates without a time zone": DATES,
-        "parsing a zone": PARSING,
+        "columns": [COLUMNS],
+        "dates without a time zone": [DATES],
+        "parsing a zone": [PARSING],
     }
-    titles = {words: [title] if isinstance(title, str) else title for words, title in others.items()}
-    *first, last = [f"{words} {ratios(found, of)}" for words, of in titles.items() if all(title in found for title in of)]
-    return (
-        f"With one call for each question, a lookup by instant takes {at} of the time of the fastest library with the same "
-        f"answers, and a lookup by local time {wall}. The others take, as such a ratio: {', '.join(first)}, and {last}. "
-        "[Some rows are slower](#why-some-rows-are-slower)."
-    )
+    rows = [f"| {words} | {ratios(found, of)} |" for words, of in kinds.items() if all(title in found for title in of)]
+    return "\n".join(["| question | ratio |", "| --- | --- |", *rows])
 
 
 def slower_rows(found):
@@ -153,13 +147,6 @@ def slower(found):
     rows = sorted(ratios_of.items(), key=lambda item: -max(item[1]))
     lines = ["| row | ratio | why |", "| --- | --- | --- |", *(f"| {words} | {spread(numbers)} | {why} |" for (words, why), numbers in rows)]
     return "\n".join(lines)
-
-
-def changes(found):
-    """The rows of changes, spans and gaps, with the question before."""
-    heads = list(dict.fromkeys(head for title in CHANGES.values() for head in found[title][0] if head != "ratio")) + ["ratio"]
-    rows = [{"question": words} | {head: row.get(head, "-") for head in heads} for words, title in CHANGES.items() for row in found[title]]
-    return table(rows)
 
 
 def differences(found):
@@ -199,25 +186,6 @@ def at_once(text):
     return f" {found[0]}" if found else ""
 
 
-def programs(found):
-    """A row for each other program: its time, and ours for the same work."""
-    work, rows = {}, []
-    for row in found[PROGRAMS]:
-        words, program, took, ratio = row.values()
-        work.setdefault(words, []).append((f"{program}: {took}", ratio))
-    for words, ((ours, _), *others) in work.items():
-        rows += [{"work": words, "Sahvumbi": ours, "other program": other, "ratio": ratio} for other, ratio in others]
-    rows.sort(key=lambda row: -float(row["ratio"]))
-    lines = [list(rows[0]), ["---"] * 3 + ["--:"], *(list(row.values()) for row in rows)]
-    return "\n".join("| " + " | ".join(line) + " |" for line in lines)
-
-
-def listed(found):
-    """README's sentence on zonedump."""
-    times = {row["program"]: row["processor's time for each"] for row in found[PROGRAMS]}
-    return f"Listing a zone's clock changes from 1900 to 2037 takes `zonedump` {times['`zonedump --zdump`']} and `zdump` {times['`zdump -v`']} on average."
-
-
 def parts(results):
     """What each place of the documents has, by its name; those that need a table which wasn't measured stay as they are."""
     text = results.read_text()
@@ -226,14 +194,9 @@ def parts(results):
         "headline": lambda: headline(found),
         "by instant": lambda: table(found[AT]),
         "by local time": lambda: table(found[WALL]),
-        "parsing": lambda: table(found[PARSING]),
         "at work": lambda: table(found[WORK]),
-        "dates": lambda: table(found[DATES]),
-        "changes": lambda: changes(found),
-        "columns": lambda: table(found[COLUMNS]),
-        "programs": lambda: programs(found),
+        "columns": lambda: table([row for row in found[COLUMNS] if row["rows"] in ("in order", "at random")]),
         "slower": lambda: slower(found),
-        "listed": lambda: listed(found),
         "differ": lambda: differences(found),
         "measured": lambda: conditions(text, results),
         "New York": lambda: f"{lookup_of_new_york(found)} ({measured(text)}{BUSY if ONE_CALL in text else ''}.{at_once(text)})",

@@ -6,13 +6,12 @@ usage: tools/check_documents.py
 - Each relative link of a document leads to a file, and its anchor to a heading there; no line is left of a merge.
 - Each name and each path in backticks, each path of a `sh` block and each module that docs/MAP.md names is in the code, or is one of
   another project (OTHERS). That page names the scripts that the gate doesn't run. The headers have the names of zoned(3). The calls
-  that the README of a crate cites are calls of that crate. The table of crates in docs/PROVED.md has the first sentence of each README.
-  docs/PROGRAMS.md has the options of zonedump.
+  that the README of a crate cites are calls of that crate. docs/PROGRAMS.md has the options of zonedump.
 - What tools/generate_documents.py writes is up to date.
 - No clause of a public function cites a step of a proof (specs/Steps). docs/DEFINITIONS.md names the types whose invariants do. Each word
-  that a contract cites has a comment. README.md says how many `unsafe` blocks and impls there are.
+  that a contract cites has a comment.
 - tools/claim.py finds each clause that a document cites.
-- No code of tz_info returns error 17 by itself, but for numbers above the limits that contracts state.
+- No code of tz_search, tz_file and tz_info returns error 17 by itself, but for numbers above the limits that contracts state.
 - Each old text of a planted bug is once in its file, and each text of a wrong definition once in its page; its pins exist.
 - A lemma that nothing names is an error, and so is a page of lemmas that its proofs/Lib.antt doesn't name.
 - Each module begins with a comment that says what it is.
@@ -22,12 +21,11 @@ usage: tools/check_documents.py
 - The texts of zoned_ffi, its header and the Python package have the words of the error numbers, for all numbers that C returns.
 - The code blocks in Rattle are code of the crates (tools/try_documents.py).
 - README.md has two commands with their output before its first heading, one that answers a question by `rt try` and one that runs
-  all tests, and .ci/run runs both. The lines that make the Python package ready are lines of python/README.md, which the gate tries. No
-  sentence of README.md has more than 35 words.
-- README.md names the number and the logic of the kit that `rt version` prints (if there is rt), and the kit's libraries of crates.txt.
-- One version is in the C header, the Python package, zonedump, README.md, docs/FAQ.md and CHANGELOG.md.
-- Counts and limits that documents state in a sentence are those of the code, such as the functions of the crate of idioms. A test calls
-  each of these.
+  all tests, and .ci/run runs both.
+- README.md names the number and the logic of the kit that `rt version` prints (if there is rt).
+- One version is in the C header, the Python package, zonedump, README.md, CONTRIBUTING.md and CHANGELOG.md.
+- Counts and limits that documents state in a sentence are those of the code, such as the shapes of input. A test calls each function
+  of the crate of idioms.
 - The tables of docs/SPEED.md and README.md have the figures of the latest file of bench/results (bench/write_speed.py).
 
 Prints a line for each fault, with its place, and ends with status 1 if there is one.
@@ -43,14 +41,13 @@ from pathlib import Path
 
 from check_headline import CITATION, DOCUMENTS
 from definitions import clauses
-from edits import HARMLESS, PLANTED_BUGS, all_blocks
+from edits import HARMLESS, PLANTED_BUGS, READS_ON, all_blocks
 from generate_documents import (
     DEFINITIONS, ERROR, MAP, PROGRAMS, README, TESTING, byte_changes, counts, generated, head_of, numbers_of_errors, words_in_contracts,
 )
 from sources import (
-    NAME, TOP, cited, crates, files, imports_of, module_of, public_clauses, shown, text_of, uses, without_comments,
+    NAME, TOP, cited, crates, files, imports_of, module_of, public_clauses, shown, text_of, without_comments,
 )
-from trusted import pages_of_headline
 from try_definitions import faults as wrong_definitions
 from try_documents import TESTS, blocks, commands, rattle as rattle_blocks
 from try_edits import FUNCTION, read as read_edit
@@ -63,10 +60,8 @@ from write_speed import latest as latest_results, written as with_figures  # noq
 FACADE = TOP / "crates/zoned"
 PACKAGE = TOP / "python/README.md"
 GATE = TOP / ".ci/run"
-PROVED = TOP / "docs/PROVED.md"
-FROM_CHRONO = TOP / "docs/FROM_CHRONO.md"
 SPEED = TOP / "docs/SPEED.md"
-DECISIONS, OWN_ZONE = TOP / "docs/DECISIONS.md", TOP / "docs/OWN_ZONE.md"
+CONTRIBUTING, DECISIONS, OWN_ZONE = TOP / "CONTRIBUTING.md", TOP / "docs/DECISIONS.md", TOP / "docs/OWN_ZONE.md"
 PICTURE = TOP / "crates/zonedump_lib/src/picture"
 TEXTS = TOP / "crates/zoned_ffi/specs/Texts.antt"
 HEADER = TOP / "crates/zoned_ffi/include/zoned_ffi.h"
@@ -162,17 +157,6 @@ def types_with_steps():
 NUMBERS_IN_WORDS = "no one two three four five six seven eight nine ten eleven twelve thirteen".split()
 
 
-def unsafe_code():
-    found = {crate: [] for crate in crates()}
-    for crate in found:
-        for path in files("src", ".rt", [crate]):
-            found[crate] += re.findall(r"\bunsafe (\{|impl\b)", without_comments(text_of(path), "//"))
-    in_blocks, impls = (NUMBERS_IN_WORDS[sum(kinds.count(kind) for kinds in found.values())] for kind in ("{", "impl"))
-    due = f"{in_blocks} blocks and {impls} `unsafe impl`, in {' and '.join(f'`{crate}`' for crate in found if found[crate])}"
-    if due not in text_of(README):
-        yield f"{shown(README)}: it doesn't say: {due}"
-
-
 def claims():
     for document in DOCUMENTS:
         for path, names in CITATION.findall(text_of(document)):
@@ -184,7 +168,7 @@ def claims():
 
 
 def own_memory_errors():
-    for path in files("src", ".rt", ["tz_info"]):
+    for path in files("src", ".rt", ["tz_search", "tz_file", "tz_info"]):
         for found in re.finditer(OWN_ERROR, without_comments(text_of(path), "//")):
             if path.stem not in LIMITS:
                 yield f"{shown(path, found.start())}: error 17, and no allocation failed"
@@ -211,7 +195,7 @@ def unclear_functions(edit):
 
 
 def planted_bugs():
-    for block in [*all_blocks(PLANTED_BUGS), *all_blocks(HARMLESS)]:
+    for block in [block for due in ("", HARMLESS, READS_ON) for block in all_blocks(PLANTED_BUGS, due)]:
         yield from [*block.faults()] or unclear_functions(read_edit(block))
 
 
@@ -321,10 +305,10 @@ def number_faults():
 
 # Names of other projects and of the kit, and parts of names.
 OTHERS = set(
-    """AsRef CMAKE_PREFIX_PATH In NonExistentTimeError SECONDLY SystemTime Unix ZoneBounds _counted _opt as_seconds_f32 as_seconds_f64
-    checked_ deprecated from_epoch_days from_ymd getStandardOffset hour12 losAngeles max_value min_value must_use num_days_in_month
-    overflow_ parse_from_rfc3339 parse_from_str plant repartition set_axis start_io time_zone_format_test to_epoch_days track_caller try_
-    unusable year_ce""".split()
+    """ANTT AsRef CMAKE_PREFIX_PATH CONTRACTS In LANGUAGE NonExistentTimeError SECONDLY SystemTime Unix ZoneBounds _counted _opt as_seconds_f32 as_seconds_f64
+    checked_ deprecated dev_0 from_epoch_days from_ymd getStandardOffset hour12 losAngeles max_value min_value must_use num_days_in_month
+    overflow_ parse_from_rfc3339 parse_from_str plant primer repartition set_axis start_io time_zone_format_test to_epoch_days track_caller try_
+    unusable year_ce zonedump_0""".split()
 )
 FOLDERS = ("crates", "tools", "docs", "python", "examples", "bench")
 IN_CRATES = ("src", "specs", "proofs", "tests", "include", "install")
@@ -419,14 +403,6 @@ def options_of_zonedump():
         yield f"{shown(PROGRAMS)}: the option --{name} is here or in crates/zonedump/src/arguments.rt, but not in both"
 
 
-def table_of_crates():
-    for path in sorted(TOP.glob("crates/*/README.md")):
-        sentence = text_of(path).split("\n\n")[1]
-        row = f"| [`{path.parent.name}`](../{path.relative_to(TOP)}) | {sentence} |"
-        if row not in text_of(PROVED):
-            yield f"{shown(PROVED)}: it doesn't have the row: {row}"
-
-
 # What documents say of the kit and of the code
 
 
@@ -434,33 +410,16 @@ def in_words(number):
     return NUMBERS_IN_WORDS[number] if number < len(NUMBERS_IN_WORDS) else f"{number:,}"
 
 
-def functions_of(path):
-    return len(re.findall(r"(?m)^ *pub fn ", text_of(path)))
-
-
 def constant(path, name):
     """The number of a constant of the code, which has no sign."""
     return int(re.search(rf"(?m)\b{name}(?:: \w+)? = ([\d_]+)[;,\n]", text_of(TOP / path))[1].replace("_", ""))
 
 
-def kits_libraries():
-    """The libraries of the kit that this repository's libraries and programs use, besides the standard library."""
-    found = []
-    for crate, libraries in uses().items():
-        if not crate.startswith(("tests_", "demo_", "bench_")):
-            found += [each for each in libraries if each not in [*uses(), *found, "core", "std_alloc"]]
-    return found
-
-
 def counted():
     """Sentences with a number of the code, each with the document that has it."""
     made, changed = byte_changes()
-    *libraries, last = (f"`{library}`" for library in kits_libraries())
     grammar = text_of(TOP / "crates/tz_base/specs/Grammar.antt").partition("pub data Grammar ")[2].partition("\n\n")[0]
     kinds = len(re.findall(r"(?m)^  [A-Z]\w* : ", grammar))
-    idioms = sum(functions_of(path) for path in files("src", ".rt", ["tests_idioms"]))
-    book = sum(len(text_of(path).splitlines()) for path, _ in pages_of_headline())
-    refused = in_words(len(list((TOP / "tools/refused").glob("*.txt"))))
     large = "crates/tests_large_zone/src/main.rt"
     many, few = (constant("crates/zonedump/src/output.rt", name) for name in ("MANY", "FEW"))
     threads = in_words(constant("tools/try_handles.c", "THREADS"))
@@ -468,16 +427,10 @@ def counted():
     places = constant(PICTURE / "scale.rt", "RIGHT") - constant(PICTURE / "scale.rt", "LEFT") + 1
     zone = set(re.findall(r"(?m)^ *fn (\w+)", text_of(TOP / "crates/demo_examples/src/own_zone.rt")))
     by_hand = {path.name for path in (TOP / "crates/demo_examples/proofs/own_zone/NepalTimeZone").iterdir()}
-    ways = re.findall(r"(?m)^- ", text_of(MAP).partition(" ways through\n")[2].partition("\n## ")[0])
     return [
-        (README, f"`core` and `std_alloc`, and {', '.join(libraries)} and {last}"),
-        (FROM_CHRONO, f"`crates/tests_idioms` has {idioms} functions "),
-        (FROM_CHRONO, f"[`facts`](../crates/demo_examples/src/facts.rt) has {functions_of(TOP / 'crates/demo_examples/src/facts.rt')},"),
-        (TOP / "docs/GRAMMARS.md", f"{in_words(kinds).capitalize()} kinds are the constructors of `Grammar`"),
+        (MAP, f"{in_words(kinds).capitalize()} kinds are the constructors of `Grammar`"),
         (TESTING, f"{made:,} files, of which {made - changed:,} are unchanged"),
         (TESTING, f"the answers to {len(WRONG_USES)} wrong uses"),
-        (TESTING, f"`tools/must_not_compile.py` tries {refused} programs"),
-        (TESTING, f"tries {in_words(len(all_blocks(HARMLESS)))} edits that change nothing but the text"),
         (TESTING, f"counts instructions for {sum(1 for _ in shapes())} shapes of input"),
         (TESTING, f"at most {in_words(MOST_TIMES)} times as many as in New York"),
         (TESTING, f"at most {MOST_GROWTH} times the kept count"),
@@ -496,10 +449,8 @@ def counted():
         (PROGRAMS, f"at most {in_words(constant(PICTURE / 'thinned.rt', 'CROWD') - 1)} changes at each of its {places:,} places"),
         (DECISIONS, f"A column of {constant('crates/zoned_ffi/src/column/short.rt', 'LONG'):,} rows or more"),
         (DECISIONS, f"over {constant('crates/tz_saving/src/sides.rt', 'REACH')} clock changes at most"),
-        (TOP / "docs/FAQ.md", f"in every year up to {constant('crates/tz_info/src/rule/changes.rt', 'LAST_RULE_YEAR')}"),
+        (TOP / "docs/ANSWERS.md", f"in every year up to {constant('crates/tz_info/src/rule/changes.rt', 'LAST_RULE_YEAR')}"),
         (OWN_ZONE, f"proves {in_words(len(zone - by_hand))} of the {in_words(len(zone))} functions of the zone by itself"),
-        (MAP, f"## {in_words(len(ways)).capitalize()} ways through"),
-        (PROVED, f"some {round(book, -2):,} lines, as one book"),
     ]
 
 
@@ -528,10 +479,10 @@ def versions():
     return [
         (TOP / "python/src/sahvumbi/_version.py", f'__version__ = "{version}"'),
         (TOP / "crates/zonedump/src/arguments.rt", f'const VERSION: &str = "{version} ('),
-        (README, f"libzoned-{version}-linux-x86_64.tar.xz "),
-        (README, f"./libzoned{abi}_{version}_amd64.deb ./libzoned-dev_{version}_amd64.deb ./zonedump_{version}_amd64.deb\n"),
-        (README, f"sahvumbi-{version}-*.whl"),
-        (TOP / "docs/FAQ.md", f" {version} "),
+        (README, f" {version} "),
+        (CONTRIBUTING, f"`libzoned-{version}-linux-x86_64.tar.xz`"),
+        (CONTRIBUTING, f"`libzoned{abi}_{version}_amd64.deb`, `libzoned-dev_{version}_amd64.deb` and `zonedump_{version}_amd64.deb`"),
+        (CONTRIBUTING, f"`sahvumbi-{version}-*.whl`"),
         (TOP / "CHANGELOG.md", f"\n## {version} "),
     ]
 
@@ -543,7 +494,6 @@ FIRST_COMMANDS = {
     "answers a question": (r"\| \(cd crates/\w+ && rt try\)$", r"tools/try_documents\.py programs"),
     "runs all tests": (rf"^{re.escape(TESTS)}(?: \||$)", re.escape(TESTS)),
 }
-LONGEST_SENTENCE = 35
 
 
 def first_screen():
@@ -554,23 +504,6 @@ def first_screen():
             yield f"{shown(README)}: before its first heading is no command, with its output, that {does}"
         if not re.search(rf"(?m)^ *{step}$", text_of(GATE)):
             yield f"{shown(GATE)}: it doesn't run the command of README that {does}"
-
-
-def package_lines():
-    """The lines of README.md that make the Python package ready, which the gate tries as lines of python/README.md."""
-    tried = text_of(PACKAGE).splitlines()
-    for place, _, text in blocks(README, "sh"):
-        for line in text.splitlines():
-            if "python/" in line and not line.startswith("PYTHONPATH=") and line not in tried:
-                yield f"{shown(README, place)}: {shown(PACKAGE)} has no line: {line}"
-
-
-def long_sentences():
-    text = re.sub(r"<!--.*?-->", "", without_blocks(text_of(README)))
-    for part in re.split(r"\n\s*\n|\n(?=- )|\|", re.sub(r"!?\[([^\]]*)\]\([^)]*\)", r"\1", text)):
-        for sentence in re.split(r"(?<=[.!?])[)\"*]*\s+", part):
-            if len(sentence.split()) > LONGEST_SENTENCE:
-                yield f"{shown(README)}: a sentence of {len(sentence.split())} words: {' '.join(sentence.split())}"
 
 
 # Figures
@@ -617,10 +550,10 @@ def not_passed_on():
 
 
 CHECKS = [
-    links, merge_lines, stale_parts, contract_words, types_with_steps, unsafe_code, claims, own_memory_errors, planted_bugs,
+    links, merge_lines, stale_parts, contract_words, types_with_steps, claims, own_memory_errors, planted_bugs,
     wrong_definitions, unused_lemmas, unlisted_pages, modules_without_a_comment, not_passed_on, required_of_c, number_faults,
-    unknown_names, cited_calls, modules_of_map, names_of_man_page, scripts_by_hand, options_of_zonedump, table_of_crates,
-    untested_idioms, facts_of_documents, first_screen, package_lines, long_sentences, figure_faults, rattle_blocks,
+    unknown_names, cited_calls, modules_of_map, names_of_man_page, scripts_by_hand, options_of_zonedump,
+    untested_idioms, facts_of_documents, first_screen, figure_faults, rattle_blocks,
 ]
 
 

@@ -1,7 +1,7 @@
 #!/usr/bin/env python3
 """Leads from a sentence to its proof: the clauses that it cites, the definitions that they use, and what pins those.
 
-usage: tools/claim.py PAGE:LINE | 'CRATE::MODULE::FUNCTION' [CLAUSE ..]
+usage: tools/claim.py PAGE:LINE | 'CRATE::MODULE::FUNCTION' [CLAUSE ..] | WORD
        python3 -m doctest tools/claim.py
 
 PAGE is a document, such as PROVED or docs/PROVED.md; each clause that its line cites is shown. Or a function's path and clauses are
@@ -14,16 +14,19 @@ those that have one are listed. The second command checks this. For each clause 
 - the definitions that those use in turn, by their pages;
 - the command that proves the function, or each function of that name.
 
+WORD is a definition, such as IsWallAnswer: its text is printed with its meaning, its pins and what they reject, the definitions below it, and
+how many public clauses cite it, with the files that have the most. For a function's name alone its paths are listed.
+
 A pin is printed with a definition if its clauses cite it; pins of words below it bear on it too (tools/claim.py doesn't follow them).
 """
 
 import os
 import sys
-from collections import defaultdict
+from collections import Counter, defaultdict
 
 from check_headline import CITATION
-from definitions import below, clauses, pins_of, used_in
-from sources import TOP, crates, files, shown, text_of, without_comments
+from definitions import below, clauses, pins_of, text_of_definition, used_in, words
+from sources import TOP, crates, files, public_clauses, shown, text_of, without_comments
 from try_definitions import edits
 
 import re
@@ -80,16 +83,8 @@ def whole_path(path):
     return paths[0] if len(paths) == 1 else path
 
 
-def explain(path, names):
-    path = whole_path(path)
-    print(f"\n== {path}")
-    found = clauses(path, names)
-    if not found:
-        sys.exit("there is no such clause")
-    cited = {}
-    for clause in found:
-        print(f"{shown(clause.path, clause.place)}\n    {clause.text}")
-        cited |= used_in(clause.text, clause.imports)
+def show(cited):
+    """Prints definitions with what pins them, and the names of those that they use."""
     for key, word in sorted(cited.items(), key=lambda each: each[0][1].lower()):
         print(f"\n  {word.name}: {word.meaning or 'see its page'}\n    {shown(word.page, word.place)}")
         for pin, (source, place) in pins_of(key).items():
@@ -104,6 +99,35 @@ def explain(path, names):
     print(f"\n  More definitions that these use: {len(further) - len(cited)}. Pages in all: {len({page for page, _ in further})}.")
     for page, more in pages.items():
         print(f"    {shown(page)}: {', '.join(more)}")
+
+
+def explain_word(name):
+    """Prints the definitions of that name."""
+    found = {(page, name): words(page)[name] for page in files("specs", ".antt") if name in words(page)}
+    if not found:
+        functions = [path for crate in crates() for path in paths_of(crate, name)]
+        kits = f"no page of specs/ defines {name}; `rt lemma {name}`, in the folder of a crate, shows a word of the kit"
+        sys.exit("\n".join(["functions of that name:", *functions]) if functions else kits)
+    for key in found:
+        print(f"\n== {shown(key[0])}\n{text_of_definition(*key)}")
+    show(found)
+    places = Counter(shown(clause.path) for clause in public_clauses() if found.keys() & used_in(clause.text, clause.imports).keys())
+    print(f"\n  Public clauses that cite it: {sum(places.values())}")
+    for place, count in places.most_common(12):
+        print(f"    {place}: {count}")
+
+
+def explain(path, names):
+    path = whole_path(path)
+    print(f"\n== {path}")
+    found = clauses(path, names)
+    if not found:
+        sys.exit("there is no such clause")
+    cited = {}
+    for clause in found:
+        print(f"{shown(clause.path, clause.place)}\n    {clause.text}")
+        cited |= used_in(clause.text, clause.imports)
+    show(cited)
     crate, name = path.split("::")[0], path.split("::")[-1]
     if re.fullmatch(r"\w+", name):
         print(f"  To prove it again: (cd crates/{crate} && rt check --only {name})")
@@ -115,9 +139,9 @@ def main():
     if len(sys.argv) < 2 or sys.argv[1].startswith("-"):
         sys.exit(__doc__)
     for path, names in citations(sys.argv[1:]):
-        explain(path, names)
-    print("\nA function that is proved ends with `only=N proved=N`. The first check in a checkout also proves the libraries below its crate, which")
-    print("takes minutes: CONTRIBUTING.md says how many. A † marks a wrong definition that asks for less: the pin's proof no longer fits.")
+        explain(path, names) if "::" in path else explain_word(path)
+    print("\nA † marks a wrong definition that asks for less: the pin's proof no longer fits. A function that is proved ends with `only=N proved=N`.")
+    print("The first check in a checkout also proves the libraries below its crate, which takes minutes: CONTRIBUTING.md says how many.")
 
 
 if __name__ == "__main__":

@@ -3,14 +3,10 @@
 
 usage: tools/generate_documents.py
 
-- docs/INDEX.md: each word of specs/ that a public contract cites, other than a pin, with its page and its meaning, which is the comment
-  before its definition, or before that of several words.
-- docs/TRUSTED.md: the definitions, ghost members and `unsafe` code that a reader must trust (tools/trusted.py).
-- docs/DEFINITIONS.md: the wrong definitions that each pin rejects (tools/try_definitions.py).
+- docs/TRUSTED.md: the definitions and ghost members of the headline, the `unsafe` code, and what is used of the kit (tools/trusted.py).
 - docs/TESTING.md: a table of planted bugs and wrong definitions by crate, with how many functions they cover, and one of the tables of
   tools/comparing/peers.
-- docs/MAP.md: a table of crates, each with the libraries of crates.txt and the first sentence of its root.
-- docs/DIFFERENCES.md: the calls that chrono doesn't have (tools/own_calls.py).
+- docs/MAP.md: a table of crates, each with its README and the first sentence of its root.
 - docs/PROGRAMS.md: the error numbers 1 to 17 with the words of the comments of tz_info's `Error`.
 - docs/PYTHON.md: the calls about columns, each with the first sentence of its docstring.
 - README.md and docs/TESTING.md: how many tests, planted bugs and wrong definitions there are, and the last line that the tests print.
@@ -24,15 +20,16 @@ import re
 import crafted_files
 import trusted
 from comparing.peers import KNOWN, TABLES as PEERS
-from edits import PLANTED_BUGS, WRONG_DEFINITIONS, all_blocks, blocks
-from own_calls import own_calls
-from sources import TOP, cited, crates, files, public_clauses, module_of, text_of, uses, words_of
-from try_definitions import with_rejected
+from doc_examples import blocks as examples
+from edits import BUGS_TRIED, PLANTED_BUGS, WRONG_DEFINITIONS, all_blocks, blocks, rows as recorded
+from sources import TOP, cited, crates, files, public_clauses, module_of, text_of, words_of
+from try_definitions import PINNED
 from try_edits import bodies
+from unpinned import exceptions
 
-DEFINITIONS, INDEX, MAP = TOP / "docs/DEFINITIONS.md", TOP / "docs/INDEX.md", TOP / "docs/MAP.md"
+DEFINITIONS, MAP = TOP / "docs/DEFINITIONS.md", TOP / "docs/MAP.md"
 TRUSTED = TOP / "docs/TRUSTED.md"
-DIFFERENCES, PROGRAMS, PYTHON_PAGE = TOP / "docs/DIFFERENCES.md", TOP / "docs/PROGRAMS.md", TOP / "docs/PYTHON.md"
+PROGRAMS, PYTHON_PAGE = TOP / "docs/PROGRAMS.md", TOP / "docs/PYTHON.md"
 README, TESTING = TOP / "README.md", TOP / "docs/TESTING.md"
 ERROR = TOP / "crates/tz_base/src/error.rt"
 NUMBERS = TOP / "crates/tz_base/specs/Errors.antt"
@@ -48,7 +45,13 @@ def between(name, text, rows):
     return re.sub(rf"(?s)(<!-- {name} -->\n).*?(\n<!-- end -->)", lambda found: found[1] + "\n".join(rows) + found[2], text)
 
 
-# The index
+def with_parts(text, parts):
+    for name, rows in parts.items():
+        text = between(name, text, rows)
+    return text
+
+
+# Words of contracts
 
 
 def words_in_contracts():
@@ -60,36 +63,6 @@ def words_in_contracts():
             if (page, name) in words:
                 found.setdefault((page, name), (words[page, name], clause))
     return found
-
-
-def index_row(page, meaning, names):
-    words = ", ".join(f"`{name}`" for name in sorted(names, key=str.lower))
-    return f"| {words} | {label(page)} | {meaning.replace('|', '/')} |"
-
-
-def label(page):
-    _, crate, _, *inside = page.split(".")
-    return f"[`{crate}` `{'/'.join(inside)}`]"
-
-
-def target(page):
-    _, crate, _, *inside = page.split(".")
-    return f"{label(page)}: ../crates/{crate}/specs/{'/'.join(inside)}.antt"
-
-
-def index():
-    words = {}
-    for (page, name), (word, _) in words_in_contracts().items():
-        if ".Steps" not in page and ".pins." not in page:
-            words.setdefault((page, word.meaning), []).append(name)
-    rows = [index_row(*group, names) for group, names in words.items()]
-    targets = sorted({target(page) for page, _ in words})
-    head = (
-        "# Index of the words that contracts cite\n\nEach word with its page and the comment above its definition. "
-        "[DEFINITIONS](DEFINITIONS.md) explains the most important ones, with their worked examples; `tools/claim.py` shows the definitions "
-        "that a clause uses. (`tools/generate_documents.py` makes this page.)\n\n| word | page | means |\n|---|---|---|\n"
-    )
-    return head + "\n".join([*sorted(rows, key=str.lower), "", *targets]) + "\n"
 
 
 # Planted bugs
@@ -121,10 +94,9 @@ def planted():
     rows["all"] = tuple(map(sum, zip(*rows.values())))
     table = [f"| {crate if crate == 'all' else f'`{crate}`'} | {' | '.join(f'{count:,}' for count in row)} |" for crate, row in rows.items()]
     return "\n".join([
-        PLANTED, f"A planted bug is a block of its crate's `{PLANTED_BUGS}`; the gate tries those with the line `in: the gate`, and a tenth of the others.",
-        "Of those with a line `listed:` only a hand-written part of the proof fails; the line says why. A wrong definition is one of the",
-        f"`{WRONG_DEFINITIONS}` of the crate whose page it changes; the gate tries a tenth of them. *Functions* are those with a clause of their own,",
-        "and *covered* those of them that some planted bug changes.\n",
+        PLANTED, f"The bugs are in `{PLANTED_BUGS}` of each crate, the wrong definitions in `{WRONG_DEFINITIONS}` of the crate whose page they change.",
+        "*Functions* are those with a clause of their own, *covered* those of them that some planted bug changes. *Listed* are bugs with a line",
+        "`listed:`, which says why no more than a hand-written part of the proof may fail.\n",
         "| crate | functions | covered | in the gate | by hand | listed | wrong definitions |", "|---|--:|--:|--:|--:|--:|--:|", *table, ""
     ])
 
@@ -157,13 +129,15 @@ def head_of(path):
 
 
 def with_crates(text):
-    """The map with a row for each crate: its name, the libraries that it uses, and what its root says first."""
+    """The map with a row for each crate: its name, and what its root says first."""
 
     def row(crate):
         root = next(path for path in (TOP / "crates" / crate / "src" / name for name in ("lib.rt", "main.rt")) if path.exists())
-        return f"| `{crate}` | {', '.join(f'`{library}`' for library in uses()[crate]) or 'std'} | {head_of(root)} |"
+        readme = TOP / "crates" / crate / "README.md"
+        name = f"[`{crate}`](../{readme.relative_to(TOP)})" if readme.exists() else f"`{crate}`"
+        return f"| {name} | {head_of(root)} |"
 
-    return between("crates", text, ["| crate | uses | is |", "|---|---|---|", *map(row, crates())])
+    return between("crates", text, ["| crate | is |", "|---|---|", *map(row, crates())])
 
 
 # Error numbers
@@ -226,13 +200,25 @@ def byte_changes():
     return len(made), sum(old != new for old, new in made)
 
 
+def own_pins():
+    """The pins below a definition whose source begins with "own": a form, a limit or a number that no standard has."""
+    return [pin for names, says in PINNED.findall(text_of(DEFINITIONS)) if "(own " in says for pin in names.split(", ")]
+
+
 def counts():
     """The words after the number, at the start of a row or in bold: `| 468 | tests in Rattle ..`, `**468** tests in Rattle ..`."""
     pins = [*files("src", ".rt", ["tests_pins"]), TOP / "crates/zoned_ffi/src/pins.rt"]
     bugs = all_blocks(PLANTED_BUGS)
+    tried, refuted, still_open, listed = (sum(int(row[column]) for row in recorded(BUGS_TRIED).values()) for column in (1, 2, 3, 4))
     return {
-        "tests in Rattle": how_often(r"(?m)^#\[test\]$", files("tests", ".txt")),
+        "tests in Rattle": how_often(r"(?m)^#\[test\]$", files("tests", ".txt")) + sum(1 for crate in crates() for _ in examples(crate)),
         "worked examples": how_often(r"(?m)^pub fn ", pins),
+        "of these": how_often(r"(?m)^pub fn ", pins) - len(own_pins()),
+        "words of public contracts without a pin": len(exceptions()),
+        "tried in": tried,
+        "refuted": refuted,
+        "open": still_open,
+        "listed": listed,
         "planted bugs in the gate": sum(block.is_in_gate for block in bugs),
         "planted bugs in all": len(bugs),
         "wrong definitions": len(all_blocks(WRONG_DEFINITIONS)),
@@ -265,12 +251,9 @@ def generated():
     """Each page that has generated parts, with its text as it is due."""
     testing = text_of(TESTING)
     return {
-        INDEX: index(),
-        TRUSTED: trusted.page(),
-        DEFINITIONS: with_rejected(text_of(DEFINITIONS)),
+        TRUSTED: with_parts(text_of(TRUSTED), trusted.parts()),
         TESTING: with_counts(with_peers(testing[: testing.find(PLANTED)] + planted())),
         MAP: with_crates(text_of(MAP)),
-        DIFFERENCES: between("own calls", text_of(DIFFERENCES), ["| crate | type or trait | calls |", "|---|---|---|", *own_calls()]),
         PROGRAMS: with_numbers(text_of(PROGRAMS)),
         PYTHON_PAGE: with_calls(text_of(PYTHON_PAGE)),
         README: LAST_OF_TESTS.sub(last_of_tests(), with_counts(text_of(README))),

@@ -1,4 +1,4 @@
-/* What zoned_ffi.h says of sizes, places and numbers, compared with the archive. The assertions are tried when this file is
+/* What zoned_ffi.h says of numbers and answers, compared with the archive. The assertions are tried when this file is
    compiled, and fail if the header says something else than the callers of today were built with. The program is linked
    with the archive and asks it: the numbers and the places that the archive writes are those of the header. With -DOWN_HEAP
    the library takes its memory by the three functions below, and not by those of the kit. It prints nothing and ends with 0,
@@ -10,52 +10,17 @@
 #include <stdlib.h>
 #include <string.h>
 
-_Static_assert(sizeof(zoned_wall_clock) == 32, "the size of the struct");
-_Static_assert(_Alignof(zoned_wall_clock) == 8, "the alignment of the struct");
-_Static_assert(offsetof(zoned_wall_clock, shown) == 0, "the place of shown");
-_Static_assert(offsetof(zoned_wall_clock, first_offset) == 4, "the place of first_offset");
-_Static_assert(offsetof(zoned_wall_clock, last_offset) == 8, "the place of last_offset");
-_Static_assert(offsetof(zoned_wall_clock, first) == 16, "the place of first");
-_Static_assert(offsetof(zoned_wall_clock, last) == 24, "the place of last");
-
 _Static_assert(sizeof(struct zoned_zone) == sizeof(void *), "the size of a handle");
-_Static_assert(sizeof(zoned_local_type) == 16 && _Alignof(zoned_local_type) == 4, "the size of a type");
-_Static_assert(offsetof(zoned_local_type, offset) == 0, "the place of the type's offset");
-_Static_assert(offsetof(zoned_local_type, is_dst) == 4, "the place of is_dst");
-_Static_assert(offsetof(zoned_local_type, abbreviation) == 8, "the place of abbreviation");
-_Static_assert(sizeof(zoned_resolved) == 16 && _Alignof(zoned_resolved) == 8, "the size of a resolved local time");
-_Static_assert(offsetof(zoned_resolved, number) == 0, "the place of number");
-_Static_assert(offsetof(zoned_resolved, offset) == 4, "the place of the resolved offset");
-_Static_assert(offsetof(zoned_resolved, instant) == 8, "the place of instant");
 
 _Static_assert(ZONED_FILE == 0 && ZONED_TEXT == 1 && ZONED_EXTENDED_STRING == 2, "the kinds");
 _Static_assert(ZONED_OK == 0 && ZONED_UNKNOWN_KIND == 31 && ZONED_OTHER_SIZE == 32, "the numbers of a call");
-_Static_assert(sizeof(zoned_change) == 40 && _Alignof(zoned_change) == 8, "the size of a change");
-_Static_assert(offsetof(zoned_change, at) == 0, "the place of at");
-_Static_assert(offsetof(zoned_change, before) == 8, "the place of the type before");
-_Static_assert(offsetof(zoned_change, after) == 24, "the place of the type after");
-_Static_assert(sizeof(zoned_local_info) == 72 && _Alignof(zoned_local_info) == 8, "the size of an info");
-_Static_assert(offsetof(zoned_local_info, shown) == 0 && offsetof(zoned_local_info, first) == 8, "the places of an info");
-_Static_assert(offsetof(zoned_local_info, last) == 40, "the place of the last span");
-_Static_assert(sizeof(zoned_span) == 32 && _Alignof(zoned_span) == 8, "the size of a span");
-_Static_assert(offsetof(zoned_span, from) == 0 && offsetof(zoned_span, until) == 8, "the places of a span's ends");
-_Static_assert(offsetof(zoned_span, local_type) == 16, "the place of a span's type");
-_Static_assert(sizeof(zoned_saving) == 16 && _Alignof(zoned_saving) == 8, "the size of the parts of an offset");
-_Static_assert(offsetof(zoned_saving, standard_offset) == 0 && offsetof(zoned_saving, amount) == 8, "the places of these parts");
 _Static_assert(ZONED_UNKNOWN_UNIT == 36 && ZONED_NO_LOCAL_TIME == 37, "other numbers of a call");
 _Static_assert(ZONED_NO_DATE_TIME == 39 && ZONED_WIDE_ZONE == 40, "numbers of dates and offsets");
 _Static_assert(ZONED_NO_SUCH_ZONE == 45 && ZONED_UNREADABLE_FILE == 46, "numbers of names");
 _Static_assert(ZONED_UNKNOWN_STEP == 47 && ZONED_ABOVE_LIMITS == 48, "the numbers of no step and of a file above the limits");
 _Static_assert(ZONED_STEP_MINUTE == 60 && ZONED_STEP_HOUR == 3600 && ZONED_STEP_DAY == 86400, "steps of seconds");
 _Static_assert(ZONED_STEP_WEEK == 100000 && ZONED_STEP_MONTH == 200000 && ZONED_STEP_YEAR == 300000, "other steps");
-_Static_assert(sizeof(zoned_day) == 24 && _Alignof(zoned_day) == 8, "the size of a day");
-_Static_assert(offsetof(zoned_day, date) == 0 && offsetof(zoned_day, begin) == 8 && offsetof(zoned_day, end) == 16, "the places of a day");
 _Static_assert(sizeof(enum zoned_number) == 4, "the size of a number");
-_Static_assert(sizeof(zoned_fields) == 32 && _Alignof(zoned_fields) == 4, "the size of fields");
-_Static_assert(offsetof(zoned_fields, year) == 0 && offsetof(zoned_fields, month) == 4, "the places of the year and the month");
-_Static_assert(offsetof(zoned_fields, day) == 8 && offsetof(zoned_fields, hour) == 12, "the places of the day and the hour");
-_Static_assert(offsetof(zoned_fields, minute) == 16 && offsetof(zoned_fields, second) == 20, "the places of minute and second");
-_Static_assert(offsetof(zoned_fields, weekday) == 24 && offsetof(zoned_fields, day_of_year) == 28, "the places of the calendar's");
 _Static_assert(ZONED_NOT_OPEN == 33 && ZONED_UNKNOWN_CHOICE == 34 && ZONED_NO_CHANGE == 35, "the numbers of a call by handle");
 _Static_assert(ZONED_OTHER_TYPE_INDEX == 41 && ZONED_OTHER_TRANSITION_TIMES == 42, "faults of lists");
 _Static_assert(ZONED_OTHER_LEAP_SECONDS == 43 && ZONED_OTHER_RULE == 44, "faults of lists");
@@ -81,6 +46,19 @@ static int differences = 0;
             differences++;                                                                                     \
         }                                                                                                      \
     } while (0)
+
+/* Compares a struct without padding with what it is due to be. */
+#define SHOWS(given, ...)                                                                                      \
+    do {                                                                                                       \
+        const __typeof__(given) due = {__VA_ARGS__};                                                           \
+        if (memcmp(&(given), &due, sizeof due)) {                                                              \
+            fprintf(stderr, "header_pins.c:%d: %s is not {%s}\n", __LINE__, #given, #__VA_ARGS__);             \
+            differences++;                                                                                     \
+        }                                                                                                      \
+    } while (0)
+
+#define EST {-18000, 0, "EST"}
+#define EDT {-14400, 1, "EDT"}
 
 #ifdef OWN_HEAP
 /* How many blocks the library has, and how often it asked for one. */
@@ -203,9 +181,7 @@ int main(void) {
     struct zoned_zone zone = {0};
     IS(zoned_open(ZONED_TEXT, NEW_YORK, LEN, &zone), ZONED_OK);
     IS(zoned_zone_offsets(&zone, instants, 3, offsets, 3), ZONED_OK);
-    IS(offsets[0], -18000);
-    IS(offsets[1], -14400);
-    IS(offsets[2], ZONED_NO_OFFSET);
+    SHOWS(offsets, -18000, -14400, ZONED_NO_OFFSET);
 
     const int32_t told[12] = {ZONED_NEVER, 0,      0,      ZONED_SEVERAL_TIMES, -14400, -18000,
                               ZONED_ONCE,  -18000, -18000, ZONED_OUT_OF_RANGE,  0,      0};
@@ -262,46 +238,29 @@ int main(void) {
     IS(offset, -14400);
     zoned_local_type types[3];
     IS(zoned_zone_types(&zone, instants, 3, types, 3), ZONED_OK);
-    IS(types[0].offset, -18000);
-    IS(types[0].is_dst, 0);
-    IS(memcmp(types[0].abbreviation, "EST\0\0\0\0", 8), 0);
-    IS(types[1].is_dst, 1);
-    IS(memcmp(types[1].abbreviation, "EDT\0\0\0\0", 8), 0);
-    IS(types[2].offset, ZONED_NO_OFFSET);
-    IS(memcmp(types[2].abbreviation, "\0\0\0\0\0\0\0", 8), 0);
+    SHOWS(types, EST, EDT, {ZONED_NO_OFFSET, 0, ""});
     zoned_resolved taken[4];
     const uint32_t numbers[4] = {ZONED_IN_GAP, ZONED_IN_FOLD, ZONED_OK, ZONED_INSTANT_OUT_OF_RANGE};
     IS(zoned_zone_instants(&zone, ZONED_GAP_REFUSE, ZONED_FOLD_REFUSE, LOCALS, 4, taken, 4), ZONED_OK);
     for (int i = 0; i < 4; i++) IS(taken[i].number, numbers[i]);
     IS(taken[2].instant, 1636304400);
     IS(zoned_zone_instants(&zone, ZONED_GAP_SHIFT_FORWARD, ZONED_FOLD_EARLIEST, LOCALS, 4, taken, 4), ZONED_OK);
-    IS(taken[0].instant, 1615707000);
-    IS(taken[0].offset, -14400);
-    IS(taken[1].instant, 1636263000);
-    IS(taken[1].offset, -14400);
+    SHOWS(taken[0], ZONED_OK, -14400, 1615707000);
+    SHOWS(taken[1], ZONED_OK, -14400, 1636263000);
     IS(zoned_zone_instant(&zone, ZONED_GAP_REFUSE, ZONED_FOLD_LATEST, LOCALS[1], taken), ZONED_OK);
-    IS(taken[0].instant, 1636266600);
-    IS(taken[0].offset, -18000);
+    SHOWS(taken[0], ZONED_OK, -18000, 1636266600);
     IS(zoned_zone_instant(&zone, ZONED_GAP_NO_TIME, ZONED_FOLD_LATEST, LOCALS[1], taken), ZONED_UNKNOWN_CHOICE);
     IS(zoned_zone_instant(&zone, ZONED_GAP_REFUSE, ZONED_FOLD_NO_TIME, LOCALS[1], taken), ZONED_UNKNOWN_CHOICE);
     IS(zoned_zone_instant(&zone, ZONED_GAP_END, ZONED_FOLD_REFUSE, LOCALS[0], taken), ZONED_OK);
-    IS(taken[0].instant, 1615705200);
-    IS(taken[0].offset, -14400);
+    SHOWS(taken[0], ZONED_OK, -14400, 1615705200);
     IS(zoned_zone_instant(&zone, ZONED_GAP_SHIFT_BACKWARD, ZONED_FOLD_REFUSE, LOCALS[0], taken), ZONED_OK);
-    IS(taken[0].instant, 1615703400);
-    IS(taken[0].offset, -18000);
+    SHOWS(taken[0], ZONED_OK, -18000, 1615703400);
     /* The change of the gap, with both its sides, and that of the fold; noon; out of range. */
     zoned_change around;
     IS(zoned_zone_local_change(&zone, LOCALS[0], &around), ZONED_OK);
-    IS(around.at, 1615705200);
-    IS(around.before.offset, -18000);
-    IS(memcmp(around.before.abbreviation, "EST\0\0\0\0", 8), 0);
-    IS(around.after.offset, -14400);
-    IS(around.after.is_dst, 1);
+    SHOWS(around, 1615705200, EST, EDT);
     IS(zoned_zone_local_change(&zone, LOCALS[1], &around), ZONED_OK);
-    IS(around.at, 1636264800);
-    IS(around.before.offset, -14400);
-    IS(around.after.offset, -18000);
+    SHOWS(around, 1636264800, EDT, EST);
     IS(zoned_zone_local_change(&zone, LOCALS[2], &around), ZONED_NO_CHANGE);
     IS(zoned_zone_local_change(&zone, LOCALS[3], &around), ZONED_INSTANT_OUT_OF_RANGE);
     IS(around.at, 1636264800);
@@ -315,8 +274,7 @@ int main(void) {
         IS(info.first.from, first_from[i]);
         IS(info.last.from, last_from[i]);
     }
-    IS(info.last.until, 1647154800);
-    IS(memcmp(info.last.local_type.abbreviation, "EST\0\0\0\0", 8), 0);
+    SHOWS(info.last, 1636264800, 1647154800, EST);
     IS(zoned_zone_local_info(&zone, LOCALS[3], &info), ZONED_INSTANT_OUT_OF_RANGE);
     IS(info.shown, ZONED_ONCE);
     /* The rule's string, with room and without. */
@@ -337,12 +295,8 @@ int main(void) {
     memset(changes, 0x55, sizeof changes);
     IS(zoned_zone_changes(&zone, 1615705200, 1647154801, SIZE_MAX, changes, 2, &count), ZONED_OK);
     IS(count, 3);
-    IS(changes[0].at, 1615705200);
-    IS(changes[0].before.offset, -18000);
-    IS(changes[0].after.offset, -14400);
-    IS(changes[0].after.is_dst, 1);
-    IS(changes[1].at, 1636264800);
-    IS(memcmp(changes[1].after.abbreviation, "EST\0\0\0\0", 8), 0);
+    SHOWS(changes[0], 1615705200, EST, EDT);
+    SHOWS(changes[1], 1636264800, EDT, EST);
     IS(changes[2].at, 0x5555555555555555);
     IS(zoned_zone_changes(&zone, 1615705201, 1636264800, SIZE_MAX, changes, 3, &count), ZONED_OK);
     IS(count, 0);
@@ -360,9 +314,7 @@ int main(void) {
     IS(next.at, 67767976165557600);
     /* Its changes change the offset, too. Those of AAA0BBB0,J60,J300 never do, whichever of them is asked for. */
     IS(zoned_zone_next_offset_change(&zone, 1615705199, &next), ZONED_OK);
-    IS(next.at, 1615705200);
-    IS(next.before.offset, -18000);
-    IS(next.after.offset, -14400);
+    SHOWS(next, 1615705200, EST, EDT);
     IS(zoned_zone_previous_offset_change(&zone, 1615705199, &next), ZONED_OK);
     IS(next.at, 1604210400);
     IS(zoned_zone_next_offset_change(&zone, 67767976165557600, &next), ZONED_NO_CHANGE);
@@ -376,42 +328,31 @@ int main(void) {
     /* The spans around 2021-03-14 07:00:00 UTC; the last one of the rule; a second without a type. */
     zoned_span span;
     IS(zoned_zone_span(&zone, 1615705199, &span), ZONED_OK);
-    IS(span.from, 1604210400);
-    IS(span.until, 1615705200);
-    IS(span.local_type.offset, -18000);
-    IS(memcmp(span.local_type.abbreviation, "EST\0\0\0\0", 8), 0);
+    SHOWS(span, 1604210400, 1615705200, EST);
     IS(zoned_zone_span(&zone, 1615705200, &span), ZONED_OK);
-    IS(span.from, 1615705200);
-    IS(span.until, 1636264800);
-    IS(span.local_type.is_dst, 1);
+    SHOWS(span, 1615705200, 1636264800, EDT);
     IS(zoned_zone_span(&zone, 67767976165557600, &span), ZONED_OK);
-    IS(span.from, 67767976165557600);
-    IS(span.until, 67767976170460800);
+    SHOWS(span, 67767976165557600, 67767976170460800, EST);
     IS(zoned_zone_span(&zone, 67767976170460800, &span), ZONED_NO_LOCAL_TIME);
     IS(zoned_zone_span(&zone, INT64_MAX, &span), ZONED_NO_LOCAL_TIME);
     IS(span.from, 67767976165557600);
     /* Daylight saving time adds an hour to standard time, which is 5 hours behind UTC. */
     zoned_saving saving;
     IS(zoned_zone_standard_offset(&zone, 1615705200, &saving), ZONED_OK);
-    IS(saving.standard_offset, -18000);
-    IS(saving.amount, 3600);
+    SHOWS(saving, -18000, 3600);
     IS(zoned_zone_standard_offset(&zone, 67767976170460800, &saving), ZONED_NO_LOCAL_TIME);
     IS(saving.amount, 3600);
     IS(zoned_zone_standard_offset(&zone, 1615705199, &saving), ZONED_OK);
-    IS(saving.standard_offset, -18000);
-    IS(saving.amount, 0);
+    SHOWS(saving, -18000, 0);
     /* In the gap and in the fold, at noon, and out of range. */
     const int64_t reached[3] = {1615705200, 1636263000, 1636304400};
     const int32_t offsets_there[3] = {-14400, -14400, -18000};
     for (int i = 0; i < 3; i++) {
         IS(zoned_zone_first_at_or_after(&zone, LOCALS[i], taken), ZONED_OK);
-        IS(taken[0].number, ZONED_OK);
-        IS(taken[0].instant, reached[i]);
-        IS(taken[0].offset, offsets_there[i]);
+        SHOWS(taken[0], ZONED_OK, offsets_there[i], reached[i]);
     }
     IS(zoned_zone_first_at_or_after(&zone, LOCALS[3], taken), ZONED_OK);
-    IS(taken[0].number, ZONED_INSTANT_OUT_OF_RANGE);
-    IS(taken[0].instant, 0);
+    SHOWS(taken[0], ZONED_INSTANT_OUT_OF_RANGE, 0, 0);
     IS(zoned_zone_firsts_at_or_after(&zone, LOCALS, 4, taken, 4), ZONED_OK);
     for (int i = 0; i < 3; i++) IS(taken[i].instant, reached[i]);
     IS(taken[3].number, ZONED_INSTANT_OUT_OF_RANGE);
@@ -423,33 +364,16 @@ int main(void) {
     IS(zoned_zone_fields(&zone, 8210266876800 + 18000, &fields), ZONED_INSTANT_OUT_OF_RANGE);
     IS(fields.year, 0x55555555);
     IS(zoned_zone_fields(&zone, 1615705200, &fields), ZONED_OK);
-    IS(fields.year, 2021);
-    IS(fields.month, 3);
-    IS(fields.day, 14);
-    IS(fields.hour, 3);
-    IS(fields.minute, 0);
-    IS(fields.second, 0);
-    IS(fields.weekday, 0);
-    IS(fields.day_of_year, 73);
+    SHOWS(fields, 2021, 3, 14, 3, 0, 0, 0, 73);
     /* The last second of 1969 and of the leap year 2000, and the ends of the range. */
     IS(zoned_fields_of(-1, &fields), ZONED_OK);
-    IS(fields.year, 1969);
-    IS(fields.month, 12);
-    IS(fields.day, 31);
-    IS(fields.hour, 23);
-    IS(fields.minute, 59);
-    IS(fields.second, 59);
-    IS(fields.weekday, 3);
-    IS(fields.day_of_year, 365);
+    SHOWS(fields, 1969, 12, 31, 23, 59, 59, 3, 365);
     IS(zoned_fields_of(978307199, &fields), ZONED_OK);
-    IS(fields.year, 2000);
-    IS(fields.weekday, 0);
-    IS(fields.day_of_year, 366);
+    SHOWS(fields, 2000, 12, 31, 23, 59, 59, 0, 366);
     IS(zoned_fields_of(8210266876799, &fields), ZONED_OK);
-    IS(fields.year, 262142);
+    SHOWS(fields, 262142, 12, 31, 23, 59, 59, 1, 365);
     IS(zoned_fields_of(-8334601228800, &fields), ZONED_OK);
-    IS(fields.year, -262143);
-    IS(fields.day_of_year, 1);
+    SHOWS(fields, -262143, 1, 1, 0, 0, 0, 4, 1);
     IS(zoned_fields_of(8210266876800, &fields), ZONED_INSTANT_OUT_OF_RANGE);
     IS(zoned_fields_of(-8334601228801, &fields), ZONED_INSTANT_OUT_OF_RANGE);
     IS(fields.year, -262143);
@@ -488,9 +412,7 @@ int main(void) {
     IS(zoned_column_locals(&zone, 60, column, 3, locals, 3, &row), ZONED_UNKNOWN_UNIT);
     IS(locals[0], 77);
     IS(zoned_column_locals(&zone, 1000, column, 3, locals, 3, &row), ZONED_OK);
-    IS(locals[0], 1615687199999);
-    IS(locals[1], 1615690800000);
-    IS(locals[2], ZONED_NO_TIME);
+    SHOWS(locals, 1615687199999, 1615690800000, ZONED_NO_TIME, 77);
     IS(row, 77);
     IS(zoned_column_locals(&zone, 1000, column, 4, locals, 4, &row), ZONED_NO_LOCAL_TIME);
     IS(row, 3);
@@ -505,25 +427,19 @@ int main(void) {
     IS(zoned_column_instants(&zone, ZONED_GAP_END, ZONED_FOLD_LATEST, 1000, shown, 4, times, 3, &row), ZONED_OTHER_SIZE);
     IS(times[0], 77);
     IS(zoned_column_instants(&zone, ZONED_GAP_END, ZONED_FOLD_LATEST, 1000, shown, 3, times, 3, &row), ZONED_OK);
-    IS(times[0], 1615705200000);
-    IS(times[1], 1636266600500);
-    IS(times[2], ZONED_NO_TIME);
+    SHOWS(times, 1615705200000, 1636266600500, ZONED_NO_TIME, 77);
     IS(row, 77);
     IS(zoned_column_instants(&zone, ZONED_GAP_SHIFT_FORWARD, ZONED_FOLD_EARLIEST, 1000, shown, 3, times, 3, &row), ZONED_OK);
-    IS(times[0], 1615707000500);
-    IS(times[1], 1636263000500);
+    SHOWS(times, 1615707000500, 1636263000500, ZONED_NO_TIME, 77);
     IS(zoned_column_instants(&zone, ZONED_GAP_SHIFT_BACKWARD, ZONED_FOLD_LATEST, 1000, shown, 3, times, 3, &row), ZONED_OK);
-    IS(times[0], 1615703400500);
-    IS(times[1], 1636266600500);
+    SHOWS(times, 1615703400500, 1636266600500, ZONED_NO_TIME, 77);
     IS(zoned_column_instants(&zone, ZONED_GAP_REFUSE, ZONED_FOLD_LATEST, 1000, shown + 1, 3, times + 1, 3, &row), ZONED_IN_GAP);
     IS(row, 2);
     IS(times[1], 1636266600500);
     IS(times[3], 77);
     row = 77;
     IS(zoned_column_instants(&zone, ZONED_GAP_NO_TIME, ZONED_FOLD_LATEST, 1000, shown, 4, times, 4, &row), ZONED_OK);
-    IS(times[0], ZONED_NO_TIME);
-    IS(times[1], 1636266600500);
-    IS(times[3], ZONED_NO_TIME);
+    SHOWS(times, ZONED_NO_TIME, 1636266600500, ZONED_NO_TIME, ZONED_NO_TIME);
     IS(row, 77);
     IS(zoned_column_instants(&zone, ZONED_GAP_REFUSE, ZONED_FOLD_NO_TIME, 1000, shown + 1, 3, times + 1, 3, &row), ZONED_IN_GAP);
     IS(times[1], ZONED_NO_TIME);
@@ -532,7 +448,7 @@ int main(void) {
     /* A wrong count is reported, and nothing is written. */
     int32_t guarded[4] = {77, 77, 77, 77};
     IS(zoned_zone_offsets(&zone, instants, 3, guarded + 1, 2), ZONED_OTHER_SIZE);
-    for (int i = 0; i < 4; i++) IS(guarded[i], 77);
+    SHOWS(guarded, 77, 77, 77, 77);
     /* Clocks have reached 01:59:59 on the second pass. */
     int64_t clock_at = 77;
     IS(zoned_zone_reached(&zone, 1636266600, &clock_at), ZONED_OK);
@@ -543,9 +459,7 @@ int main(void) {
     const int64_t floors[] = {1636261200, 1636257600, 1636257600, 1635739200, 1635739200, 1609477200, 1636263900};
     const int64_t ceils[] = {1636268400, 1636347600, 1636866000, 1636347600, 1638334800, 1641013200, 1636268400};
     IS(zoned_zone_day(&zone, 1636266600, &day), ZONED_OK);
-    IS(day.date, 1636243200);
-    IS(day.begin, 1636257600);
-    IS(day.end, 1636347600);
+    SHOWS(day, 1636243200, 1636257600, 1636347600);
     IS(zoned_zone_day(&zone, 8210266876800, &day), ZONED_INSTANT_OUT_OF_RANGE);
     IS(zoned_zone_floor(&zone, ZONED_STEP_HOUR, 8210266876800, &clock_at), ZONED_INSTANT_OUT_OF_RANGE);
     IS(day.end, 1636347600);
@@ -569,8 +483,7 @@ int main(void) {
     IS(zoned_column_floors(&zone, ZONED_STEP_HOUR, 1000, asked, 2, found, 3, &row), ZONED_OTHER_SIZE);
     IS(found[0], 77);
     IS(zoned_column_floors(&zone, ZONED_STEP_HOUR, 1000, asked, 2, found, 2, &row), ZONED_OK);
-    IS(found[0], 1636268400000);
-    IS(found[1], ZONED_NO_TIME);
+    SHOWS(found, 1636268400000, ZONED_NO_TIME, 77);
     IS(zoned_column_ceils(&zone, ZONED_STEP_HOUR, 1000, asked, 2, found, 2, &row), ZONED_OK);
     IS(found[0], 1636272000000);
     IS(row, 77);
@@ -582,17 +495,13 @@ int main(void) {
     static const char ST_JOHNS[] = "NST3:30NDT,M3.2.0/0:01,M11.1.0/0:01";
     IS(zoned_open(ZONED_TEXT, ST_JOHNS, sizeof ST_JOHNS - 1, &zone), ZONED_OK);
     IS(zoned_zone_day(&zone, 1289097120, &day), ZONED_OK);
-    IS(day.date, 1289088000);
-    IS(day.begin, 1289097000);
-    IS(day.end, 1289187000);
+    SHOWS(day, 1289088000, 1289097000, 1289187000);
     IS(zoned_zone_floor(&zone, ZONED_STEP_DAY, 1289097120, &clock_at), ZONED_OK);
     IS(clock_at, 1289097000);
     /* A fixed offset: Nepal's; one of a day, whose clocks are too far ahead for that; and one that no zone has. */
     IS(zoned_open_fixed(20700, &zone), ZONED_OK);
     IS(zoned_zone_type(&zone, 0, types), ZONED_OK);
-    IS(types[0].offset, 20700);
-    IS(types[0].is_dst, 0);
-    IS(types[0].abbreviation[0], 0);
+    SHOWS(types[0], 20700, 0, "");
     IS(zoned_open_fixed(INT32_MIN, &zone), ZONED_LOCAL_TIME_TYPE);
     IS(zoned_open_fixed(86400, &zone), ZONED_OK);
     IS(zoned_zone_reached(&zone, 0, &clock_at), ZONED_WIDE_ZONE);

@@ -3,10 +3,10 @@
 # zonedConfig.cmake for CMake, the man page zoned(3), the licences and the examples; and the programs zonedump and zoneq, if they are
 # built, with their man pages and completions. It prints what it has installed.
 #
-# usage: [PREFIX=/usr/local] [DESTDIR=] [LIBDIR=lib] [INCLUDEDIR=include] [BINDIR=bin] [MANDIR=share/man] [DOCDIR=share/doc/zoned] tools/install.sh [--uninstall]
+# usage: [PREFIX=/usr/local] [DESTDIR=] [LIBDIR=lib] [INCLUDEDIR=include] [BINDIR=bin] [MANDIR=share/man] [DOCDIR=share/doc/zoned] tools/install.sh [--uninstall | --manual]
 #
 # A folder is below PREFIX unless it begins with /: LIBDIR=lib/x86_64-linux-gnu is Debian's. --uninstall removes what the script
-# installs under the same settings.
+# installs under the same settings. --manual only prints the page zoned(3): tools/install.sh --manual | man -l -
 #
 # It needs crates/zoned_ffi/out/libzoned_ffi.a, which `rt lib` builds in crates/zoned_ffi, the kit's c/liblibc_c.a, a C compiler
 # and binutils. ARCHIVE and HEAP name other files in place of the two archives: HEAP one that defines rattle_alloc,
@@ -18,6 +18,7 @@ set -eu
 case "$*" in
 '') action=put ;;
 --uninstall) action=take ;;
+--manual) action=print ;;
 *) sed -n 's/^# usage: /usage: /p' "$0" >&2; exit 2 ;;
 esac
 top=$(CDPATH='' cd -- "$(dirname -- "$0")/.." && pwd)
@@ -37,6 +38,20 @@ trap 'rm -rf "$work"' EXIT
 
 # needs PROGRAM HOW: ends unless there is that program.
 needs() { command -v "$1" >/dev/null || { echo "install.sh needs $1$2" >&2; exit 1; }; }
+
+# Writes the man page, which has a section for each call, from the comments of the headers.
+manual() {
+    awk -f "$crate/install/man_page.awk" "$crate/include/zoned.h" "$header" >"$work/sections"
+    sed "/^@CALLS@\$/{
+r $work/sections
+d
+}; s|@VERSION@|$version|; s|@DOCDIR@|$docdir|" "$crate/install/zoned.3" >"$work/zoned.3"
+}
+if [ "$action" = print ]; then
+    manual
+    cat "$work/zoned.3"
+    exit
+fi
 
 # calls_of ARCHIVE: the calls that it defines.
 calls_of() {
@@ -126,13 +141,8 @@ write 644 "$crate/install/zoned.pc" "$libdir/pkgconfig" zoned.pc
 variable=zoned_PREFIX
 write 644 "$crate/install/zonedConfig.cmake" "$libdir/cmake/zoned" zonedConfig.cmake
 write 644 "$crate/install/zonedConfigVersion.cmake" "$libdir/cmake/zoned" zonedConfigVersion.cmake
-# The man page has a section for each call, from the comments of the headers.
-awk -f "$crate/install/man_page.awk" "$crate/include/zoned.h" "$header" >"$work/sections"
-sed "/^@CALLS@\$/{
-r $work/sections
-d
-}; s|@DOCDIR@|$docdir|" "$crate/install/zoned.3" >"$work/zoned.3"
-write 644 "$work/zoned.3" "$mandir/man3" zoned.3
+manual
+"$action" 644 "$work/zoned.3" "$mandir/man3" zoned.3
 sed -n 's/^\.SS \(zoned_.*\)/\1/p' "$work/sections" | tr -d ' ' | tr , '\n' >"$work/pages"
 while read -r name; do
     echo '.so man3/zoned.3' >"$work/so"

@@ -5,7 +5,7 @@ usage: tools/release.py [--proof FILE] [--root ROOT] [--earlier LOG] .. LOG FOLD
 
 LOG is the output of a whole `.ci/run` or `rt ci` of this commit, in which all passed. A crate that it took from an earlier run on this
 machine, which proved the same files over the same libraries, needs that run's output too: `--earlier`, which may be given several
-times. All planted bugs and wrong definitions must have a record (`tools/records.py`). In FOLDER it makes
+times. All planted bugs and wrong definitions must have a record in docs/TESTING.md that is no older than they are. In FOLDER it makes
 
 - libzoned-VERSION-linux-x86_64.tar.xz: the C library, both programs, man pages and examples; and one for 64-bit ARM, without the
   programs, if Debian's gcc-aarch64-linux-gnu is installed;
@@ -39,7 +39,7 @@ from contextlib import contextmanager
 from dataclasses import dataclass
 from pathlib import Path
 
-from records import unrecorded
+from edits import ALL, BUGS_TRIED, DEFINITIONS_TRIED, PLANTED_BUGS, WRONG_DEFINITIONS, all_blocks, blocks, rows
 from sources import TOP, crates, needs
 
 HEADER = TOP / "crates/zoned_ffi/include/zoned_ffi.h"
@@ -141,6 +141,23 @@ def written(record):
     crate_lines = ",\n".join(f'  "{crate}": {json.dumps(values)}' for crate, values in record["crates"].items())
     head = json.dumps({name: value for name, value in record.items() if name != "crates"}, indent=1).removesuffix("\n}")
     return f'{head},\n "crates": {{\n{crate_lines}\n }}\n}}\n'
+
+
+# The record of planted bugs and wrong definitions
+
+
+def unrecorded():
+    """The crates with a planted bug that was not tried, or that have changed since; and wrong definitions likewise."""
+    due = {}
+    for crate in crates():
+        if blocks(PLANTED_BUGS, crate):
+            parts = [f"crates/{crate}/{part}" for part in ("src", "specs", "proofs", PLANTED_BUGS)]
+            due[f"`{crate}`"] = (BUGS_TRIED, len(blocks(PLANTED_BUGS, crate)), parts)
+    due[ALL] = (DEFINITIONS_TRIED, len(all_blocks(WRONG_DEFINITIONS)), ["crates/*/specs", f"crates/*/{WRONG_DEFINITIONS}", "crates/tests_pins"])
+    for key, (name, count, paths) in due.items():
+        day, tried, *verdicts = rows(name).get(key, ("never", "0"))
+        if int(tried) != count or sum(map(int, verdicts)) != count or day < run("git", "log", "-1", "--format=%cs", "--", *paths).strip():
+            yield f"{name}, {key}: {tried} of {count} on {day}"
 
 
 # Archives

@@ -1,17 +1,27 @@
-"""Finds all that gives clauses a meaning: pages of definitions, ghost members of traits and impls, and `unsafe` code, each with its place."""
+#!/usr/bin/env python3
+"""Finds all that gives clauses a meaning: pages of definitions, ghost members of traits and impls, and `unsafe` code, each with its place.
+
+usage: tools/trusted.py
+
+Prints the ghost members of each public trait and impl, and the structs that say what memory they own. docs/TRUSTED.md has those of the headline.
+"""
 
 import re
+import signal
 
-from believed import book_of, cited_words, in_order
+from believed import cited_words, in_order
 from check_headline import names_of
 from definitions import below
-from sources import TOP, block_end, crates, files, is_private_trait, is_public, shown, text_of, without_comments
+from sources import (
+    NAME, TOP, block_end, crates, files, imports_of, is_private_trait, is_public, public_clauses, shown, text_of, uses, without_comments,
+)
 
 HEADLINE = TOP / "crates/zoned/src/headline.rt"
 # Crates that no user calls.
 NOT_FOR_USERS = ("tests_", "demo_", "bench_")
 # Types of std and type parameters: no impl of the repository gives them a meaning.
 TYPE = r"\b[A-Z]\w+"
+PRELUDE = "Rattle.std.specs.Prelude"
 
 
 def for_users():
@@ -100,64 +110,63 @@ def code(text):
     return f"`{text}`".replace("|", "/")
 
 
-def rows_of(each):
-    return [f"| {code(every.head)} | {', '.join(map(code, every.names))} | {link(every.path)} |" for every in each]
+def in_code(texts):
+    return ", ".join(map(code, texts))
 
 
-def page():
-    """The page docs/TRUSTED.md."""
+def kits_pages():
+    """The pages of the kit that the pages of the headline import."""
+    modules = {module for page, _ in pages_of_headline() for module, _ in imports_of(text_of(page)).values()}
+    return sorted(module for module in modules if module.split(".")[1] not in crates())
+
+
+def kits_words():
+    """The words of the kit that clauses of public calls cite."""
+    clauses = [clause for clause in public_clauses() if clause.path.relative_to(TOP / "crates").parts[0] in for_users()]
+    named = {clause.imports.get(name, ("", None)) for clause in clauses for name in re.findall(NAME, clause.text)}
+    return {(page, word) for page, word in named if page and word and page.split(".")[1] not in crates()}
+
+
+def kits_libraries():
+    """The libraries of the kit that the libraries and programs use, besides the standard library."""
+    used = {library for crate in for_users() for library in uses()[crate]}
+    return sorted(used - {*crates(), "core", "std_alloc"})
+
+
+def parts():
+    """What each place of docs/TRUSTED.md has, by its name."""
     book = pages_of_headline()
     lines = sum(len(text_of(path).splitlines()) for path, _ in book)
-    headline, every = ghosts_of_headline(), list(ghosts())
-    return "\n".join([
-        "# What you must trust",
-        "",
-        "For a reader who wants to know on what the proofs rest. A proof shows that code meets its contract; it can't show that the contract",
-        "says what you mean. So you must read what gives the words of a contract their meaning, and all of it is listed here. The kit and the",
-        "platform, which you must trust too, are in [README](../README.md#what-is-proved-and-what-you-must-trust).",
-        "",
-        "(`tools/generate_documents.py` makes this page from the code.)",
-        "",
-        "## For the headline",
-        "",
-        f"The theorems of `zoned::headline` reach {len(book)} pages of definitions with {sum(len(names) for _, names in book)} words, {lines:,} lines in all. "
-        "`tools/believed.py --headline` prints them as one book, in this order, so each page comes after those that it uses. "
-        "[DEFINITIONS](DEFINITIONS.md) explains them, with their worked examples.",
-        "",
-        "| page | words that the headline reaches |",
-        "|---|---|",
-        *(f"| {link(path)} | {', '.join(map(code, names))} |" for path, names in book),
-        "",
-        "They also reach these ghost members: what a contract sees of a value (`Model`), and what a zone or an offset means.",
-        "",
-        "| trait or impl | ghost members | in |",
-        "|---|---|---|",
-        *rows_of(headline),
-        "",
-        "## For every public call",
-        "",
-        f"The {len(book_of(False))} pages of `specs/` that `tools/believed.py` prints as one book, and the ghost members of {len(every)} public traits and "
-        f"impls. [INDEX](INDEX.md) has the words that clauses cite. For one call you need what `tools/claim.py 'CRATE::MODULE::FUNCTION'` "
-        "prints, and the ghost members of the types of its clause.",
-        "",
-        *(part for crate in for_users() if any(each.crate == crate for each in every) for part in (
-            f"### `{crate}`", "", "| trait or impl | ghost members | in |", "|---|---|---|", *rows_of(each for each in every if each.crate == crate), ""
-        )),
-        "## What the calls for C own",
-        "",
-        "These structs say by a ghost member `also_owns` which memory belongs to a value.",
-        "",
-        "| struct | in |",
-        "|---|---|",
-        *(f"| {code(name)} | {link(path)} |" for path, name in owners()),
-        "",
-        "## Unsafe code",
-        "",
-        "Each `unsafe` block is proved to meet its precondition, and each `unsafe impl` has a proof. The calls for C also have the attribute",
-        '`#[unsafe(no_mangle)]`, which gives them their names: that no other library has the same names isn\'t proved.',
-        "",
-        "| in | code |",
-        "|---|---|",
-        *(f"| {link(path)} | {code(line)} |" for path, line in unsafe_code()),
-        "",
-    ])
+    return {
+        "the kit's words": [
+            f"Clauses of public calls cite {len(kits_words())} words of the kit, {sum(page == PRELUDE for page, _ in kits_words())} of them from "
+            f"`{PRELUDE}`; the pages of the headline import {len(kits_pages())} of its pages."
+        ],
+        "the kit's libraries": [f"The libraries and programs use the kit's standard library, with `core` and `std_alloc`, and {in_code(kits_libraries())}."],
+        "pages": [
+            f"The theorems of `zoned::headline` reach {len(book)} pages with {sum(len(names) for _, names in book)} words, {lines:,} lines in all:",
+            "",
+            "| page | words that the headline reaches |",
+            "|---|---|",
+            *(f"| {link(path)} | {in_code(names)} |" for path, names in book),
+        ],
+        "ghost members": [
+            "| trait or impl | ghost members | in |",
+            "|---|---|---|",
+            *(f"| {code(each.head)} | {in_code(each.names)} | {link(each.path)} |" for each in ghosts_of_headline()),
+        ],
+        "unsafe": ["| in | code |", "|---|---|", *(f"| {link(path)} | {code(line)} |" for path, line in unsafe_code())],
+    }
+
+
+def main():
+    # Nobody may read on, as after `head`.
+    signal.signal(signal.SIGPIPE, signal.SIG_DFL)
+    for each in ghosts():
+        print(f"{shown(each.path)}: {each.head}: {', '.join(each.names)}")
+    for path, name in owners():
+        print(f"{shown(path)}: {name}: also_owns")
+
+
+if __name__ == "__main__":
+    main()

@@ -42,15 +42,13 @@ from functools import lru_cache
 from pathlib import Path
 from queue import Queue
 
-from edits import WRONG_DEFINITIONS, all_blocks, tenth
+from edits import ALL, DEFINITIONS_TRIED, WRONG_DEFINITIONS, all_blocks, record, tenth
 from kit import PROVED_WITHOUT_LEMMAS, UNREAD, VERDICT, wait_for, words, words_over_pages
-from records import ALL, DEFINITIONS as DEFINITIONS_TRIED, record
 from sources import TOP, imports_of, libraries_below, text_of, uses
 
 DEFINITIONS = TOP / "docs/DEFINITIONS.md"
-# A line below a definition: pins, what they say, and the wrong definitions that they reject.
-PINNED = re.compile(r"(?m)^  - ((?:`\w+::\w+`(?:, )?)+): (.*?)(?: Rejects (?:.*))?$")
-BY_LAW = re.compile(r"(?m)(are rejected in a copy of their crate, by a law or by a pin of `zoned_ffi`: ).*$")
+# A line below a definition: pins, and what they say.
+PINNED = re.compile(r"(?m)^  - ((?:`\w+::\w+`(?:, )?)+): (.*)$")
 WORD = re.compile(r"[^\s(){}\[\],;:.λ→×≡∙|\"`?]+")
 FUNCTION = re.compile(r'( *)(?:pub(?:\([a-z: ]+\))? )?(?:(?:final|const|unsafe|extern "C") )*fn (\w+)')
 BLOCK = re.compile(r"(?:pub(?:\([a-z: ]+\))? )?(?:unsafe )?(impl|trait)\b")
@@ -126,18 +124,6 @@ def pins():
     """The pins of the code, each as MODULE::FUNCTION; those of zoned_ffi are in its module pins."""
     paths = [*sorted((TOP / "crates/tests_pins/src").glob("*.rt")), TOP / "crates/zoned_ffi/src/pins.rt"]
     return {f"{path.stem}::{pin}" for path in paths for pin in re.findall(r"(?m)^pub fn (\w+)\(", text_of(path))}
-
-
-def with_rejected(text):
-    """The text of the page, with the wrong definitions that each pin rejects."""
-
-    def line(found):
-        of = set(re.findall(r"[\w:]+", found[1]))
-        names = [f"`{edit.name}`" + " †" * ("†" in edit.says) for edit in edits() if of & set(edit.pins)]
-        return f"  - {found[1]}: {found[2]}" + f" Rejects {', '.join(names)}." * bool(names)
-
-    laws = ", ".join(f"`{edit.name}` (`{edit.law[1]}`)" for edit in edits() if edit.law)
-    return BY_LAW.sub(lambda found: f"{found[1]}{laws}.", PINNED.sub(line, text))
 
 
 # Copies of crates, without code and without proofs

@@ -6,9 +6,9 @@ usage: tools/try_documents.py [rattle | programs | c | python ..]
 Without words all four are tried:
 
 - rattle: each line of a `rust` block of README.md, docs/FROM_CHRONO.md and docs/OWN_ZONE.md is code of crates/*/src, which `rt ci`
-  proves, or of crates/*/tests, which tools/try_tests.py runs; and so is each span of the column *here* of FROM_CHRONO's tables.
-  So is each line of a block in doc comments, unless it is marked `text`. Comments, white space and commas before a closing bracket
-  don't count. (tools/check_documents.py tries this too.)
+  proves, or of crates/*/tests or an example of a doc comment, which tools/try_tests.py runs; and so is each span of the column *here*
+  of FROM_CHRONO's tables. Comments, white space and commas before a closing bracket don't count. (tools/check_documents.py tries this
+  too.)
 - programs: each command of a `console` block (a line that begins with `$ `) prints what follows it there. It needs the built
   zoneq and zonedump. A command with `rt try` runs in a copy of the crates, so that it may run while `rt ci` does. Those that run
   the tests aren't run here: the gate runs them by themselves. FROM_CHRONO's first program prints what it says, too.
@@ -28,7 +28,8 @@ import sys
 import tempfile
 from pathlib import Path
 
-from sources import TOP, files, needs, shown, text_of, without_comments
+from doc_examples import GIVEN, blocks as examples
+from sources import TOP, crates, files, needs, shown, text_of, without_comments
 from try_tests import repository
 
 PAGES = [TOP / "README.md", *sorted((TOP / "docs").glob("*.md")), TOP / "python/README.md"]
@@ -55,8 +56,8 @@ def bare(text):
 
 
 def code():
-    paths = [*files("src", ".rt"), *files("tests", ".txt")]
-    return "".join(bare(without_comments(text_of(path), "//")) for path in paths)
+    texts = [*map(text_of, [*files("src", ".rt"), *files("tests", ".txt")]), *("\n".join(lines) for crate in crates() for _, lines in examples(crate))]
+    return "".join(bare(without_comments(text, "//")) for text in texts)
 
 
 def ours(text):
@@ -67,25 +68,11 @@ def ours(text):
                 yield table.start() + row.start(1) + span.start(), span[1]
 
 
-def examples():
-    """The lines of the blocks of doc comments that aren't marked as text, each with its file and place."""
-    for path in files("src", ".rt"):
-        fence = None
-        for line in re.finditer(r"(?m)^.*$", text_of(path)):
-            comment = re.match(r"\s*//[/!] ?(.*)", line[0])
-            if not comment:
-                fence = None
-            elif comment[1].startswith("```"):
-                fence = comment[1] if fence is None else None
-            elif fence == "```":
-                yield path, line.start(), comment[1]
-
-
 def rattle():
     known = code()
-    for path, place, line in examples():
-        if bare(without_comments(line, "//")).rstrip(",") not in known:
-            yield f"{shown(path, place)}: no code has the line: {line.strip()}"
+    for crate in crates():
+        if any(examples(crate)) and not (TOP / "crates" / crate / GIVEN).is_file():
+            yield f"crates/{crate}: its doc comments have examples, and there is no {GIVEN} with which they are run"
     for path in WITH_RATTLE:
         for place, _, text in blocks(path, "rust"):
             for line in re.finditer(r"(?m)^.*$", without_comments(text, "//")):
@@ -107,6 +94,8 @@ def commands(text):
 def printed(path, place, text, folder):
     """What commands print that isn't what follows them. A folder is the top of the repository, or has a link to its crates."""
     for command, due in commands(text):
+        if command.startswith(TESTS):
+            continue
         done = subprocess.run(["bash", "-c", command], cwd=folder, stdin=subprocess.DEVNULL, capture_output=True, text=True)
         if done.stdout + done.stderr != due:
             yield f"{shown(path, place)}: {command}\n  due:\n{due}  printed:\n{done.stdout}{done.stderr}"
@@ -120,7 +109,7 @@ def programs():
         repository(copy, [])
         for path in PAGES:
             for place, _, text in blocks(path, "console"):
-                if "gcc" not in text and f"$ {TESTS}" not in text:
+                if "gcc" not in text:
                     yield from printed(path, place, text, copy if "rt try" in text else TOP)
         yield from first_program(copy)
 

@@ -3,6 +3,7 @@
 
 usage: tools/try_edits.py [--lanes N] [--beside FILE] [--tenth] [--record] [NAME | NAME/EDIT ..]
        tools/try_edits.py --self-test [--beside FILE]
+       tools/try_edits.py --reads-on
 
 Each crate has a table of them, planted_bugs.txt. Without names it tries those with the line `in: the gate`, and with --tenth also a
 tenth of the others, chosen by the commit. For a named crate it tries all. With --record it tries all of the named crates, or of all
@@ -36,8 +37,10 @@ the same copy without the edits, and the edits of one that isn't proved there, o
 TRIED. Without FILE nothing is left out: the functions that the edited ones call are proved as well, starting from what `rt
 check` has kept of the crate.
 
---self-test tries this script without a proof, and then the edits of each crate's harmless_edits.txt, which change the text and not
-the meaning: it fails if one of them is refuted.
+--self-test tries this script without a proof, and then the edits with the line `due: harmless`, which change the text and not the
+meaning: it fails if one of them is refuted. --reads-on tries those with `due: reads on`: they leave each answer and each count as it is,
+and make a lookup read on, which no clause rejects. tests_large_zone runs without a proof: as it is it must end within its two minutes,
+and with each of these edits it must not. That takes some five minutes.
 
 N crates are tried at a time (3). The last line counts the verdicts. The status is 1 if one is a failure.
 """
@@ -54,12 +57,11 @@ from concurrent.futures import ThreadPoolExecutor
 from dataclasses import dataclass, field, replace
 from pathlib import Path
 
-from edits import HARMLESS, PLANTED_BUGS, blocks, tenth
+from edits import BUGS_TRIED, HARMLESS, PLANTED_BUGS, READS_ON, all_blocks, blocks, record, tenth
 from kit import (
-    ANSWER_FALSE, ANSWER_OPEN, FALSE, GOAL, OPEN, PROVED_WITHOUT_PROOFS, SAME_HOLES, TOLD, UNDECIDED, UNREAD, VERDICT, messages, wait_for, words,
+    ANSWER_FALSE, ANSWER_OPEN, FALSE, GOAL, OPEN, PROVED_WITHOUT_PROOFS, RT, SAME_HOLES, TOLD, UNDECIDED, UNREAD, VERDICT, messages, wait_for, words,
 )
-from records import BUGS, record
-from sources import TOP, crates, files, libraries_below
+from sources import TOP, crates, files, libraries_below, needs
 
 REFUTED, OPEN_GOAL, NO_LONGER_FITS, LISTED = "refuted", "open", "no longer fits", "listed"
 NOT_REJECTED, NOT_TRIED = "NOT REJECTED", "NOT TRIED"
@@ -445,10 +447,35 @@ def self_test():
 
 def harmless(log):
     """Tries the edits that change nothing but the text, and returns the rows of those that are refuted, or not tried."""
-    edits = {crate: [read(block) for block in blocks(HARMLESS, crate)] for crate in crates()}
+    edits = {crate: [read(block) for block in blocks(PLANTED_BUGS, crate, HARMLESS)] for crate in crates()}
     rows = [row for crate, those in edits.items() if those for row in tried(crate, those, threading.Semaphore(1), log)]
     print(*[f"{edit}: {verdict}, and changes nothing" for edit, verdict, _ in rows], sep="\n")
     return [row for row in rows if row[1] in (REFUTED, NOT_TRIED)] if rows else [("no harmless edit", NOT_TRIED, "")]
+
+
+def ends(edit):
+    """Whether tests_large_zone, with the edit if there is one, ends in its two minutes."""
+    with tempfile.TemporaryDirectory() as room:
+        copy = Path(room)
+        for file in ("HANDLES", "crates.txt"):
+            shutil.copy(TOP / file, copy)
+        shutil.copytree(TOP / "crates", copy / "crates", ignore=shutil.ignore_patterns("out", "tests"))
+        for file, text in made([edit], copy / "crates" / edit.crate).items() if edit else ():
+            (copy / "crates" / edit.crate / file).write_text(text)
+        ran = subprocess.run([RT, "try", "--seconds", "120"], cwd=copy / "crates/tests_large_zone", capture_output=True, text=True)
+        said = ran.stdout + ran.stderr
+        return "checked: ended status=0" in said if "error[" not in said else sys.exit(f"{edit}: {said}")
+
+
+def reads_on():
+    """Tries the edits that make a lookup read on, and returns how many were found to be otherwise."""
+    needs(RT)
+    wrong = 0
+    for edit in [None, *map(read, all_blocks(PLANTED_BUGS, READS_ON))]:
+        has_ended = ends(edit)
+        print(f"{edit or 'as it is'}: {'ends' if has_ended else 'does not end'}", flush=True)
+        wrong += has_ended != (edit is None)
+    return wrong
 
 
 def main():
@@ -458,8 +485,11 @@ def main():
     given.add_argument("--tenth", action="store_true")
     given.add_argument("--record", action="store_true")
     given.add_argument("--self-test", action="store_true")
+    given.add_argument("--reads-on", action="store_true")
     given.add_argument("names", nargs="*")
     given = given.parse_args()
+    if given.reads_on:
+        return 1 if reads_on() else 0
     if given.record:
         given.names = [crate for crate in given.names or crates() if blocks(PLANTED_BUGS, crate)]
     if given.self_test:
@@ -480,7 +510,7 @@ def main():
                 by_crate[edit.crate][verdict] += 1
                 failures += not is_due
     if given.record:
-        record(BUGS, {f"`{crate}`": [sum(those.values()), *(those[verdict] for verdict in (REFUTED, OPEN_GOAL, LISTED))] for crate, those in by_crate.items()})
+        record(BUGS_TRIED, {f"`{crate}`": [sum(those.values()), *(those[verdict] for verdict in (REFUTED, OPEN_GOAL, LISTED))] for crate, those in by_crate.items()})
     kinds = ", ".join(f"{count[verdict]} {verdict}" for verdict in (REFUTED, OPEN_GOAL, NO_LONGER_FITS, LISTED, NOT_REJECTED, NOT_TRIED) if count[verdict])
     print(f"{sum(count.values())} tried: {kinds}; {failures} failures")
     return 0 if count and not failures else 1

@@ -8,9 +8,11 @@ crates/zoned_ffi, and gcc, g++, rustc and python3. Three things are tried:
 
 - each program of examples/ is built and run by the two lines in its head, and what it prints is compared with Python's
   zoneinfo: zones.c, zones.cc, zones.rs and zones.py on files, rule.c on TZ strings;
-- each call that the header declares is called by a program of examples/ or by try_handles.c, and defined in the archive;
-- tools/header_pins.c, which pins the header's sizes, places and numbers, compiles, and finds them in the archive's answers,
-  over the kit's heap and over one of its own.
+- each call that the header declares is called by a program of examples/ or by try_handles.c, and defined in the archive. To the C
+  compiler the types of its calls, and the size of each struct and the type and place of each of its fields, are those of the
+  exports of crates/zoned_ffi/src;
+- tools/header_pins.c, which pins the header's numbers and answers, compiles, and finds them in the archive's answers, over the kit's
+  heap and over one of its own.
 
 It takes a few seconds. The gate runs it. Ends with status 1 if anything differs.
 """
@@ -26,7 +28,7 @@ from pathlib import Path
 from zoneinfo import ZoneInfo
 
 from kit import kit
-from sources import DATABASE, TOP, needs
+from sources import DATABASE, TOP, files, needs, text_of
 
 # Each program, and what the line in its head makes.
 BUILT = {"zones.c": "./zones_c", "zones.rs": "./zones_rs", "zones.py": "./libzoned_ffi.so", "rule.c": "./rule_c", "zones.cc": "./zones_cc"}
@@ -44,6 +46,13 @@ HEADER = TOP / "crates/zoned_ffi/include/zoned_ffi.h"
 ARCHIVE = TOP / "crates/zoned_ffi/out/libzoned_ffi.a"
 PINS = TOP / "tools/header_pins.c"
 HANDLES = TOP / "tools/try_handles.c"
+# The C names of the exports' types, and the calls that no export has: install/names.c has those.
+TYPES = {
+    "i32": "int32_t", "u32": "uint32_t", "i64": "int64_t", "usize": "size_t", "u8": "char", "Handle": "struct zoned_zone", "Lent": "struct zoned_zone",
+    "WrittenType": "zoned_local_type", "WrittenSpan": "zoned_span", "WrittenChange": "zoned_change", "WrittenLocalInfo": "zoned_local_info",
+    "WrittenLocalResult": "zoned_wall_clock", "Resolved": "zoned_resolved", "WrittenSaving": "zoned_saving", "WrittenDay": "zoned_day", "Fields": "zoned_fields",
+}
+SAME = "_Static_assert(__builtin_types_compatible_p(__typeof__({}), {}), \"{}\");"
 
 
 def recipe(name):
@@ -161,6 +170,41 @@ def complaints_of_texts(name, folder):
         yield from unrefused(name, text, [*start, text, "0"], number)
 
 
+def parameter(kind):
+    """The C types of a parameter of an export: a slice is a pointer and a count, and the allocator is nothing."""
+    if kind == "Global":
+        return []
+    reference, is_mut, is_slice, inner = re.fullmatch(r"(&(?:'\w+ )?)?(mut )?(\[)?(\w+)\]?", kind).groups()
+    if not reference:
+        return [TYPES[inner]]
+    bare = "void" if is_slice and inner == "u8" and not is_mut else TYPES[inner]
+    return ["const " * (not is_mut) + bare + " *", *["size_t"] * bool(is_slice)]
+
+
+def field(name, kind):
+    array = re.fullmatch(r"\[(\w+); (\d+)\]", kind)
+    return f"{TYPES[array[1]]} {name}[{array[2]}];" if array else f"void *{name};" if kind.startswith("*") else f"{TYPES[kind]} {name};"
+
+
+def complaints_of_exports():
+    """What the header declares otherwise than the exports do."""
+    text, lines = "\n".join(map(text_of, files("src", ".rt", ["zoned_ffi"]))), [f'#include "{HEADER}"']
+    for name, parameters, result in re.findall(r'pub extern "C" fn (\w+)\(([^)]*)\)(?: -> (\w+))?', text):
+        kinds = [each.split(":", 1)[1].strip() for each in re.split(r",\s*", parameters.strip().rstrip(",")) if each]
+        types = ", ".join(kind for each in kinds for kind in parameter(each)) or "void"
+        lines.append(SAME.format(name, f"{TYPES[result] if result else 'void'}({types})", name))
+    for name, body in re.findall(r"(?s)#\[repr\(C\)\](?:\s*#\[[^\]]*\])*\s*pub struct (\w+) \{(.*?)\n\}", text):
+        fields = [each for each in re.findall(r"(?m)^\s*(?:pub )?(\w+): ([^,{]+),", body) if each[1] != "Global"]
+        lines.append(f"struct of_{name} {{ {' '.join(field(*each) for each in fields)} }};")
+        lines.append(f'_Static_assert(sizeof(struct of_{name}) == sizeof({TYPES[name]}), "the size of {TYPES[name]}");')
+        for part in [each for each, _ in fields] if TYPES[name] != "struct zoned_zone" else []:
+            lines.append(SAME.format(f"((struct of_{name} *)0)->{part}", f"__typeof__((({TYPES[name]} *)0)->{part})", f"{TYPES[name]}.{part}"))
+            lines.append(f'_Static_assert(offsetof(struct of_{name}, {part}) == offsetof({TYPES[name]}, {part}), "the place of {TYPES[name]}.{part}");')
+    said = subprocess.run(["gcc", "-std=gnu17", "-fsyntax-only", "-xc", "-"], input="\n".join(lines), capture_output=True, text=True)
+    if len(lines) < 100 or said.returncode:
+        yield f"the header isn't what {len(lines)} lines say of the exports: {said.stderr[:2000]}"
+
+
 def complaints_of_header(folder):
     """What is amiss between the header, the archive and the programs."""
     text = re.sub(r"/\*.*?\*/", "", HEADER.read_text(), flags=re.S)
@@ -176,6 +220,7 @@ def complaints_of_header(folder):
         yield f"{call} is in the archive, and the header doesn't declare it"
     for call in sorted(declared - called):
         yield f"{call} is called neither by a program of examples/ nor by {HANDLES.name}"
+    yield from complaints_of_exports()
     pins = folder / "pins"
     for heap in (str(kit() / "c/liblibc_c.a"), "-DOWN_HEAP"):
         made = run(["gcc", "-O2", "-Wall", "-Wextra", "-Werror", "-o", str(pins), str(PINS), str(ARCHIVE), heap])
@@ -196,7 +241,7 @@ def main():
         tried = [(f"{name}: {len(ZONES) * len(SECONDS)} questions of each kind", complaints_of_files(name, database, room))
                  for name in BUILT if name != "rule.c"]
         tried.append((f"rule.c: {len(TEXTS) * len(SECONDS)} questions of each kind", complaints_of_texts("rule.c", room)))
-        tried.append(("the header and its pins", complaints_of_header(room)))
+        tried.append(("the header, its types and its pins", complaints_of_header(room)))
         for what, complaints in tried:
             found = list(complaints)
             failed = failed or bool(found)

@@ -209,16 +209,60 @@ static uint32_t due(const struct tried *of, size_t wanted, size_t room) {
     return !of->of.at ? ZONED_NOT_OPEN : wanted != room ? ZONED_OTHER_SIZE : ZONED_OK;
 }
 
-static int is_same_clock(const zoned_wall_clock *a, const zoned_wall_clock *b) {
-    return a->shown == b->shown && a->first_offset == b->first_offset && a->last_offset == b->last_offset && a->first == b->first && a->last == b->last;
-}
-
 /* Whether each byte is still 0x55. */
 static int is_untouched(const void *at, size_t size) {
     const uint8_t *bytes = at;
     for (size_t i = 0; i < size; i++)
         if (bytes[i] != 0x55) return 0;
     return 1;
+}
+
+/* What a call returns. After an error its answer is as it was. */
+static uint32_t kept(uint32_t number, const void *answer, size_t size) {
+    EXPECT(!number || is_untouched(answer, size));
+    return number;
+}
+
+#define ASK(answer, call) (memset(answer, 0x55, sizeof *(answer)), kept((call), answer, sizeof *(answer)))
+
+static int is_same_clock(const zoned_wall_clock *a, const zoned_wall_clock *b) {
+    return a->shown == b->shown && a->first_offset == b->first_offset && a->last_offset == b->last_offset && a->first == b->first && a->last == b->last;
+}
+
+/* The questions about one time: the call, the type of its answer, four bytes of it that have no meaning, or 0, and what the call takes
+   before the time. */
+#define QUESTIONS(Q)                                                                                                       \
+    Q(offset, int32_t, 0) Q(type, zoned_local_type, 0) Q(span, zoned_span, 0) Q(next_change, zoned_change, 0)              \
+    Q(previous_change, zoned_change, 0) Q(next_offset_change, zoned_change, 0) Q(previous_offset_change, zoned_change, 0)  \
+    Q(wall_clock, zoned_wall_clock, 12) Q(first_at_or_after, zoned_resolved, 0) Q(reached, int64_t, 0)                     \
+    Q(day, zoned_day, 0) Q(fields, zoned_fields, 0) Q(floor, int64_t, 0, ZONED_STEP_MONTH)                                 \
+    Q(ceil, int64_t, 0, ZONED_STEP_YEAR) Q(instant, zoned_resolved, 0, ZONED_GAP_SHIFT_FORWARD, ZONED_FOLD_LATEST)         \
+    Q(standard_offset, zoned_saving, 0) Q(local_change, zoned_change, 0) Q(local_info, zoned_local_info, 4)
+
+#define ASKED(call, type, empty, ...)                                                                                      \
+    static uint32_t ask_##call(const struct zoned_zone *zone, int64_t at, void *answer) {                                  \
+        return zoned_zone_##call(zone, ##__VA_ARGS__, at, (type *)answer);                                                 \
+    }
+QUESTIONS(ASKED)
+
+#define ROW(call, type, empty, ...) {ask_##call, sizeof(type), empty},
+static const struct {
+    uint32_t (*ask)(const struct zoned_zone *zone, int64_t at, void *answer);
+    size_t size, empty;
+} QUESTION[] = {QUESTIONS(ROW)};
+
+enum { ALL = sizeof QUESTION / sizeof *QUESTION, ON_A_SMALL_STACK = ALL - 3 };
+
+/* The answer to any of them. */
+typedef union {
+    zoned_local_info info;
+    uint8_t bytes[sizeof(zoned_local_info)];
+} any_answer;
+
+/* A handle that isn't open answers nothing. */
+static void try_closed(struct tried *of) {
+    any_answer answer;
+    for (size_t i = 0; i < ALL; i++) EXPECT(ASK(&answer, QUESTION[i].ask(&of->zone, second(), &answer)) == ZONED_NOT_OPEN);
 }
 
 static void try_instants(struct tried *of) {
@@ -255,13 +299,8 @@ static void try_changes(struct tried *of) {
     int64_t from = second(), begin = INT64_MIN, end = INT64_MAX;
     zoned_change next, previous, again;
     zoned_local_type type, there;
-    memset(&next, 0x55, sizeof next);
-    memset(&previous, 0x55, sizeof previous);
-    uint32_t after = zoned_zone_next_change(&of->zone, from, &next), before = zoned_zone_previous_change(&of->zone, from, &previous);
-    if (!of->of.at) EXPECT(after == ZONED_NOT_OPEN && before == ZONED_NOT_OPEN);
-    if (after) EXPECT(is_untouched(&next, sizeof next));
-    if (before) EXPECT(is_untouched(&previous, sizeof previous));
-    if (!of->of.at) return;
+    uint32_t after = ASK(&next, zoned_zone_next_change(&of->zone, from, &next));
+    uint32_t before = ASK(&previous, zoned_zone_previous_change(&of->zone, from, &previous));
     EXPECT(after == ZONED_OK || after == ZONED_NO_CHANGE);
     EXPECT(before == ZONED_OK || before == ZONED_NO_CHANGE);
     if (!after) {
@@ -286,30 +325,19 @@ static void try_changes(struct tried *of) {
 
 /* The next and the previous change of the offset: the first of the changes in between that has two offsets. */
 static void try_offset_changes(struct tried *of) {
-    int64_t from = second();
-    zoned_change found, step;
-    memset(&found, 0x55, sizeof found);
-    uint32_t after = zoned_zone_next_offset_change(&of->zone, from, &found);
-    EXPECT(of->of.at ? after == ZONED_OK || after == ZONED_NO_CHANGE : after == ZONED_NOT_OPEN);
-    if (after) EXPECT(is_untouched(&found, sizeof found));
-    if (!of->of.at) return;
-    step.at = from;
-    int steps = 0;
-    uint32_t number;
-    while ((number = zoned_zone_next_change(&of->zone, step.at, &step)) == ZONED_OK && step.before.offset == step.after.offset)
-        if (++steps == 1000) break;
-    if (steps < 1000) EXPECT(number == after && (number || memcmp(&step, &found, sizeof step) == 0));
-    memset(&found, 0x55, sizeof found);
-    uint32_t before = zoned_zone_previous_offset_change(&of->zone, from, &found);
-    EXPECT(before == ZONED_OK || before == ZONED_NO_CHANGE);
-    if (before) EXPECT(is_untouched(&found, sizeof found));
-    step.at = from;
-    steps = 0;
-    while ((number = zoned_zone_previous_change(&of->zone, step.at, &step)) == ZONED_OK && step.before.offset == step.after.offset) {
-        if (++steps == 1000) break;
-        step.at--;
+    for (int is_back = 0; is_back < 2; is_back++) {
+        int64_t from = second();
+        zoned_change found, step = {.at = from};
+        uint32_t number = ASK(&found, (is_back ? zoned_zone_previous_offset_change : zoned_zone_next_offset_change)(&of->zone, from, &found));
+        EXPECT(number == ZONED_OK || number == ZONED_NO_CHANGE);
+        uint32_t stepped = ZONED_OK;
+        int steps = 0;
+        for (; steps < 1000; steps++, step.at -= is_back) {
+            stepped = (is_back ? zoned_zone_previous_change : zoned_zone_next_change)(&of->zone, step.at, &step);
+            if (stepped || step.before.offset != step.after.offset) break;
+        }
+        if (steps < 1000) EXPECT(stepped == number && (number || memcmp(&step, &found, sizeof step) == 0));
     }
-    if (steps < 1000) EXPECT(number == before && (number || memcmp(&step, &found, sizeof step) == 0));
 }
 
 /* Whether the zone has no type at the second. */
@@ -325,14 +353,10 @@ static void try_span(struct tried *of) {
     zoned_span span;
     zoned_change change;
     zoned_local_type type = {0};
-    memset(&span, 0x55, sizeof span);
-    uint32_t number = zoned_zone_span(&of->zone, at, &span);
-    if (of->of.at) EXPECT(zoned_zone_type(&of->zone, at, &type) == ZONED_OK);
-    EXPECT(number == (!of->of.at ? ZONED_NOT_OPEN : type.offset == ZONED_NO_OFFSET ? ZONED_NO_LOCAL_TIME : ZONED_OK));
-    if (number) {
-        EXPECT(is_untouched(&span, sizeof span));
-        return;
-    }
+    uint32_t number = ASK(&span, zoned_zone_span(&of->zone, at, &span));
+    EXPECT(zoned_zone_type(&of->zone, at, &type) == ZONED_OK);
+    EXPECT(number == (type.offset == ZONED_NO_OFFSET ? ZONED_NO_LOCAL_TIME : ZONED_OK));
+    if (number) return;
     EXPECT(is_same_type(&span.local_type, &type));
     EXPECT(span.from <= at && (at < span.until || at == INT64_MAX));
     if (!zoned_zone_previous_change(&of->zone, at, &change)) EXPECT(span.from == change.at);
@@ -347,13 +371,9 @@ static void try_saving(struct tried *of) {
     int64_t at = second();
     zoned_span span;
     zoned_saving saving, first = {0};
-    memset(&saving, 0x55, sizeof saving);
-    uint32_t number = zoned_zone_standard_offset(&of->zone, at, &saving);
+    uint32_t number = ASK(&saving, zoned_zone_standard_offset(&of->zone, at, &saving));
     EXPECT(number == zoned_zone_span(&of->zone, at, &span));
-    if (number) {
-        EXPECT(is_untouched(&saving, sizeof saving));
-        return;
-    }
+    if (number) return;
     EXPECT(saving.standard_offset + saving.amount == span.local_type.offset);
     EXPECT((saving.amount != 0) == (span.local_type.is_dst == 1) && -86400 < saving.amount && saving.amount < 86400);
     EXPECT(zoned_zone_standard_offset(&of->zone, span.from, &first) == ZONED_OK && !memcmp(&first, &saving, sizeof first));
@@ -375,13 +395,7 @@ static int64_t first_by_changes(struct tried *of, int64_t local, int64_t from, i
 static void try_first(struct tried *of) {
     int64_t local = second();
     zoned_resolved reached;
-    memset(&reached, 0x55, sizeof reached);
-    uint32_t number = zoned_zone_first_at_or_after(&of->zone, local, &reached);
-    EXPECT(number == due(of, 0, 0));
-    if (number) {
-        EXPECT(is_untouched(&reached, sizeof reached));
-        return;
-    }
+    EXPECT(zoned_zone_first_at_or_after(&of->zone, local, &reached) == ZONED_OK);
     int32_t offset = 0;
     int64_t at = 0;
     int is_known = local >= -8334601228800 && local <= 8210266876799;
@@ -392,8 +406,7 @@ static void try_first(struct tried *of) {
     EXPECT(reached.instant == (is_known ? at : 0) && reached.offset == (is_known ? offset : 0));
     int64_t locals[] = {local, second()};
     zoned_resolved each[2], next;
-    memset(each, 0x55, sizeof each);
-    EXPECT(zoned_zone_firsts_at_or_after(&of->zone, locals, 2, each, 1) == ZONED_OTHER_SIZE && is_untouched(each, sizeof each));
+    EXPECT(ASK(&each, zoned_zone_firsts_at_or_after(&of->zone, locals, 2, each, 1)) == ZONED_OTHER_SIZE);
     EXPECT(zoned_zone_firsts_at_or_after(&of->zone, locals, 2, each, 2) == ZONED_OK);
     EXPECT(zoned_zone_first_at_or_after(&of->zone, locals[1], &next) == ZONED_OK);
     EXPECT(memcmp(&each[0], &reached, sizeof reached) == 0 && memcmp(&each[1], &next, sizeof next) == 0);
@@ -413,16 +426,11 @@ static void try_local_change(struct tried *of) {
     zoned_change change, step;
     zoned_wall_clock clock = {0};
     zoned_resolved reached;
-    memset(&change, 0x55, sizeof change);
-    if (of->of.at) EXPECT(zoned_zone_wall_clock(&of->zone, local, &clock) == ZONED_OK);
-    uint32_t number = zoned_zone_local_change(&of->zone, local, &change);
-    if (!of->of.at) EXPECT(number == ZONED_NOT_OPEN);
-    else if (clock.shown == ZONED_OUT_OF_RANGE) EXPECT(number == ZONED_INSTANT_OUT_OF_RANGE);
+    EXPECT(zoned_zone_wall_clock(&of->zone, local, &clock) == ZONED_OK);
+    uint32_t number = ASK(&change, zoned_zone_local_change(&of->zone, local, &change));
+    if (clock.shown == ZONED_OUT_OF_RANGE) EXPECT(number == ZONED_INSTANT_OUT_OF_RANGE);
     else EXPECT(number == (clock.shown == ZONED_ONCE ? ZONED_NO_CHANGE : ZONED_OK));
-    if (number) {
-        EXPECT(is_untouched(&change, sizeof change));
-        return;
-    }
+    if (number) return;
     EXPECT(is_listed(of, &change));
     if (clock.shown == ZONED_NEVER) {
         EXPECT(change.at + change.before.offset <= local && local < change.at + change.after.offset);
@@ -442,14 +450,10 @@ static void try_local_info(struct tried *of) {
     zoned_wall_clock clock = {0};
     zoned_span span;
     zoned_change change;
-    memset(&info, 0x55, sizeof info);
-    if (of->of.at) EXPECT(zoned_zone_wall_clock(&of->zone, local, &clock) == ZONED_OK);
-    uint32_t number = zoned_zone_local_info(&of->zone, local, &info);
-    EXPECT(number == (!of->of.at ? ZONED_NOT_OPEN : clock.shown == ZONED_OUT_OF_RANGE ? ZONED_INSTANT_OUT_OF_RANGE : ZONED_OK));
-    if (number) {
-        EXPECT(is_untouched(&info, sizeof info));
-        return;
-    }
+    EXPECT(zoned_zone_wall_clock(&of->zone, local, &clock) == ZONED_OK);
+    uint32_t number = ASK(&info, zoned_zone_local_info(&of->zone, local, &info));
+    EXPECT(number == (clock.shown == ZONED_OUT_OF_RANGE ? ZONED_INSTANT_OUT_OF_RANGE : ZONED_OK));
+    if (number) return;
     first = clock.first, last = clock.last;
     if (clock.shown == ZONED_NEVER) {
         EXPECT(zoned_zone_local_change(&of->zone, local, &change) == ZONED_OK);
@@ -494,15 +498,11 @@ static void try_rule_text(struct tried *of) {
 
 /* What clocks have reached is the greatest local time up to a second, and rises. */
 static void try_reached(struct tried *of) {
-    int64_t at = second(), reached = 77, later = 77, step = (int64_t)below(10000);
+    int64_t at = second(), reached, later = 77, step = (int64_t)below(10000);
     int32_t offset;
-    uint32_t number = zoned_zone_reached(&of->zone, at, &reached);
-    if (!of->of.at) EXPECT(number == ZONED_NOT_OPEN);
-    EXPECT(number == ZONED_OK || number == ZONED_NOT_OPEN || number == ZONED_WIDE_ZONE || number == ZONED_INSTANT_OUT_OF_RANGE);
-    if (number) {
-        EXPECT(reached == 77);
-        return;
-    }
+    uint32_t number = ASK(&reached, zoned_zone_reached(&of->zone, at, &reached));
+    EXPECT(number == ZONED_OK || number == ZONED_WIDE_ZONE || number == ZONED_INSTANT_OUT_OF_RANGE);
+    if (number) return;
     EXPECT(zoned_zone_offset(&of->zone, at, &offset) == ZONED_OK && reached >= at + offset);
     if (zoned_zone_reached(&of->zone, at + step, &later) == ZONED_OK) EXPECT(reached <= later && later <= reached + 2 * 86400);
     zoned_resolved first;
@@ -622,50 +622,48 @@ static int64_t time_of(int64_t per_second) {
     return below(8) == 0 || at < INT64_MIN || at > INT64_MAX ? (int64_t)next() : (int64_t)at;
 }
 
-/* The local time of an instant by the offset at its second, or none. */
-static int has_local(struct tried *of, int64_t per_second, int64_t instant, int64_t *local) {
-    int64_t at = instant / per_second - (instant % per_second < 0);
-    int32_t offset;
-    *local = instant;
-    if (instant == ZONED_NO_TIME) return 1;
-    EXPECT(zoned_zone_offset(&of->zone, at, &offset) == ZONED_OK);
-    __int128 sum = (__int128)instant + (__int128)offset * per_second;
-    *local = (int64_t)sum;
-    return offset != ZONED_NO_OFFSET && sum > INT64_MIN && sum <= INT64_MAX;
+static int64_t floor_to(int64_t number, int64_t size) { return number - (number % size + size) % size; }
+
+/* The calls for columns, and what they take. */
+enum rows { LOCALS, INSTANTS, FLOORS, CEILS, REACHED };
+
+struct column {
+    enum rows rows;
+    uint32_t gap, fold, step;
+    int64_t per_second;
+};
+
+static uint32_t answer_column(const struct zoned_zone *zone, const struct column *is, const int64_t *times, size_t count, int64_t *answers, size_t room, size_t *row) {
+    switch (is->rows) {
+    case LOCALS: return zoned_column_locals(zone, is->per_second, times, count, answers, room, row);
+    case INSTANTS: return zoned_column_instants(zone, is->gap, is->fold, is->per_second, times, count, answers, room, row);
+    case FLOORS: return zoned_column_floors(zone, is->step, is->per_second, times, count, answers, room, row);
+    case CEILS: return zoned_column_ceils(zone, is->step, is->per_second, times, count, answers, room, row);
+    default: return zoned_column_reached(zone, is->per_second, times, count, answers, room, row);
+    }
 }
 
-/* A column of instants, in order or not: what zoned_zone_offset says of each, up to the first row that has no local time. */
-static void try_column(struct tried *of) {
-    static const int64_t UNITS[] = {1, 1000, 1000000, 1000000000, 0, -1, 60};
-    int64_t instants[COLUMN] = {0}, locals[COLUMN], per_second = UNITS[below(below(8) ? 4 : 7)];
-    size_t count = below(COLUMN + 1), room = below(8) ? count : below(COLUMN + 1), row = 77, first = 0;
-    int is_unit = per_second > 0 && per_second != 60, is_sorted = below(2) == 0;
-    int64_t step = (int64_t)below(1000000) * (is_unit ? per_second : 1);
-    for (size_t i = 0; i < count; i++) {
-        instants[i] = time_of(is_unit ? per_second : 1);
-        if (is_sorted && i > 0 && instants[i - 1] < INT64_MAX - step) instants[i] = instants[i - 1] + step;
-    }
-    memset(locals, 0x55, sizeof locals);
-    uint32_t number = zoned_column_locals(&of->zone, per_second, instants, count, locals, room, &row);
-    if (!is_unit || due(of, count, room) != ZONED_OK) {
-        EXPECT(number == (is_unit ? due(of, count, room) : ZONED_UNKNOWN_UNIT));
-    } else {
-        for (int64_t local; first < count && has_local(of, per_second, instants[first], &local); first++) EXPECT(locals[first] == local);
-        EXPECT(number == (first < count ? ZONED_NO_LOCAL_TIME : ZONED_OK));
-    }
-    EXPECT(row == (number == ZONED_NO_LOCAL_TIME ? first : 77));
-    EXPECT(is_untouched(locals + first, (COLUMN - first) * sizeof *locals));
+/* A time in the column's unit, or the number for one that 64 bits don't hold. */
+static uint32_t in_unit(__int128 time, uint32_t number, int64_t *answer) {
+    *answer = (int64_t)time;
+    return time > INT64_MIN && time <= INT64_MAX ? ZONED_OK : number;
+}
+
+/* The local time of an instant by the offset at its second, or none. */
+static uint32_t has_local(struct tried *of, int64_t per_second, int64_t at, int64_t instant, int64_t *local) {
+    int32_t offset;
+    EXPECT(zoned_zone_offset(&of->zone, at, &offset) == ZONED_OK);
+    uint32_t number = in_unit((__int128)instant + (__int128)offset * per_second, ZONED_NO_LOCAL_TIME, local);
+    return offset == ZONED_NO_OFFSET ? ZONED_NO_LOCAL_TIME : number;
 }
 
 /* The instant of a local time by zoned_zone_instant of its second, or the number that says why it has none. In a gap or in a fold it may
    be no time. */
-static uint32_t has_instant(struct tried *of, int64_t per_second, uint32_t gap, uint32_t fold, int64_t local, int64_t *instant) {
-    int64_t at = local / per_second - (local % per_second < 0);
+static uint32_t has_instant(struct tried *of, int64_t per_second, uint32_t gap, uint32_t fold, int64_t at, int64_t local, int64_t *instant) {
     int may_miss_gaps = gap == ZONED_GAP_NO_TIME, may_miss_folds = fold == ZONED_FOLD_NO_TIME;
     zoned_resolved resolved;
     zoned_wall_clock clock;
     *instant = ZONED_NO_TIME;
-    if (local == ZONED_NO_TIME) return ZONED_OK;
     if (may_miss_gaps) gap = ZONED_GAP_REFUSE;
     if (may_miss_folds) fold = ZONED_FOLD_REFUSE;
     EXPECT(zoned_zone_instant(&of->zone, gap, fold, at, &resolved) == ZONED_OK);
@@ -683,37 +681,8 @@ static uint32_t has_instant(struct tried *of, int64_t per_second, uint32_t gap, 
     }
     __int128 time = (__int128)second * per_second;
     if (clock.shown != ZONED_NEVER || gap != ZONED_GAP_END) time += (__int128)local - (__int128)at * per_second;
-    *instant = (int64_t)time;
-    return time > INT64_MIN && time <= INT64_MAX ? ZONED_OK : ZONED_INSTANT_OUT_OF_RANGE;
+    return in_unit(time, ZONED_INSTANT_OUT_OF_RANGE, instant);
 }
-
-/* A column of local times, in order or not: what zoned_zone_instant says of each, up to the first that has no instant. */
-static void try_instants_of_column(struct tried *of) {
-    static const int64_t UNITS[] = {1, 1000, 1000000, 1000000000, 0, -1, 60};
-    int64_t locals[COLUMN] = {0}, instants[COLUMN], per_second = UNITS[below(below(8) ? 4 : 7)];
-    size_t count = below(COLUMN + 1), room = below(8) ? count : below(COLUMN + 1), row = 77, first = 0;
-    uint32_t gap = (uint32_t)below(below(8) ? 5 : 7), fold = (uint32_t)below(below(8) ? 4 : 6), why = ZONED_OK;
-    int is_unit = per_second > 0 && per_second != 60, is_sorted = below(2) == 0;
-    int is_choice = gap <= ZONED_GAP_NO_TIME && fold <= ZONED_FOLD_NO_TIME;
-    int64_t step = (int64_t)below(20000) * (is_unit ? per_second : 1);
-    for (size_t i = 0; i < count; i++) {
-        locals[i] = time_of(is_unit ? per_second : 1);
-        if (is_sorted && i > 0 && locals[i - 1] < INT64_MAX - step) locals[i] = locals[i - 1] + step;
-    }
-    memset(instants, 0x55, sizeof instants);
-    uint32_t number = zoned_column_instants(&of->zone, gap, fold, per_second, locals, count, instants, room, &row);
-    if (!is_choice || !is_unit || due(of, count, room) != ZONED_OK) {
-        EXPECT(number == (!is_choice ? ZONED_UNKNOWN_CHOICE : !is_unit ? ZONED_UNKNOWN_UNIT : due(of, count, room)));
-    } else {
-        for (int64_t instant; first < count && !(why = has_instant(of, per_second, gap, fold, locals[first], &instant)); first++)
-            EXPECT(instants[first] == instant);
-        EXPECT(number == why);
-    }
-    EXPECT(row == (why ? first : 77));
-    EXPECT(is_untouched(instants + first, (COLUMN - first) * sizeof *instants));
-}
-
-static int64_t floor_to(int64_t number, int64_t size) { return number - (number % size + size) % size; }
 
 /* The local time at which the step of a local time begins, or the next one, by a calendar; no time if that is outside the calendar's
    range. */
@@ -749,73 +718,56 @@ static void try_step(struct tried *of, uint32_t step, int64_t at) {
     if (!of_floor && floor == at) EXPECT(!of_ceil && ceil == at);
     else if (!next.number) EXPECT(!of_ceil && ceil == next.instant);
     zoned_day day;
-    memset(&day, 0x55, sizeof day);
-    number = zoned_zone_day(&of->zone, at, &day);
-    if (number) EXPECT(number == ZONED_INSTANT_OUT_OF_RANGE && is_untouched(&day, sizeof day));
+    number = ASK(&day, zoned_zone_day(&of->zone, at, &day));
+    if (number) EXPECT(number == ZONED_INSTANT_OUT_OF_RANGE);
     else EXPECT(day.date == floor_to(reached, 86400) && day.begin <= at && at < day.end);
     if (!number && step == ZONED_STEP_DAY) EXPECT(day.begin == floor && (floor == at || day.end == ceil));
 }
 
-/* What a column of steps has for an instant: the answer of the call for its second, or for the next one if it has more. */
-static uint32_t has_step(struct tried *of, uint32_t step, int64_t per_second, int is_ceil, int64_t instant, int64_t *answer) {
-    int64_t at = instant / per_second - (instant % per_second < 0), found = 77;
-    *answer = instant;
-    if (instant == ZONED_NO_TIME) return ZONED_OK;
+/* What a column of steps, or of what clocks have reached, has for an instant: the answer of the call for its second, or for the next one
+   if it has more. */
+static uint32_t has_step(struct tried *of, const struct column *is, int64_t at, int64_t instant, int64_t *answer) {
+    int64_t found = 77;
     uint32_t number = zoned_zone_reached(&of->zone, at, &found);
     if (number) return number;
-    if (is_ceil) number = zoned_zone_ceil(&of->zone, step, at + (at * (__int128)per_second < instant), &found);
-    else number = zoned_zone_floor(&of->zone, step, at, &found);
-    __int128 time = (__int128)found * per_second;
-    *answer = (int64_t)time;
-    return number ? number : time > INT64_MIN && time <= INT64_MAX ? ZONED_OK : ZONED_INSTANT_OUT_OF_RANGE;
+    if (is->rows == CEILS) number = zoned_zone_ceil(&of->zone, is->step, at + (at * (__int128)is->per_second < instant), &found);
+    if (is->rows == FLOORS) number = zoned_zone_floor(&of->zone, is->step, at, &found);
+    return number ? number : in_unit((__int128)found * is->per_second, ZONED_INSTANT_OUT_OF_RANGE, answer);
 }
 
-static void try_steps(struct tried *of) {
-    static const int64_t UNITS[] = {1, 1000, 1000000, 1000000000, 60};
+/* What the calls for one time say of a row. */
+static uint32_t has_row(struct tried *of, const struct column *is, int64_t time, int64_t *answer) {
+    int64_t per_second = is->per_second, at = time / per_second - (time % per_second < 0);
+    *answer = time;
+    if (time == ZONED_NO_TIME) return ZONED_OK;
+    if (is->rows == LOCALS) return has_local(of, per_second, at, time, answer);
+    return is->rows == INSTANTS ? has_instant(of, per_second, is->gap, is->fold, at, time, answer) : has_step(of, is, at, time, answer);
+}
+
+/* A column, in order or not: what the calls for one time say of each row, up to the first that has no answer. */
+static void try_column(struct tried *of, enum rows rows) {
+    static const int64_t UNITS[] = {1, 1000, 1000000, 1000000000, 0, -1, 60};
     static const uint32_t STEPS[] = {1, 60, 900, 3600, 10800, 43200, ZONED_STEP_DAY, ZONED_STEP_WEEK, ZONED_STEP_WEEK + 1, ZONED_STEP_WEEK + 6,
                                      ZONED_STEP_MONTH, ZONED_STEP_YEAR, 0, 7, 86401, ZONED_STEP_WEEK + 7, ZONED_STEP_MONTH + 1, UINT32_MAX};
-    int64_t instants[COLUMN] = {0}, answers[COLUMN], per_second = UNITS[below(below(8) ? 4 : 5)];
-    uint32_t place = (uint32_t)below(below(8) ? 12 : 18), step = STEPS[place], why = ZONED_OK;
+    uint32_t place = (uint32_t)below(below(8) ? 12 : 18), why = ZONED_OK;
+    struct column is = {rows, (uint32_t)below(below(8) ? 5 : 7), (uint32_t)below(below(8) ? 4 : 6), STEPS[place], UNITS[below(below(8) ? 4 : 7)]};
+    int is_unit = is.per_second > 0 && is.per_second != 60, is_sorted = below(2) == 0;
+    int64_t times[COLUMN] = {0}, answers[COLUMN], step = (int64_t)below(below(2) ? 20000 : 1000000) * (is_unit ? is.per_second : 1);
     size_t count = below(COLUMN + 1), room = below(8) ? count : below(COLUMN + 1), row = 77, first = 0;
-    int is_unit = per_second != 60, is_step = place < 12, is_ceil = below(2) == 0;
-    if (is_step) try_step(of, step, second());
-    int64_t apart = (int64_t)below(20000) * per_second;
     for (size_t i = 0; i < count; i++) {
-        instants[i] = time_of(per_second);
-        if (i > 0 && below(2) && instants[i - 1] < INT64_MAX - apart) instants[i] = instants[i - 1] + apart;
+        times[i] = time_of(is_unit ? is.per_second : 1);
+        if (is_sorted && i > 0 && times[i - 1] < INT64_MAX - step) times[i] = times[i - 1] + step;
     }
+    uint32_t refused = !is_unit ? ZONED_UNKNOWN_UNIT : due(of, count, room);
+    if (rows == INSTANTS && (is.gap > ZONED_GAP_NO_TIME || is.fold > ZONED_FOLD_NO_TIME)) refused = ZONED_UNKNOWN_CHOICE;
+    if ((rows == FLOORS || rows == CEILS) && place >= 12) refused = ZONED_UNKNOWN_STEP;
     memset(answers, 0x55, sizeof answers);
-    uint32_t number = is_ceil ? zoned_column_ceils(&of->zone, step, per_second, instants, count, answers, room, &row)
-                              : zoned_column_floors(&of->zone, step, per_second, instants, count, answers, room, &row);
-    if (!is_step || !is_unit || due(of, count, room) != ZONED_OK) {
-        EXPECT(number == (!is_step ? ZONED_UNKNOWN_STEP : !is_unit ? ZONED_UNKNOWN_UNIT : due(of, count, room)));
-    } else {
-        for (int64_t due; first < count && !(why = has_step(of, step, per_second, is_ceil, instants[first], &due)); first++)
-            EXPECT(answers[first] == due);
-        EXPECT(number == why);
-    }
+    uint32_t number = answer_column(&of->zone, &is, times, count, answers, room, &row);
+    for (int64_t answer; !refused && first < count && !(why = has_row(of, &is, times[first], &answer)); first++) EXPECT(answers[first] == answer);
+    EXPECT(number == (refused ? refused : why));
     EXPECT(row == (why ? first : 77));
     EXPECT(is_untouched(answers + first, (COLUMN - first) * sizeof *answers));
-    /* What clocks have reached, row by row. */
-    memset(answers, 0x55, sizeof answers), row = 77, first = 0, why = ZONED_OK;
-    number = zoned_column_reached(&of->zone, per_second, instants, count, answers, room, &row);
-    if (!is_unit || due(of, count, room) != ZONED_OK) {
-        EXPECT(number == (!is_unit ? ZONED_UNKNOWN_UNIT : due(of, count, room)));
-    } else {
-        for (; first < count; first++) {
-            int64_t reached = 77;
-            if (instants[first] == ZONED_NO_TIME) reached = ZONED_NO_TIME;
-            else if ((why = zoned_zone_reached(&of->zone, instants[first] / per_second - (instants[first] % per_second < 0), &reached))) break;
-            else if (__builtin_mul_overflow(reached, per_second, &reached) || reached == ZONED_NO_TIME) {
-                why = ZONED_INSTANT_OUT_OF_RANGE;
-                break;
-            }
-            EXPECT(answers[first] == reached);
-        }
-        EXPECT(number == why);
-    }
-    EXPECT(row == (why ? first : 77));
-    EXPECT(is_untouched(answers + first, (COLUMN - first) * sizeof *answers));
+    if (rows == FLOORS && place < 12 && of->of.at) try_step(of, is.step, second());
 }
 
 static int by_time(const void *a, const void *b) {
@@ -870,8 +822,7 @@ static void try_fields(struct tried *of) {
     int64_t local = below(8) ? (int64_t)below(16544868105600 + 2) - 8334601228801 : second(), back = 77;
     int is_in_range = local >= -8334601228800 && local <= 8210266876799;
     zoned_fields fields, other;
-    memset(&fields, 0x55, sizeof fields);
-    EXPECT(zoned_fields_of(local, &fields) == (is_in_range ? ZONED_OK : ZONED_INSTANT_OUT_OF_RANGE));
+    EXPECT(ASK(&fields, zoned_fields_of(local, &fields)) == (is_in_range ? ZONED_OK : ZONED_INSTANT_OUT_OF_RANGE));
     if (is_in_range) {
         time_t at = (time_t)local;
         struct tm tm;
@@ -883,18 +834,15 @@ static void try_fields(struct tried *of) {
         EXPECT(zoned_local_of(&fields, &back) == ZONED_OK && back == local);
         fields.day = fields.day == 1 ? 0 : fields.month == 2 ? 30 : 32;
         EXPECT(zoned_local_of(&fields, &back) == ZONED_NO_DATE_TIME && back == local);
-    } else EXPECT(is_untouched(&fields, sizeof fields));
+    }
     /* Of an instant: those of its local time. */
     int32_t offset = ZONED_NO_OFFSET;
-    memset(&fields, 0x55, sizeof fields);
-    if (of->of.at) EXPECT(zoned_zone_offset(&of->zone, local, &offset) == ZONED_OK);
-    uint32_t number = zoned_zone_fields(&of->zone, local, &fields);
-    if (!of->of.at) EXPECT(number == ZONED_NOT_OPEN);
-    else if (offset == ZONED_NO_OFFSET) EXPECT(number == ZONED_NO_LOCAL_TIME);
+    EXPECT(zoned_zone_offset(&of->zone, local, &offset) == ZONED_OK);
+    uint32_t number = ASK(&fields, zoned_zone_fields(&of->zone, local, &fields));
+    if (offset == ZONED_NO_OFFSET) EXPECT(number == ZONED_NO_LOCAL_TIME);
     else if (local > INT64_MAX - 100000 || local < INT64_MIN + 100000) EXPECT(number == ZONED_INSTANT_OUT_OF_RANGE);
     else EXPECT(number == zoned_fields_of(local + offset, &other));
-    if (number) EXPECT(is_untouched(&fields, sizeof fields));
-    else EXPECT(memcmp(&fields, &other, sizeof fields) == 0);
+    if (!number) EXPECT(memcmp(&fields, &other, sizeof fields) == 0);
 }
 
 /* NULL with a count of 0 is an empty array. */
@@ -947,63 +895,31 @@ static void try_texts(void) {
     }
 }
 
+/* What is tried with an open handle, how many calls it makes at least, and how often it comes up. */
+static const struct {
+    void (*try)(struct tried *of);
+    int calls;
+} OPEN[] = {{try_changes, 6}, {try_offset_changes, 2}, {try_span, 2}, {try_saving, 2}, {try_reached, 4}, {try_rule_text, 2}, {try_list, 2},
+            {try_first, 4}, {try_local_change, 2}, {try_local_info, 3}, {try_fields, 4}};
+
 static void try_calls(uint64_t count) {
     for (calls = 0; calls < count;) {
         struct tried *one = &tried[below(HANDLES)];
-        switch (below(16)) {
-        case 0:
-        case 1:
-            try_open(one);
-            calls++;
-            break;
-        case 2:
-        case 3:
-            try_share(one, &tried[below(HANDLES)]);
-            calls++;
-            break;
-        case 4:
-            try_close(one);
-            calls++;
-            break;
-        case 5: /* a handle that moves */
-            if (!tried[0].of.at) {
-                tried[0] = *one;
-                *one = one == &tried[0] ? *one : (struct tried){0};
-            }
-            break;
-        case 6:
-        case 7:
-        case 8:
-            try_instants(one);
-            calls += 4;
-            break;
-        case 9:
-            try_changes(one);
-            try_offset_changes(one);
-            try_span(one);
-            try_saving(one);
-            try_reached(one);
-            try_rule_text(one);
-            calls += 8;
-            break;
-        case 10:
-            try_list(one);
-            calls += 2;
-            break;
-        case 11:
-            try_column(one);
-            try_instants_of_column(one);
-            try_steps(one);
-            calls += 4;
-            break;
-        default:
-            try_locals(one);
-            try_first(one);
-            try_local_change(one);
-            try_local_info(one);
-            try_fields(one);
-            calls += 11;
-            break;
+        size_t place = below(16);
+        if (place < 2) try_open(one), calls++;
+        else if (place < 4) try_share(one, &tried[below(HANDLES)]), calls++;
+        else if (place == 4) try_close(one), calls++;
+        else if (place == 5 && !tried[0].of.at) { /* a handle that moves */
+            tried[0] = *one;
+            *one = one == &tried[0] ? *one : (struct tried){0};
+        } else if (place < 8) try_instants(one), calls += 4;
+        else if (place < 10) try_column(one, (enum rows)below(REACHED + 1)), calls++;
+        else if (place < 12) try_locals(one), calls += 4;
+        else if (!one->of.at) try_closed(one), calls += ALL;
+        else {
+            place = below(sizeof OPEN / sizeof *OPEN);
+            OPEN[place].try(one);
+            calls += (uint64_t)OPEN[place].calls;
         }
     }
     for (size_t i = 0; i < HANDLES; i++) try_close(&tried[i]);
@@ -1025,42 +941,15 @@ static uint64_t mix_clock(uint64_t sum, const zoned_wall_clock *clock) {
     return mix(sum, numbers, sizeof numbers);
 }
 
-/* A sum of the answers to one instant and one local time. */
+/* A sum of the answers to the questions about one time. */
 static uint64_t ask_one(const struct zoned_zone *zone, int64_t at, uint64_t sum) {
-    int32_t offset;
-    zoned_local_type type;
-    zoned_change next = {0}, previous = {0}, next_offset = {0}, previous_offset = {0}, of_local = {0};
-    zoned_local_info info = {0};
-    zoned_wall_clock clock;
-    zoned_resolved resolved, reached;
-    zoned_span span;
-    int64_t clock_at = 0, floor = 0;
-    zoned_day day = {0};
-    zoned_saving saving = {0};
-    uint32_t numbers[] = {zoned_zone_offset(zone, at, &offset),
-                          zoned_zone_reached(zone, at, &clock_at),
-                          zoned_zone_day(zone, at, &day),
-                          zoned_zone_floor(zone, ZONED_STEP_HOUR, at, &floor),
-                          zoned_zone_type(zone, at, &type),
-                          zoned_zone_span(zone, at, &span),
-                          zoned_zone_standard_offset(zone, at, &saving),
-                          zoned_zone_first_at_or_after(zone, at, &reached),
-                          zoned_zone_local_change(zone, at, &of_local),
-                          zoned_zone_local_info(zone, at, &info),
-                          zoned_zone_next_change(zone, at, &next),
-                          zoned_zone_previous_change(zone, at, &previous),
-                          zoned_zone_next_offset_change(zone, at, &next_offset),
-                          zoned_zone_previous_offset_change(zone, at, &previous_offset),
-                          zoned_zone_wall_clock(zone, at, &clock),
-                          zoned_zone_instant(zone, ZONED_GAP_SHIFT_FORWARD, ZONED_FOLD_LATEST, at, &resolved)};
-    sum = mix(mix(mix(sum, numbers, sizeof numbers), &offset, sizeof offset), &type, sizeof type);
-    sum = mix(mix(sum, &next, sizeof next), &previous, sizeof previous);
-    sum = mix(mix(sum, &next_offset, sizeof next_offset), &previous_offset, sizeof previous_offset);
-    sum = mix(mix(mix(sum, &span, sizeof span), &reached, sizeof reached), &of_local, sizeof of_local);
-    sum = mix(mix(sum, &info.first, sizeof info.first), &info.last, sizeof info.last);
-    sum = mix(mix(mix(sum, &clock_at, sizeof clock_at), &day, sizeof day), &floor, sizeof floor);
-    sum = mix(sum, &saving, sizeof saving);
-    return mix(mix_clock(sum, &clock), &resolved, sizeof resolved);
+    for (size_t i = 0; i < ALL; i++) {
+        any_answer answer = {.bytes = {0}};
+        uint32_t number = QUESTION[i].ask(zone, at, &answer);
+        if (QUESTION[i].empty) memset(answer.bytes + QUESTION[i].empty, 0, 4);
+        sum = mix(mix(sum, &number, sizeof number), &answer, QUESTION[i].size);
+    }
+    return sum;
 }
 
 /* The same of several, and of the changes of a stretch. */
@@ -1291,32 +1180,12 @@ static struct bytes overlapping_changes(void) {
 
 static void ask_on_painted_stack(const struct zoned_zone *zone) {
     static int64_t times[LONG], answers[LONG];
-    int64_t at = 1615705199, number;
-    int32_t offset;
+    int64_t at = 1615705199;
     size_t row, count;
-    zoned_local_type type;
-    zoned_change change, changes[MOST];
-    zoned_wall_clock clock;
-    zoned_resolved resolved;
-    zoned_span span;
-    zoned_day day;
-    zoned_fields fields;
-    WITHIN(OF_ONE_KB, zoned_zone_offset(zone, at, &offset));
-    WITHIN(OF_ONE_KB, zoned_zone_type(zone, at, &type));
-    WITHIN(OF_ONE_KB, zoned_zone_span(zone, at, &span));
-    WITHIN(OF_ONE_KB, zoned_zone_next_change(zone, at, &change));
-    WITHIN(OF_ONE_KB, zoned_zone_previous_change(zone, at, &change));
-    WITHIN(OF_ONE_KB, zoned_zone_next_offset_change(zone, at, &change));
-    WITHIN(OF_ONE_KB, zoned_zone_previous_offset_change(zone, at, &change));
+    zoned_change changes[MOST];
+    any_answer answer;
+    for (size_t i = 0; i < ON_A_SMALL_STACK; i++) WITHIN(OF_ONE_KB, QUESTION[i].ask(zone, at, &answer));
     WITHIN(OF_ONE_KB, zoned_zone_changes(zone, at, at + 100000000, MOST, changes, MOST, &count));
-    WITHIN(OF_ONE_KB, zoned_zone_wall_clock(zone, at, &clock));
-    WITHIN(OF_ONE_KB, zoned_zone_instant(zone, ZONED_GAP_SHIFT_FORWARD, ZONED_FOLD_LATEST, at, &resolved));
-    WITHIN(OF_ONE_KB, zoned_zone_first_at_or_after(zone, at, &resolved));
-    WITHIN(OF_ONE_KB, zoned_zone_reached(zone, at, &number));
-    WITHIN(OF_ONE_KB, zoned_zone_day(zone, at, &day));
-    WITHIN(OF_ONE_KB, zoned_zone_floor(zone, ZONED_STEP_MONTH, at, &number));
-    WITHIN(OF_ONE_KB, zoned_zone_ceil(zone, ZONED_STEP_YEAR, at, &number));
-    WITHIN(OF_ONE_KB, zoned_zone_fields(zone, at, &fields));
     for (int64_t i = 0; i < LONG; i++) times[i] = i * 7919 % LONG * 300000;
     WITHIN(STACK_KB, zoned_column_locals(zone, 1, times, LONG, answers, LONG, &row));
     WITHIN(STACK_KB, zoned_column_instants(zone, ZONED_GAP_END, ZONED_FOLD_EARLIEST, 1, times, LONG, answers, LONG, &row));

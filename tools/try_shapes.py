@@ -6,8 +6,9 @@ usage: tools/try_shapes.py [--write] [WORD ..]
 A shape is a zone with seconds to ask it about, or with a column. Valgrind's callgrind counts, so that neither the machine nor its load
 matters. A call may take ten times what it takes in New York, a row of a column ten times what it takes there in a column of 10,000
 rows, and a byte of a zone that is opened ten times what one of New York's file or TZ string takes. Where tools/shapes.txt has a
-reason, a shape may take more. And no count may be above 1.3 of the one that is kept there. With words, only shapes whose names have
-one of them are tried. --write writes the counts, and keeps the reasons.
+reason, a shape may take more. That file keeps the counts of New York, and must have each that is above three quarters of the limit:
+none may grow to more than 1.3 of the kept one. With words, only shapes whose names have one of them are tried. --write writes the counts to keep,
+with their reasons.
 
 It needs crates/zoned_ffi/out/libzoned_ffi.a, which `rt lib` builds in crates/zoned_ffi, gcc, and a tz database in
 /usr/share/zoneinfo; without valgrind and its header it counts nothing. It takes two minutes of a processor. The status is 1 if a
@@ -30,7 +31,7 @@ from sources import DATABASE, TOP, needs
 
 ARCHIVE, PROGRAM, KEPT = TOP / "crates/zoned_ffi/out/libzoned_ffi.a", TOP / "tools/count_calls.c", TOP / "tools/shapes.txt"
 HEADER = Path("/usr/include/valgrind/callgrind.h")
-MOST_TIMES, MOST_GROWTH = 10, 1.3
+MOST_TIMES, MOST_GROWTH, NEAR = 10, 1.3, 7.5
 FILE, EXTENDED_STRING = 0, 2
 DAY, YEAR = 86_400, 31_556_952
 YEAR_1900, YEAR_2000, YEAR_2100 = -2_208_988_800, 946_684_800, 4_102_444_800
@@ -209,7 +210,7 @@ def main():
         program = build(Path(folder))
         found = dict(zip([shape.name for shape in wanted], lanes.map(lambda shape: counted(program, folder, shape), wanted)))
     before, reasons = kept()
-    failures, lines, opened = 0, [], set()
+    failures, tried, lines, opened = 0, 0, [], set()
     for shape in wanted:
         for call, count in sorted(found[shape.name].items()):
             if call == "open" and shape.content in opened:
@@ -218,11 +219,13 @@ def main():
             row = shape.name, call
             times = count / found[shape.ordinary(call)][call]
             growth = count / before.get(row, count)
-            if (times > MOST_TIMES and row not in reasons) or growth > MOST_GROWTH:
+            if (times > MOST_TIMES and row not in reasons) or (times > NEAR and row not in before) or growth > MOST_GROWTH:
                 failures += 1
                 print(f"{shape.name}: {call}: {count:.0f}, {times:.1f} times the ordinary count, and {growth:.2f} times the kept one")
-            lines.append(" | ".join([*row, f"{count:.1f}", *([reasons[row]] if row in reasons else [])]))
-    print(f"{len(wanted)} shapes, {len(lines)} counts, of which {failures} are too high")
+            tried += 1
+            if times > NEAR or shape.name == shape.ordinary(call):
+                lines.append(" | ".join([*row, f"{count:.1f}", *([reasons[row]] if row in reasons else [])]))
+    print(f"{len(wanted)} shapes, {tried} counts, of which {failures} are too high")
     if "--write" in sys.argv:
         KEPT.write_text("\n".join(["# shape | call | instructions of a question, a row, or a byte of the zone | why they may be many", *lines]) + "\n")
     return failures > 0

@@ -8,9 +8,11 @@ usage: tools/try_tests.py [--fmt] [NAME ..]
 it says when it runs. So tests are next to `src/`: each text of crates/NAME/tests is a module that uses the crate by its
 name, and others that it needs, as a client does. All of them, or those of the named crates, are laid into one crate with a
 copy of this repository's libraries, and are run as `rt try --test` does: it stops at what Rust would panic at, and proves nothing. No
-crate can use a static library: its texts are laid into the copy of that crate itself.
+crate can use a static library: its texts are laid into the copy of that crate itself. The examples of doc comments are tests too:
+tools/doc_examples.py adds them to the text doc_comments.txt.
 
-With --fmt the texts are laid out as `rt fmt` lays out code, and none is run. --self-test tries how tests are counted.
+With --fmt the texts are laid out as `rt fmt` lays out code, and none is run. --self-test tries how tests are counted, and
+examples read.
 
 Names the tests that failed, and ends with status 1 if one did, or if not each `#[test]` of the texts ran.
 
@@ -24,6 +26,7 @@ import sys
 import tempfile
 from pathlib import Path
 
+from doc_examples import GIVEN, statements, tests as examples
 from kit import RT, tried
 from sources import TOP, crates, is_static, needs, uses
 
@@ -36,12 +39,17 @@ def texts_of(name):
     return sorted((TOP / "crates" / name / LAID).glob("*.txt"))
 
 
+def content(name, text):
+    """A text of that crate, with the examples if it is the one for them."""
+    return examples(name) if text.match(GIVEN) else text.read_text()
+
+
 def named_in(texts):
     """The crates of this repository that the texts name."""
     return {word for text in texts for word in re.findall(r"(?m)^use (\w+)::", text.read_text()) if word in uses()}
 
 
-def repository(top, names):
+def repository(top, names, content=content):
     """A copy of this repository with one crate more. Returns each crate that has tests laid in: the names whose they are, and the
     libraries that it names."""
     apart = [name for name in names if not is_static(name)]
@@ -56,11 +64,11 @@ def repository(top, names):
             file.write(f"{LAID}: {' '.join(sorted(below))}\n")
         laid_in[top / "crates" / LAID] = apart, sorted(below)
     for crate, (those, _) in laid_in.items():
-        lay(crate / "src", those)
+        lay(crate / "src", those, content)
     return laid_in
 
 
-def lay(src, names):
+def lay(src, names, content):
     """The tests of crate NAME are the modules of the module of_NAME."""
     src.mkdir(parents=True, exist_ok=True)
     root = src / "lib.rt"
@@ -71,7 +79,7 @@ def lay(src, names):
         modules = [f"mod {text.stem};\n" for text in texts_of(name)]
         (src / f"of_{name}.rt").write_text("".join(modules))
         for text in texts_of(name):
-            shutil.copy(text, laid(src, name, text))
+            laid(src, name, text).write_text(content(name, text))
 
 
 def laid(src, name, text):
@@ -109,6 +117,7 @@ def summary(due, status, report):
 
 PASTED = "    #[test]\n    fn two(rt: HostRuntime) {\n    }\n"
 TEXT = f"#[test]\nfn one(rt: HostRuntime) {{\n}}\n\n{PASTED}\n// #[test]\n"
+EXAMPLE = ["let noon = f()?; // 2021-03-14 12:00:00, a Sunday", "g(noon) // (7, None)", "let x = 1; // a note"]
 PASSED = "test of_low::dates::one ... ok\ntest of_low::dates::two ... ok\n"
 
 
@@ -126,6 +135,12 @@ def self_test():
             yield f"{summary({'low': 2}, status, report)}, where {due} is due"
 
 
+    made = " ".join(statements("here", EXAMPLE))
+    for due in ('let noon = f().expect(', 'told.as_str() == "2021-03-14T12:00:00"', "let told = g(noon);", 'told.as_str() == "7"', 'told.as_str() == "None"'):
+        if due not in made or made.count("assert!") != 3:
+            yield f"an example becomes {made}, where {due} is due"
+
+
 def reports(laid_in):
     """The worst status, and what is said of the tests of each crate."""
     ran = [tried(crate, used, SECONDS) for crate, (_, used) in laid_in.items()]
@@ -136,21 +151,21 @@ def main():
     words = sys.argv[1:]
     if words == ["--self-test"]:
         faults = list(self_test())
-        print("\n".join(f"tools/try_tests.py: {fault}" for fault in faults) or "tests are counted as they must be")
+        print("\n".join(f"tools/try_tests.py: {fault}" for fault in faults) or "tests are counted, and examples read, as they must be")
         return 1 if faults else 0
     having = [name for name in crates() if texts_of(name)]
     names = [word for word in words if word != "--fmt"] or having
     lacking = [name for name in names if name not in having]
     if lacking:
         sys.exit(f"no tests of {', '.join(lacking)}: there are those of {', '.join(having)}")
-    due = {name: sum(count(text.read_text()) for text in texts_of(name)) for name in names}
+    due = {name: sum(count(content(name, text)) for text in texts_of(name)) for name in names}
     with tempfile.TemporaryDirectory() as folder:
-        laid_in = repository(Path(folder), names)
         if "--fmt" in words:
+            laid_in = repository(Path(folder), names, lambda _, text: text.read_text())
             for crate, (those, _) in laid_in.items():
                 lay_out(crate, those)
             return 0
-        status, report = reports(laid_in)
+        status, report = reports(repository(Path(folder), names))
     lines, all_passed = summary(due, status, report)
     if not all_passed:
         print(report)

@@ -3,7 +3,7 @@
 
 usage: python/bench/side_by_side.py [--rows N] [--write] [--part NAME ..]
 
-Prints the tables of docs/PYTHON.md, or with --write puts them there, all of them and only on an idle machine: with pandas 1
+Prints the tables of RESULTS.md, or with --write puts them there, all of them and only on an idle machine: with pandas 1
 those of its first block, and with a later one those of the second. It takes five minutes. --part prints some of them:
 ratios, sizes, steps, values, calls, memory, kinds; arrow, which needs pyarrow; and limits: what the library's call alone
 takes of a call on 1,000 to 100,000 rows, and what a copy takes that is made an answer.
@@ -44,7 +44,7 @@ from sahvumbi import Zone
 from sahvumbi._containers import index_of_times, series_of_times
 from sahvumbi._library import BRIEF
 
-PAGE = Path(__file__).resolve().parents[2] / "docs/PYTHON.md"
+PAGE = Path(__file__).resolve().parent / "RESULTS.md"
 BEGIN, END = "<!-- what python/bench/side_by_side.py prints -->\n", "<!-- end -->\n"
 BEGIN_LATER = "<!-- what it prints with pandas 2 and pyarrow -->\n"
 ZONES = [
@@ -456,7 +456,7 @@ def machine(rows):
 def main():
     parser = argparse.ArgumentParser(description=__doc__.split("\n")[0])
     parser.add_argument("--rows", type=int, default=2_000_000)
-    parser.add_argument("--write", action="store_true", help="put the tables into docs/PYTHON.md")
+    parser.add_argument("--write", action="store_true", help="put the tables into RESULTS.md")
     parser.add_argument("--part", nargs="+", default=PARTS)
     given = parser.parse_args()
     if given.write and (os.getloadavg()[0] >= 1 or given.part != PARTS):

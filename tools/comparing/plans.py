@@ -1,7 +1,7 @@
 """Compares when plans fire with croniter and with dateutil's rrule, in thirty zones, from 1970 to 2069.
 
 Crontab lines and rules of RFC 5545 that touch the hours at which clocks change are asked in all zones, and random ones in one zone
-each. `ZoneDays::next_fire` and `previous_fire` list their fires in both directions. They must be
+each. `ZonePlans::next_fire` and `previous_fire` list their fires in both directions. They must be
 
 - the first seconds at which clocks show, by Python's zoneinfo, the local times that croniter or rrule lists, or later ones, each once;
 - the instants that croniter and rrule themselves list in that zone, but for days on which clocks change at a local time of the plan.
@@ -244,7 +244,7 @@ def ours(plans, folder):
     (src / "plans.rt").write_text(Path(__file__).with_suffix(".txt").read_text().replace("FOLDER", str(folder)))
     (folder / "zones.txt").write_text("".join(f"{FOLDER / name}\n" for name in ZONES))
     (folder / "plans.txt").write_text("".join(" ".join(map(str, plan)) + "\n" for plan in plans))
-    status, said = tried(src.parent, ["naive_base", "naive_plans", "tz_info", "zoned_ref", "zoned_time"], LONGEST)
+    status, said = tried(src.parent, ["naive_base", "naive_plans", "naive_rrule", "tz_info", "zoned_plans", "zoned_ref", "zoned_time"], LONGEST)
     if status != 0:
         sys.exit(said)
     made = []

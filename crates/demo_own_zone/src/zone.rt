@@ -14,7 +14,7 @@ use zoned_time::{ShownDay, TimeZone, ZoneDays};
 ///
 /// ```
 /// let one = Odd.with_ymd_and_hms(1970, 1, 1, 0, 0, 1); // None
-/// let two = Odd.with_ymd_and_hms(1970, 1, 1, 0, 0, 2); // Ambiguous: the Unix times 1 and 2
+/// let two = Odd.with_ymd_and_hms(1970, 1, 1, 0, 0, 2).map(|instant| instant.timestamp()); // Ambiguous(1, 2)
 /// ```
 #[derive(Clone, Copy, Debug)]
 pub struct Odd;

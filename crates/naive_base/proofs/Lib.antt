@@ -8,4 +8,5 @@ pub mod IsoWeeks
 pub mod Named
 pub mod MonthDates
 pub mod Lengths
+pub mod Since
 pub mod ForCallers

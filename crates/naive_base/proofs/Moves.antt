@@ -46,6 +46,12 @@ difference-plain a b h k = rw (leap_between-plain a b h k) (omega (arith, floors
 pub difference-moved : (r : Reading) (d : ℤ) → r.f < 1_000_000_000 → difference (moved r d) r ≡ d
 difference-moved r d h = omega (arith, floors, difference-plain (moved r d) r (moved-plain_again r d h) h, total-moved r d h)
 
+-- a local date-time moved by what lies between is the other one
+pub moved-difference : (a b : Reading) → a.f < 1_000_000_000 → b.f < 1_000_000_000 → moved b (difference a b) ≡ a
+moved-difference a b h k =
+    let e : total b +ℤ difference a b ≡ total a = omega (arith, ints, difference-plain a b h k) in
+    rw (moved-plain b (difference a b) k, e) (of_total-total-reading a h)
+
 -- A local date-time and itself.
 
 pub difference-itself : (r : Reading) → difference r r ≡ pos 0

@@ -18,4 +18,5 @@ pub mod Week
 pub mod NaiveTime
 pub mod NaiveDateTime
 pub mod Fields
+pub mod Since
 pub mod Steps

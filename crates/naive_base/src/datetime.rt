@@ -9,6 +9,7 @@ ghost use Rattle.{
 mod fields;
 mod moves;
 mod operators;
+mod since;
 
 use crate::range::{FIRST_SECOND, LAST_SECOND};
 use crate::{NaiveDate, NaiveTime, Timelike};
@@ -73,7 +74,7 @@ impl NaiveDateTime {
     ///
     /// ```
     /// let before = NaiveDateTime::from_timestamp_opt(-1, 5); // Some(1969-12-31T23:59:59.000000005)
-    /// let leap_second = NaiveDateTime::from_timestamp_opt(1_483_228_799, 1_500_000_000); // 2016-12-31T23:59:60.500
+    /// let leap_second = NaiveDateTime::from_timestamp_opt(1_483_228_799, 1_500_000_000)?; // 2016-12-31T23:59:60.500
     /// let none = NaiveDateTime::from_timestamp_opt(0, 1_000_000_000); // None
     /// ```
     #[inline(always)]

@@ -6,7 +6,7 @@ use Rattle.naive_base.proofs.Words.{days_in_year, floor_div, floor_mod, floors, 
 use Rattle.naive_base.proofs.Words.{subst, sym, weekday_number, year_of, year_start, year_step, ℕ, ℤ, ◌%◌, ◌*◌, ◌*ℤ◌, ◌+ℤ◌, ◌+◌, ◌-ℤ◌, ◌-◌, ◌/◌, ◌<ℤ◌, ◌<◌, ◌≡◌}
 use Rattle.naive_base.proofs.Words.{◌≤ℤ◌, ◌≤◌, ◌⊎◌, day_number, days_at_least, days_of_months, number_at}
 use Rattle.naive_base.specs.declared.weekday.Weekday.{Weekday}
-use Rattle.naive_plans.proofs.Periods.{in_same_month, least_days, multiples_apart}
+use Rattle.naive_plans.proofs.DayPlaces.{in_same_month, least_days, multiples_apart}
 use Rattle.naive_plans.specs.{ClockSteps.{BeginsOnDay, BeginsStep, seconds_of_step}, PartsOfDay.{IsPartOfDay}, Steps.Members.{IsFirstAfter, IsLastUpTo}}
 use Rattle.naive_plans.specs.{Steps.StepPlaces.{IsPlace}, declared.clock_step.ClockStep.{ClockStep, TheVariants.{Day, Month, Part, Week, Year}}}
 

@@ -1,15 +1,8 @@
 mod Bits
+mod DayPlaces
 mod DayWalk
 mod CronWalk
-mod RuleParts
-mod Periods
-mod OccasionWalk
-mod OccasionsBack
-mod RuleTimes
-mod Counted
-mod NthTimes
-mod Chains
 mod TimeLists
 mod Selected
-mod PeriodsOfDay
 mod ClockSteps
+pub mod ForCallers

@@ -1,10 +1,8 @@
 pub mod Plans
+pub mod DailyTimes
 pub mod DayPlans
 pub mod PlanSets
 pub mod Cron
 pub mod PartsOfDay
 pub mod ClockSteps
-pub mod RecurrenceRules
-pub mod AllowedRules
-pub mod RecurrenceSets
 pub mod Steps

@@ -2,8 +2,4 @@
 pub mod CronDates
 pub mod StepPlaces
 pub mod Members
-pub mod PositionSteps
 pub mod Sets
-pub mod RuleSteps
-pub mod OccasionSteps
-pub mod RecurrenceSteps

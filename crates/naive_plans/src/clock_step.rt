@@ -7,8 +7,7 @@ ghost use Rattle.{
 };
 
 use crate::day_plan::{at_second, date_after, date_before};
-use crate::rule::{days_of_week, month_length, place_in_year};
-use crate::seconds::{day_of, second_at, second_of};
+use crate::days::{day_of, days_of_week, month_length, place_in_year, second_at, second_of};
 use crate::{PartOfDay, Plan, ReversiblePlan};
 use naive_base::{NaiveDate, NaiveDateTime, Weekday};
 
@@ -23,7 +22,7 @@ const EPOCH_FROM_CE: i32 = 719_163;
 /// next one's.
 ///
 /// As a [`Plan`] it is the local times at which steps begin. In a zone they begin when that plan fires:
-/// `ZoneDays::floor`, `ZoneDays::ceil` and `ZoneDays::step_at` of `zoned_time` find those instants.
+/// `ZonePlans::floor`, `ZonePlans::ceil` and `ZonePlans::step_at` of `zoned_plans` find those instants.
 ///
 /// ```
 /// let noon = NaiveDate::from_ymd_opt(2021, 3, 17)?.and_hms_opt(12, 0, 0)?; // a Wednesday
@@ -54,7 +53,7 @@ impl ClockStep {
     /// number of them.
     ///
     /// ```
-    /// let quarter = ClockStep::seconds(900)?; // 00:00, 00:15, 00:30, ..
+    /// let quarter = ClockStep::seconds(900)?; // at 00:00, 00:15, 00:30, ..
     /// let none = ClockStep::seconds(7 * 3_600); // None
     /// ```
     pub fn seconds(seconds: u32) -> Option<ClockStep>

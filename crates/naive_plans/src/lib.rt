@@ -7,25 +7,18 @@
 
 mod clock_step;
 mod cron;
+mod daily_time;
 mod day_plan;
-mod earlier_occasions;
-mod empty_rules;
+pub mod days;
 pub mod laws;
-mod occasions;
 mod part_of_day;
 mod plan;
-mod positions;
-mod recurrence;
-mod rule;
-mod rule_periods;
-mod seconds;
 mod sets;
 
 pub use clock_step::ClockStep;
 pub use cron::Cron;
+pub use daily_time::DailyTime;
 pub use day_plan::{DayPlan, ReversibleDayPlan, last_local_time, next_local_time};
 pub use part_of_day::PartOfDay;
 pub use plan::{Plan, ReversiblePlan};
-pub use recurrence::{Recurrence, RecurrenceEnd, RecurrenceError};
-pub use rule::{Frequency, NthWeekday, RecurrenceRule};
 pub use sets::{Except, Intersection, LocalTimes, Union};

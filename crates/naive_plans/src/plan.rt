@@ -10,7 +10,7 @@ use naive_base::NaiveDateTime;
 /// A set of local times in whole seconds, such as 02:30 on each weekday.
 ///
 /// A plan knows no time zone. In a zone it fires at the first instant at which clocks show one of its
-/// local times or a later one: `ZoneDays::next_fire` and `ZoneDays::previous_fire` of `zoned_time` find
+/// local times or a later one: `ZonePlans::next_fire` and `ZonePlans::previous_fire` of `zoned_plans` find
 /// those instants.
 pub trait Plan {
     // its local times, as seconds

@@ -15,7 +15,7 @@ use naive_base::NaiveDateTime;
 ///
 /// ```
 /// let stored = [first, second];
-/// let next = LocalTimes { list: &stored }.next_after(&first)?; // the second one
+/// let next = LocalTimes { list: &stored }.next_after(&first)? == second; // true
 /// ```
 #[derive(Clone, Copy, Debug)]
 pub struct LocalTimes<'a> {

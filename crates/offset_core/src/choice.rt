@@ -3,18 +3,17 @@
 /// The policy for a gap, whose times no clock shows.
 #[derive(Clone, Copy, PartialEq, Eq, Debug)]
 pub enum GapChoice {
-    /// Nothing.
+    /// Selects no instant: the answer is the error for a gap.
     Refuse,
-    /// The instant by the offset before the gap, so that a clock which was not set forward shows
-    /// the time. New York's clocks skipped 02:30 on 2021-03-14: it is the instant at which they
-    /// showed 03:30.
+    /// The instant at which a clock that wasn't set forward shows the time. New York's clocks
+    /// skipped 02:30 on 2021-03-14: it is the instant at which they showed 03:30.
     ShiftForward,
 }
 
 /// The policy for a fold, whose times are shown several times.
 #[derive(Clone, Copy, PartialEq, Eq, Debug)]
 pub enum FoldChoice {
-    /// Nothing.
+    /// Selects no instant: the answer is the error for a fold.
     Refuse,
     /// The first instant that shows the time.
     Earliest,

@@ -1,10 +1,9 @@
 //! What differs over a borrowed zone: loops in place of closures that capture an instant or ask the
 //! zone, and functions of their own for single calls, since a function of several such calls takes long
-//! to prove. Copies are as over a kept zone.
+//! to prove. Copies are as over a kept zone ([`crate::copies`]).
 
 use crate::copy_of;
 use std::alloc::{AllocError, Global};
-use std::collections::BTreeMap;
 use zoned::{DailySeries, DateTime, Days, SeriesError, TimeZone, TimeZoneRef, Timelike};
 
 pub fn any_after<'a>(
@@ -140,31 +139,4 @@ pub fn last_of_days<'a>(
         Some(instant) => Ok(Some(instant?)),
         None => Ok(None),
     }
-}
-
-pub fn twice<'a>(
-    instant: &DateTime<TimeZoneRef<'a>>,
-) -> (DateTime<TimeZoneRef<'a>>, DateTime<TimeZoneRef<'a>>) {
-    (copy_of(instant), copy_of(instant))
-}
-
-pub fn with<'a>(
-    mut instants: Vec<DateTime<TimeZoneRef<'a>>>,
-    instant: &DateTime<TimeZoneRef<'a>>,
-) -> Result<Vec<DateTime<TimeZoneRef<'a>>>, AllocError> {
-    instants.push(copy_of(instant))?;
-    Ok(instants)
-}
-
-pub fn numbered<'a>(
-    alloc: Global,
-    instants: &[DateTime<TimeZoneRef<'a>>],
-) -> Result<BTreeMap<DateTime<TimeZoneRef<'a>>, u32>, AllocError> {
-    let mut numbered = BTreeMap::new(alloc);
-    let mut number = 0u32;
-    for instant in instants {
-        numbered.insert(copy_of(instant), number)?;
-        number = number.saturating_add(1);
-    }
-    Ok(numbered)
 }

@@ -46,14 +46,3 @@ pub fn is_between(
 ) -> bool {
     start <= instant && instant < end
 }
-
-/// A guard with `<`.
-pub fn latest_so_far(
-    best: Option<DateTime<KeptZone>>,
-    instant: DateTime<KeptZone>,
-) -> Option<DateTime<KeptZone>> {
-    match best {
-        Some(best) if instant < best => Some(best),
-        _ => Some(instant),
-    }
-}

@@ -1,8 +1,7 @@
 //! Instants of a kept zone copied.
 
 use crate::copy_of;
-use std::alloc::{AllocError, Global};
-use std::collections::BTreeMap;
+use std::alloc::AllocError;
 use zoned::{DateTime, Days, KeptZone};
 
 pub fn twice(instant: &DateTime<KeptZone>) -> (DateTime<KeptZone>, DateTime<KeptZone>) {
@@ -15,19 +14,6 @@ pub fn with(
 ) -> Result<Vec<DateTime<KeptZone>>, AllocError> {
     instants.push(copy_of(instant))?;
     Ok(instants)
-}
-
-pub fn numbered(
-    alloc: Global,
-    instants: &[DateTime<KeptZone>],
-) -> Result<BTreeMap<DateTime<KeptZone>, u32>, AllocError> {
-    let mut numbered = BTreeMap::new(alloc);
-    let mut number = 0u32;
-    for instant in instants {
-        numbered.insert(copy_of(instant), number)?;
-        number = number.saturating_add(1);
-    }
-    Ok(numbered)
 }
 
 /// Instants a day apart.

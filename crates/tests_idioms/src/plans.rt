@@ -1,7 +1,7 @@
 //! When plans fire in a kept zone, and the days that its instants lie in.
 
 use std::alloc::{AllocError, Global};
-use zoned::{Cron, DateTime, KeptZone, NaiveDate, NaiveDateTime, Plan, Utc, ZoneDays};
+use zoned::{Cron, DateTime, KeptZone, NaiveDate, NaiveDateTime, Plan, Utc, ZoneDays, ZonePlans};
 
 /// Each hour and minute that is listed, on each day.
 pub fn daily(hours: [bool; 24], minutes: [bool; 60]) -> Cron {

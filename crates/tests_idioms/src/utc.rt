@@ -1,32 +1,9 @@
 //! What differs over UTC: copies in place are covered, and guards over an instant aren't.
 
-use std::alloc::{AllocError, Global};
-use std::collections::BTreeMap;
 use zoned::{DailySeries, DateTime, Days, SeriesError, TimeZone, Utc};
 
 pub fn twice(instant: &DateTime<Utc>) -> (DateTime<Utc>, DateTime<Utc>) {
     (*instant, *instant)
-}
-
-pub fn with(
-    mut instants: Vec<DateTime<Utc>>,
-    instant: &DateTime<Utc>,
-) -> Result<Vec<DateTime<Utc>>, AllocError> {
-    instants.push(*instant)?;
-    Ok(instants)
-}
-
-pub fn numbered(
-    alloc: Global,
-    instants: &[DateTime<Utc>],
-) -> Result<BTreeMap<DateTime<Utc>, u32>, AllocError> {
-    let mut numbered = BTreeMap::new(alloc);
-    let mut number = 0u32;
-    for instant in instants {
-        numbered.insert(*instant, number)?;
-        number = number.saturating_add(1);
-    }
-    Ok(numbered)
 }
 
 /// Instants a day apart.
@@ -49,18 +26,6 @@ pub fn latest_so_far(best: Option<DateTime<Utc>>, instant: DateTime<Utc>) -> Opt
         Some(best) => Some(best.max(instant)),
         None => Some(instant),
     }
-}
-
-/// The same in a loop.
-pub fn latest_by_loop(instants: &[DateTime<Utc>]) -> Option<DateTime<Utc>> {
-    let mut latest = None;
-    for instant in instants.iter().copied() {
-        latest = match latest {
-            Some(best) => Some(instant.max(best)),
-            None => Some(instant),
-        };
-    }
-    latest
 }
 
 /// The earlier of the instants at which the clocks of two zones show noon of a day. The zones are a

@@ -1,15 +1,14 @@
 //! Asks a zone of 1,048,576 clock changes about each of them: what is in force at it, and when clocks show the local time at which it is
-//! over, by the index and by the walk. Then it asks a zone of 5,000,000 changes about the last of them: with memory at hand it is made.
+//! over, by the index and by the walk, each by the call that users make and by its counted form. Then it asks a zone of 5,000,000 changes about the last of them: with memory at hand it is made.
 //!
 //! It prints how many answers of each kind are right. `rt ci` gives a program two minutes; a lookup that read the transitions or the
 //! index from end to end would read some 5 * 10^11 of them.
 #![tactic(auto)]
 
-use anyhow::Result;
 use naive_base::NaiveDateTime;
 use offset_core::LocalResult;
 use std::alloc::Global;
-use tz_info::{LocalTimeType, Probes, TimeZone, Transition};
+use tz_info::{Error, LocalTimeType, Probes, TimeZone, Transition};
 
 const CHANGES: u32 = 1_048_576;
 
@@ -17,11 +16,13 @@ const MORE_CHANGES: u32 = 5_000_000;
 
 const SECONDS_APART: i64 = 1_000_000;
 
-fn main(rt: HostRuntime) -> Result<()> {
+fn main(rt: HostRuntime) -> anyhow::Result<()> {
     let zone = zone_in_turn(rt.alloc(), CHANGES)?;
     for (what, lookup) in [
         ("by instant", Lookup::ByInstant),
+        ("by instant, counted", Lookup::ByInstantCounted),
         ("by local time", Lookup::ByLocalTime),
+        ("by local time, counted", Lookup::ByLocalTimeCounted),
         ("by local time, without the index", Lookup::ByWalk),
     ] {
         println!(rt;
@@ -38,7 +39,7 @@ fn main(rt: HostRuntime) -> Result<()> {
 }
 
 // Clocks change each 1,000,000 seconds from 1970 on, to an hour ahead of UTC and back in turn.
-fn zone_in_turn(alloc: Global, changes: u32) -> Result<TimeZone> {
+fn zone_in_turn(alloc: Global, changes: u32) -> anyhow::Result<TimeZone> {
     let mut types = Vec::new(alloc);
     types.push(LocalTimeType::with_offset(0)?)?;
     types.push(LocalTimeType::with_offset(3600)?)?;
@@ -55,7 +56,9 @@ fn zone_in_turn(alloc: Global, changes: u32) -> Result<TimeZone> {
 #[derive(Clone, Copy)]
 enum Lookup {
     ByInstant,
+    ByInstantCounted,
     ByLocalTime,
+    ByLocalTimeCounted,
     ByWalk,
 }
 
@@ -77,22 +80,29 @@ impl Lookup {
     // The offset that it finds at the second of a change, or at the local time 3600 seconds later, which clocks show once.
     fn offset(self, zone: &TimeZone, time: i64) -> Option<i32> {
         let local = NaiveDateTime::from_timestamp_opt(time.saturating_add(3600), 0)?;
+        let mut probes = Probes::new();
         match self {
-            Lookup::ByInstant => match zone.find_local_time_type(time) {
-                Ok(local_type) => Some(local_type.offset()),
-                Err(_) => None,
-            },
-            Lookup::ByLocalTime => match zone.local_time_types_at(local) {
-                LocalResult::Single(local_type) => Some(local_type.offset()),
-                _ => None,
-            },
-            Lookup::ByWalk => {
-                let mut probes = Probes::new();
-                match zone.find_local_time_type_from_local_by_walk(local, &mut probes) {
-                    Ok(LocalResult::Single(local_type)) => Some(local_type.offset()),
-                    _ => None,
-                }
+            Lookup::ByInstant => offset_of(zone.find_local_time_type(time)),
+            Lookup::ByInstantCounted => offset_of(zone.find_local_time_type_counted(time, &mut probes)),
+            Lookup::ByLocalTime => only_offset(zone.find_local_time_type_from_local(local)),
+            Lookup::ByLocalTimeCounted => {
+                only_offset(zone.find_local_time_type_from_local_counted(local, &mut probes))
             }
+            Lookup::ByWalk => only_offset(zone.find_local_time_type_from_local_by_walk(local, &mut probes)),
         }
+    }
+}
+
+fn offset_of(found: Result<&LocalTimeType, Error>) -> Option<i32> {
+    match found {
+        Ok(local_type) => Some(local_type.offset()),
+        Err(_) => None,
+    }
+}
+
+fn only_offset(found: Result<LocalResult<LocalTimeType>, Error>) -> Option<i32> {
+    match found {
+        Ok(LocalResult::Single(local_type)) => Some(local_type.offset()),
+        _ => None,
     }
 }

@@ -1,11 +1,11 @@
 -- What examples compute with: to unfold one of these words is to unfold all that its line names.
 use Rattle.tz_info.specs.TzGrammar.{checked_day, hours_minutes_seconds, minutes_seconds, more, name, numbered_day, optional_minutes, quoted, sign, time_sign}
-use Rattle.tz_info.specs.Looks.{digits as binary_digits}
+use Rattle.tz_search.specs.Digits.{digits as binary_digits}
 use Rattle.std.specs.{Str.{chars, is_utf8}, Str.Lossy.{utf8_valid_len}}
 use Rattle.tz_info.proofs.Words.{alternate, date, day, days, dst_offset, duration, end, fixed, given_offset}
 use Rattle.tz_info.proofs.Words.{julian_date, month_date, named, next_hour, offset, optional_time, rule_in, time}
 use Rattle.tz_info.proofs.{Words.{trimmed}, PosixLaws.{zone_in}}
-use Rattle.tz_info.specs.FileContents.{designation, indicators, local_type, mark, pair_at, type_at, typed}
+use Rattle.tz_file.specs.FileContents.{designation, indicators, local_type, mark, pair_at, type_at, typed}
 use Rattle.tz_info.specs.{Footers.{footer, footer_text, newline, optional_footer, utf8}, TzFiles.{contents, tz_file}}
 use Rattle.zoneq_lib.specs.Questions.{calendar_day, fold, gap, text_query, unix_seconds}
 use Rattle.zoneq_lib.proofs.CitedWords.{Begins, Word, at_query, data_query, int_at, integer, local_time, next, question, resolve_query, show_query, tag_at}

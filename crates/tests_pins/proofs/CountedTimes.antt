@@ -1,5 +1,5 @@
 -- How many members of a set come before one, if its first members are known.
-use Rattle.naive_plans.specs.RecurrenceSets.{HasBefore}
+use Rattle.naive_rrule.specs.RecurrenceSets.{HasBefore}
 use Rattle.tests_pins.proofs.Words.{arith, ints, suc, zero, ℕ, ℤ, ◌<ℤ◌, ◌<◌, ◌≤ℤ◌, ◌≤◌}
 
 -- n, if nothing lies before the first of them and between two of them

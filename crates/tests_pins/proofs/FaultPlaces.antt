@@ -2,7 +2,8 @@
 use Rattle.std.proofs.Common.{◌<◌, ◌-◌}
 use Rattle.tz_base.specs.Grammar.{fault_position}
 use Rattle.tz_info.proofs.{TzFileLaws.file_place_once, Words.{Zone, inl, inr}}
-use Rattle.tz_info.specs.{FileContents.{leap_at}, FilePieces.{FilePieces}, Leaps.{IsFirstLeap}, TzFiles.{tz_file}}
+use Rattle.tz_file.specs.{FileContents.{leap_at}, FilePieces.{FilePieces}}
+use Rattle.tz_info.specs.{Leaps.{IsFirstLeap}, TzFiles.{tz_file}}
 use Rattle.tz_info.specs.FilePlaces.{HoldsOfNone, In_lists, In_spelling, IsFilePlace, IsFirstBelow, IsListPlace, IsOtherLeap}
 use Rattle.tests_pins.proofs.Words.{Err, Error, List, None, Ok, Result, arith, false, file, ints, lawful, length, pos, read, subst, suc, zero, ℕ, ℤ, [], ◌≡◌}
 use Rattle.tests_pins.specs.FaultyFiles.{IsOnlyPlace}

@@ -1,5 +1,6 @@
 -- Honolulu's file, from what its grammar reads.
-use Rattle.tz_info.specs.{TzFiles.{tz_file}, declared.file.header.Version.TheVariants.{Two}}
+use Rattle.tz_info.specs.TzFiles.{tz_file}
+use Rattle.tz_file.specs.declared.header.Version.TheVariants.{Two}
 use Rattle.tests_pins.proofs.Words.{HasPieces, IsTzFile, List, Place, Spells, Version, []}
 use Rattle.tests_pins.proofs.Words.{arith, be_u32, block as a_block, counts, counts_test, file as a_file, from_be_bytes}
 use Rattle.tests_pins.proofs.Words.{header as a_header, honolulu, honolulu_file, hst10, inl, inr, lawful, long_times, magic, parts, pieces, refl}

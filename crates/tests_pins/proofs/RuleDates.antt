@@ -1,6 +1,6 @@
 -- What a rule asks of a date that is known.
 use Rattle.std.specs.Prelude.{slice_index_or}
-use Rattle.naive_plans.specs.{declared.rule.NthWeekday.{NthWeekday}, RecurrenceRules.{Counts, IsEntry, ListsWeekday}}
+use Rattle.naive_rrule.specs.{declared.rule.NthWeekday.{NthWeekday}, RecurrenceRules.{Counts, IsEntry, ListsWeekday}}
 use Rattle.tests_pins.proofs.Words.{IsDate, List, arith, date_only, day_number, day_of_month, day_of_year, day_of_year_is, days_of_months, ints, is_leap}
 use Rattle.tests_pins.proofs.Words.{length, month_of, pos, refl, year_of, ℕ, ℤ, ◌*◌, ◌+ℤ◌, ◌+◌, ◌-◌, ◌<◌, ◌≡◌}
 

@@ -1,6 +1,6 @@
 -- Runs at noon in New York in March 2021, and in a zone that is always five hours behind UTC.
 use Rattle.tests_pins.specs.{Days.{IsAlways}, Plans.{daily}}
-use Rattle.zoned_time.specs.Moves.{FiresInFirstOnly, IsMove}
+use Rattle.zoned_plans.specs.Moves.{FiresInFirstOnly, IsMove}
 use Rattle.tests_pins.proofs.SetFires.{InSpring, before_set, from_set, shown_after, shown_before}
 use Rattle.tests_pins.proofs.Words.{AreSetAt, IsFire, IsZoneSecond, arith, by_lt_z, floors, inl, inr, ints, neg_ℤ, pos, refl, ℤ, ◌+ℤ◌, ◌-ℤ◌, ◌<ℤ◌, ◌≤ℤ◌}
 

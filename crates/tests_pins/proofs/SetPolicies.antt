@@ -1,5 +1,5 @@
 -- Fires under policies in zones whose clocks are set once.
-use Rattle.zoned_time.specs.{Nearest.{IsNextOf}, Policies.{IsShownFire}}
+use Rattle.zoned_plans.specs.{Nearest.{IsNextOf}, Policies.{IsShownFire}}
 use Rattle.tests_pins.proofs.Words.{AreSetAt, arith, ints, subst, ℤ, ◌+ℤ◌, ◌<ℤ◌, ◌≡◌, ◌≤ℤ◌}
 
 -- what clocks show at a second before they are set, and from then on

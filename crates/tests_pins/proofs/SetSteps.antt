@@ -2,8 +2,9 @@
 use Rattle.naive_plans.specs.{Plans.{IsLastUntil, IsNextAfter}}
 use Rattle.naive_base.specs.Range.{IsInRange, IsWide}
 use Rattle.offset_core.specs.Offset.{IsWithinDay}
-use Rattle.zoned_time.proofs.{DayStarts.{StayWithinDay}, FireTimes.{last_fire, next_fire}}
-use Rattle.zoned_time.specs.StepBounds.{AreStepBounds}
+use Rattle.zoned_time.proofs.DayStarts.{StayWithinDay}
+use Rattle.zoned_plans.proofs.FireTimes.{last_fire, next_fire}
+use Rattle.zoned_plans.specs.StepBounds.{AreStepBounds}
 use Rattle.tests_pins.proofs.Words.{AreSetAt, IsFirstToReach, IsReachedAt, IsZoneSecond, arith, by_lt_z, ints, ℤ, ◌+ℤ◌, ◌≤ℤ◌}
 
 pub within_day : (off : ℤ → ℤ) (at k m : ℤ) → AreSetAt off at k m → IsWithinDay k → IsWithinDay m → StayWithinDay off

@@ -1,6 +1,7 @@
 -- What bytes spell, and that they spell nothing: what the grammar reads of them.
 use Rattle.tz_info.proofs.PosixLaws.{posix_law, zone_in}
-use Rattle.tz_info.specs.{PosixZones.{posix_zone}, Trims.{trimmed}}
+use Rattle.tz_info.specs.PosixZones.{posix_zone}
+use Rattle.tz_base.specs.Trims.{trimmed}
 use Rattle.tests_pins.proofs.Words.{Asks, Bool, Err, Error, FoldChoice, GapChoice, IsBadLine, IsPosixZone, IsTextFault, IsTzText, List, Ok, Query, Result}
 use Rattle.tests_pins.proofs.Words.{Spells, TransitionRule, Zone, [], ap, choice, false, false≢true, inr, lawful, query_line, read, refl, sym, text, true, ℕ}
 use Rattle.tests_pins.proofs.Words.{◌∙◌, ◌∷◌, ◌≡◌}

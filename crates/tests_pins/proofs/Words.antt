@@ -7,10 +7,13 @@ pub use Rattle.naive_base.specs.{Range.{first_second, last_second}, declared.iso
 pub use Rattle.tz_base.specs.{LocalTypes.{plain_type}, declared.{change.Change.{Change}, error.Error.{Error}}}
 pub use Rattle.tz_info.proofs.Words.{AreLeapSeconds, Contains, IsAskedAt, IsAskedFor, IsByRuleFor, IsChange, IsFromUntil, IsNextLeap, IsOneStep, IsSpanAt}
 pub use Rattle.tz_info.proofs.Words.{IsTextFault, IsYearOf, LiesIn, add-one, days_at_least, one_year, weekday_of, year_step}
-pub use Rattle.tz_info.specs.{Questions.{IsByRule}, declared.file.header.{Counts.{Counts}, Place.{Place}, Version.{Version}}}
-pub use Rattle.tz_info.specs.declared.{rule.transition_rule.TransitionRule.{TransitionRule}, zone.lists.leap_second.LeapSecond.{LeapSecond}}
-pub use Rattle.zoned_time.proofs.Words.{IsEarlier, IsFirstInstantFrom, IsGiven, day_at, day_of_year_is, AreFires, IsFire, IsFirstToReach, IsNextFire}
+pub use Rattle.tz_info.specs.Questions.{IsByRule}
+pub use Rattle.tz_file.specs.declared.header.{Counts.{Counts}, Place.{Place}, Version.{Version}}
+pub use Rattle.tz_info.specs.declared.rule.transition_rule.TransitionRule.{TransitionRule}
+pub use Rattle.tz_base.specs.declared.leap_second.LeapSecond.{LeapSecond}
+pub use Rattle.zoned_time.proofs.Words.{IsEarlier, IsFirstInstantFrom, IsGiven, day_at, day_of_year_is, IsFirstToReach}
 pub use Rattle.zoned_time.proofs.Words.{IsReachedAt}
+pub use Rattle.zoned_plans.specs.Fires.{AreFires, IsFire, IsNextFire}
 pub use Rattle.zoned_time.specs.Years.{IsEarlierInYear, IsWholeYears}
 pub use Rattle.demo_own_zone.proofs.Words.{IsShownBetween, ShowsByOffset, midnight}
 pub use Rattle.zoned_ref.proofs.Words.{AreEndsOfDay, IsBeforeGap, IsNeverOnDay, lies_in, ◌*ℤ◌}

@@ -2,7 +2,7 @@
 use Rattle.std.{proofs.lemmas.List.Elements.{All-cons, All-nil}, specs.Prelude.{All, FitsSigned, ◌^◌}}
 use Rattle.tz_base.proofs.Decided.{value_once}
 use Rattle.tz_base.specs.{LocalTypes.{IsUtOffset}, Steps.TextTests.{is_name, name_from}}
-use Rattle.tz_info.specs.declared.file.header.{Place.TheVariants.{First}, Version.TheVariants.{Three, Two}}
+use Rattle.tz_file.specs.declared.header.{Place.TheVariants.{First}, Version.TheVariants.{Three, Two}}
 use Rattle.tz_write.proofs.{FileWritten.{file_some}, LaidNames.{laid_is}}
 use Rattle.tz_write.specs.WrittenFiles.{HasIndex, HasLeastBlock, HasTimeOf64Bits, HaveVersion, IsSound, IsType, IsWritable, IsWrittenFile}
 use Rattle.tests_pins.proofs.Words.{Bool, List, Some, [], ap, arith, designations, fits_signed_from_abs, header as a_header, honolulu, honolulu_file, hst10}

@@ -1,6 +1,6 @@
 -- Bytes of parts of files.
 use Rattle.std.specs.Prelude.{ℕ, List, [], ◌∷◌}
-use Rattle.tz_info.specs.{FileBlocks.{Parts}, declared.file.header.Counts.{Counts}}
+use Rattle.tz_file.specs.{FileBlocks.{Parts}, declared.header.Counts.{Counts}}
 
 -- the numbers from 1 to 6, of four bytes each
 abbrev pub one_to_six : List ℕ

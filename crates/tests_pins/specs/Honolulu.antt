@@ -1,6 +1,6 @@
 -- Bytes of Honolulu's file (RFC 8536 appendix B.2).
 use Rattle.std.specs.Prelude.{ℕ, List, [], ◌∷◌, ◌++◌, false, Some}
-use Rattle.tz_info.specs.{FileBlocks.{Parts}, FilePieces.{FilePieces}, declared.file.header.Counts.{Counts}}
+use Rattle.tz_file.specs.{FileBlocks.{Parts}, FilePieces.{FilePieces}, declared.header.Counts.{Counts}}
 
 -- the names, each with a 0 byte at its end: `LMT`, `HST`, `HDT`, `HWT` and `HPT`
 abbrev pub designations : List ℕ

@@ -1,7 +1,7 @@
 -- The leap seconds of UTC, as IERS has announced them: one at the end of each of these 27 days.
 use Rattle.std.specs.Prelude.{ℕ, ℤ, pos, List, [], ◌∷◌}
 use Rattle.naive_base.specs.Date.{day_number}
-use Rattle.tz_info.specs.declared.zone.lists.leap_second.LeapSecond.{LeapSecond}
+use Rattle.tz_base.specs.declared.leap_second.LeapSecond.{LeapSecond}
 
 -- an entry of the table: the leap time of an inserted second, and how many there are from then on
 abbrev pub entry : ℤ → ℕ → LeapSecond

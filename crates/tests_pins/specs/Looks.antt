@@ -1,6 +1,6 @@
 -- Counts of looks.
 use Rattle.std.specs.Prelude.{ℕ}
-use Rattle.tz_info.specs.Counts.{Counts}
+use Rattle.tz_search.specs.Counts.{Counts}
 
 -- that many probes of transitions, questions to rules, and probes of pieces
 abbrev pub looks : ℕ → ℕ → ℕ → Counts

@@ -1,8 +1,8 @@
 -- Rules and local times of examples of RFC 5545, sections 3.3.10, 3.6.1, 3.6.5 and 3.8.5.3.
 use Rattle.std.specs.{Prelude.{ℕ, ℤ, pos, neg_ℤ, ◌+ℤ◌, ◌*ℤ◌, List, [], ◌∷◌}, Borrow.{Bor}}
 use Rattle.naive_base.specs.{Clock.{clock_second}, Date.{day_number}, declared.weekday.Weekday.{Weekday, TheVariants.{Mon, Tue, Wed, Thu, Fri, Sun}}}
-use Rattle.naive_plans.specs.declared.rule.{Frequency.{Frequency, TheVariants.{Yearly, Monthly, Weekly, Daily}}, NthWeekday.{NthWeekday}}
-use Rattle.naive_plans.specs.declared.rule.RecurrenceRule.{RecurrenceRule}
+use Rattle.naive_rrule.specs.declared.rule.{Frequency.{Frequency, TheVariants.{Yearly, Monthly, Weekly, Daily}}, NthWeekday.{NthWeekday}}
+use Rattle.naive_rrule.specs.declared.rule.RecurrenceRule.{RecurrenceRule}
 
 -- ---- local times
 -- a time of day on a date

@@ -1,7 +1,8 @@
 -- Zones with transitions.
 use Rattle.std.specs.Prelude.{ℕ, ℤ, pos, neg_ℤ, Bool, true, false, List, [], ◌∷◌, Option, Some, None}
 use Rattle.tz_base.specs.LocalTypes.{LocalType}
-use Rattle.tz_info.specs.{Zones.{Zone}, declared.{rule.transition_rule.TransitionRule.{TransitionRule}, zone.lists.transition.Transition.{Transition}}}
+use Rattle.tz_info.specs.{Zones.{Zone}, declared.rule.transition_rule.TransitionRule.{TransitionRule}}
+use Rattle.tz_base.specs.declared.transition.Transition.{Transition}
 use Rattle.tz_info.specs.PosixZones.{posix_zone}
 use Rattle.tests_pins.specs.{LeapSeconds.{utc_leaps}, Texts.{utc_rule}}
 use Rattle.tz_info.specs.declared.rule.transition_rule.TransitionRule.TheVariants as rules

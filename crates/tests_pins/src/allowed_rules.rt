@@ -3,13 +3,13 @@
 
 ghost use Rattle.std.specs.Prelude.{◌∷◌, [], neg_ℤ, pos, Contains};
 ghost use Rattle.{
-  naive_plans.specs.AllowedRules.{HasAllowedNumbers, IsAllowed, IsFault},
+  naive_rrule.specs.AllowedRules.{HasAllowedNumbers, IsAllowed, IsFault},
   tests_pins.specs.Recurrences.{every, local, nth, on_weekdays, plain},
 };
 ghost use Rattle.tests_pins.specs.Recurrences as rfc;
 
 use naive_base::Weekday;
-use naive_plans::{Frequency, RecurrenceEnd, RecurrenceError, RecurrenceRule};
+use naive_rrule::{Frequency, RecurrenceEnd, RecurrenceError, RecurrenceRule};
 
 /// Rules of the RFC's examples, from 1970-01-01 on: `FREQ=YEARLY;BYWEEKNO=20;BYDAY=MO`,
 /// `FREQ=YEARLY;INTERVAL=3;BYYEARDAY=1,100,200`, `FREQ=MONTHLY;BYMONTHDAY=-3`,

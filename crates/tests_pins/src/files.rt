@@ -6,11 +6,11 @@ ghost use Rattle.{
   tests_pins.specs.{LeapSeconds.{entry}, Zones.{hst, hst10}},
   tests_pins.specs.Honolulu.{designations, first_time, hst_footer, hst_record, least_time_bytes},
   tz_base.specs.{Grammar.{be_u32, HasFault, Spells}, LocalTypes.{LocalType}},
-  tz_info.specs.{FileBlocks.{block, Parts}, FilePieces.{after_first_block, is_extended, FilePieces}},
-  tz_info.specs.FileContents.{file_time, leap_second_of, local_type, mark, PairAgrees},
-  tz_info.specs.FileHeaders.{six_counts, version, CountsAgree},
-  tz_info.specs.declared.file.header.{Version.{Version, TheVariants.{One, Three, Two}}, Counts.{Counts}},
-  tz_info.specs.declared.file.header.Place.{Place, TheVariants.{First}},
+  tz_file.specs.{FileBlocks.{block, Parts}, FilePieces.{after_first_block, is_extended, FilePieces}},
+  tz_file.specs.FileContents.{file_time, leap_second_of, local_type, mark, PairAgrees},
+  tz_file.specs.{FileHeaders.{six_counts, version, CountsAgree}, declared.header.Version.{Version}},
+  tz_file.specs.declared.header.{Version.TheVariants.{One, Three, Two}, Counts.{Counts}, Place.{Place}},
+  tz_file.specs.declared.header.Place.TheVariants.{First},
   tz_info.specs.Footers.{footer},
 };
 
@@ -44,7 +44,7 @@ pub fn counts()
 {}
 
 /// There is a type, and a byte of designations; indicators are given for no type, or for each.
-#[tactic(auto, using(tz_info::specs::FileHeaders::counts_test))]
+#[tactic(auto, using(tz_file::specs::FileHeaders::counts_test))]
 pub fn counts_that_agree()
     ensures indicators { CountsAgree (of_types 6 6 20) }
     ensures no_indicators { CountsAgree (of_types 0 6 20) }

@@ -5,7 +5,8 @@
 ghost use Rattle.std.specs.Prelude.{◌≡◌, ◌∷◌, [], neg_ℤ, pos, List, ℤ};
 ghost use Rattle.{
   tests_pins.specs.{Days.{AreSetAt}, Plans.{daily, twice_daily}},
-  zoned_time.specs.{Fires.{second_before, AreFires, IsFire, IsLastFire, IsNextFire}, Zone.{IsReachedAt}},
+  zoned_plans.specs.Fires.{second_before, AreFires, IsFire, IsLastFire, IsNextFire},
+  zoned_time.specs.Zone.{IsReachedAt},
 };
 
 /// In St. John's clocks went from 00:01 on 2005-10-30 back to 23:01, at 02:31:00 UTC. At 03:02:00 UTC

@@ -7,10 +7,11 @@ ghost use Rattle.{
   tests_pins.specs.Honolulu.{long_times, parts, pieces, short_file, short_times},
   tests_pins.specs.Zones.{honolulu, honolulu_from, hst10},
   tz_base.specs.Grammar.{Each, Spells},
-  tz_info.specs.{FileBlocks.{block as a_block}, Zones.{IsValid, Zone}},
-  tz_info.specs.{FileContents.{indicators, transition_at, type_at, values_below}, FilePieces.{HasPieces}},
-  tz_info.specs.{FileHeaders.{header as a_header}, TzFiles.{IsTzFile, IsZoneFault}},
-  tz_info.specs.declared.file.header.{Place.TheVariants.{First, Second}, Version.TheVariants.{Two}},
+  tz_file.specs.{FileBlocks.{block as a_block}, FileContents.{indicators, transition_at, type_at, values_below}},
+  tz_file.specs.{FilePieces.{HasPieces}, FileHeaders.{header as a_header}},
+  tz_file.specs.declared.header.{Place.TheVariants.{First, Second}, Version.TheVariants.{Two}},
+  tz_info.specs.Zones.{IsValid, Zone},
+  tz_info.specs.TzFiles.{IsTzFile, IsZoneFault},
 };
 
 use tz_base::{Error, Expected};

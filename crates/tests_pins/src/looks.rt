@@ -4,7 +4,8 @@
 ghost use Rattle.std.specs.Prelude.{◌≡◌};
 ghost use Rattle.{
   tests_pins.specs.{Looks.{looks}, Zones.{honolulu, hst10}},
-  tz_info.specs.{Looks.{digits}, Looks.{RoseByInstant, RoseByWallClock}},
+  tz_info.specs.Looks.{RoseByInstant, RoseByWallClock},
+  tz_search.specs.Digits.{digits},
 };
 
 /// Binary digits: `0` has none, `11111111` is 255.

@@ -6,12 +6,12 @@
 ghost use Rattle.std.specs.Prelude.{◌≡◌, neg_ℤ, pos, ℤ};
 ghost use Rattle.{
   tests_pins.specs.{Days.{plain_law, AreSetAt, IsAlways}, Plans.{daily}},
-  zoned_time.specs.Moves.{seconds_left, moves_between, utc_of_move, FiresInFirstOnly, IsMove, IsNextMove},
-  zoned_time.specs.Moves.{NoneMovesBefore, NoneMovesBetween},
+  zoned_plans.specs.Moves.{seconds_left, moves_between, utc_of_move, FiresInFirstOnly, IsMove, IsNextMove},
+  zoned_plans.specs.Moves.{NoneMovesBefore, NoneMovesBetween},
   zoned_time.specs.Zoned.{Zoned},
 };
 
-use zoned_time::Move;
+use zoned_plans::Move;
 
 /// A run at noon on each day is at 17:00 UTC in both zones until 2021-03-13. On the day after it is at 16:00
 /// UTC in New York alone, and at 17:00 UTC in Panama alone.

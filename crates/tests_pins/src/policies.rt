@@ -5,10 +5,11 @@
 ghost use Rattle.std.specs.Prelude.{◌≡◌, neg_ℤ, pos, ℤ};
 ghost use Rattle.{
   tests_pins.specs.{Days.{AreSetAt}, Plans.{daily}},
-  zoned_time.specs.{Nearest.{IsNextOf}, Policies.{IsFireBy, IsShownFire}, Zone.{IsOffsetStretch}},
+  zoned_plans.specs.{Nearest.{IsNextOf}, Policies.{IsFireBy, IsShownFire}},
+  zoned_time.specs.Zone.{IsOffsetStretch},
 };
 
-use zoned_time::{FirePolicy, FoldFires, GapFires};
+use zoned_plans::{FirePolicy, FoldFires, GapFires};
 
 /// In New York clocks went from 02:00 on 2021-03-14 on to 03:00, at 07:00:00 UTC. A run at 02:30 on each
 /// day is then under the policy of the gap's end. They never show 02:30: otherwise the next run is on the

@@ -4,13 +4,13 @@
 ghost use Rattle.std.specs.Prelude.{◌≡◌, ◌∷◌, [], neg_ℤ, pos};
 ghost use Rattle.{
   naive_base.specs.Date.{day_number},
-  naive_plans.specs.RecurrenceRules.{fourth_of_week, IsOccasion, IsOnYearDay},
+  naive_rrule.specs.RecurrenceRules.{fourth_of_week, IsOccasion, IsOnYearDay},
   tests_pins.specs.Recurrences.{at_nine, nth, on_weekdays, plain},
 };
 ghost use Rattle.tests_pins.specs.Recurrences as rfc;
 
 use naive_base::Weekday;
-use naive_plans::Frequency;
+use naive_rrule::Frequency;
 
 /// `FREQ=MONTHLY;BYDAY=1FR` from 1997-09-05 on has 3 October, and not the second Friday, the 10th.
 /// `BYDAY=-2MO` from 1997-09-22 on has 20 October, and not the second Monday from the front, the

@@ -5,13 +5,13 @@
 ghost use Rattle.std.specs.Prelude.{◌≡◌, pos};
 ghost use Rattle.{
   naive_base.specs.NaiveDateTime.{reading},
-  naive_plans.specs.RecurrenceSets.{HasTimesOf, IsAtPosition, IsRecurrenceTime, IsRuleTime},
+  naive_rrule.specs.RecurrenceSets.{HasTimesOf, IsAtPosition, IsRecurrenceTime, IsRuleTime},
   tests_pins.specs.Recurrences.{at_nine},
 };
 ghost use Rattle.tests_pins.specs.Recurrences as rfc;
 
 use naive_base::NaiveDateTime;
-use naive_plans::RecurrenceEnd;
+use naive_rrule::RecurrenceEnd;
 
 /// `FREQ=DAILY;INTERVAL=10;COUNT=5` from 1997-09-02 on has 12 October as its fifth time, and not
 /// the 22nd. Its times are those of the rule without `COUNT` up to 12 October, and not those up to

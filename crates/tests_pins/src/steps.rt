@@ -6,7 +6,7 @@ ghost use Rattle.std.specs.Prelude.{◌≡◌, neg_ℤ, pos, ℤ};
 ghost use Rattle.{
   naive_plans.specs.ClockSteps.{BeginsStep},
   tests_pins.specs.Days.{AreSetAt},
-  zoned_time.specs.StepBounds.{AreStepBounds},
+  zoned_plans.specs.StepBounds.{AreStepBounds},
 };
 
 use naive_plans::{ClockStep, PartOfDay};

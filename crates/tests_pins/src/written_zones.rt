@@ -6,7 +6,7 @@ ghost use Rattle.{
   tests_pins.specs.{Honolulu.{honolulu_file, honolulu_header}, NewYork.{new_york_rule, new_york_zone}},
   tests_pins.specs.{Texts.{new_york_long, new_york_text, utc_text}, WrittenZones.{first_block, honolulu_written}},
   tests_pins.specs.Zones.{honolulu, hst, hst10},
-  tz_info.specs.FilePieces.{FilePieces},
+  tz_file.specs.FilePieces.{FilePieces},
   tz_write.specs.{FileDesignations.{AreShortest}, WrittenTexts.{AreInPairs, IsWrittenText, IsWrittenZone}},
   tz_write.specs.WrittenFiles.{AreWrittenPieces, HasLeastBlock, HaveVersion, IsWrittenFile},
 };

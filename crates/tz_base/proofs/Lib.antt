@@ -6,3 +6,4 @@ pub mod Lawful
 pub mod ErrorEquality
 pub mod ChangeEquality
 pub mod ForCallers
+pub mod TrimLaws

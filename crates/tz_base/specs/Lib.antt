@@ -3,6 +3,7 @@ pub mod Tests
 pub mod Names
 pub mod LocalTypes
 pub mod Fronts
+pub mod Trims
 pub mod Refusals
 pub mod Grammar
 pub mod Steps

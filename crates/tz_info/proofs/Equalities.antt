@@ -12,9 +12,9 @@ use Rattle.tz_info.specs.{
   contracts.rule.{day.DayTimePartialEq.TheImpl.{eq-value as day_time_eq}, transition_rule.TransitionRulePartialEq.TheImpl.{eq-value as rule_eq}},
   contracts.zone.ask.differences.DifferencePartialEq.TheImpl.{eq-value as difference_eq},
   contracts.zone.ask.shown_seconds.ShownSecondsPartialEq.TheImpl.{eq-value as seconds_eq},
-  contracts.zone.lists.leap_second.LeapSecondPartialEq.TheImpl.{eq-value as leap_eq},
-  contracts.zone.lists.transition.TransitionPartialEq.TheImpl.{eq-value as transition_eq},
 }
+use Rattle.tz_base.specs.contracts.leap_second.LeapSecondPartialEq.TheImpl.{eq-value as leap_eq}
+use Rattle.tz_base.specs.contracts.transition.TransitionPartialEq.TheImpl.{eq-value as transition_eq}
 
 list_exact : {X : Type 0} (E : X → X → Bool) → IsExact E → IsExact (pointwise E)
 list_exact E exact xs ys = slice_eq-Decides exact xs ys (pointwise E xs ys) refl

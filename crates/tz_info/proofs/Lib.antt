@@ -1,7 +1,3 @@
-pub mod SearchWords
-pub mod FirstItems
-pub mod DigitLaws
-pub mod SearchSteps
 pub mod Words
 pub mod Fits
 pub mod RuleDays
@@ -9,6 +5,7 @@ pub mod Neighbours
 pub mod RuleLaws
 pub mod KindLaws
 pub mod SeasonLaws
+pub mod RulePieces
 pub mod RuleChanges
 pub mod ChangeSearch
 pub mod CalmYears
@@ -39,8 +36,6 @@ pub mod RunLaws
 pub mod ShownSecondLaws
 pub mod RuleReached
 pub mod DifferenceLaws
-pub mod FilePieceLaws
-pub mod TrimLaws
 pub mod TzFileLaws
 pub mod EntryLaws
 pub mod EntryChanges

@@ -1,5 +1,4 @@
--- The first items: the last of a list's, those of transitions whose times rise, and what holds of the first grammars and tests by places.
-use Rattle.tz_base.specs.Grammar.{Each, Grammar, from_fault}
+-- The first items: the last of a list's, those of transitions whose times rise, and what holds of the first tests by places.
 use Rattle.tz_info.proofs.{
   Words.{AreOrdered, AreRising, Bool, Err, Error, LeapSecond, List, Ok, Spells, Stands, Transition, [], all_below, arith, cases_lt, false, filter_first},
   Words.{get_or, index_of, inl, inr, last_else, length, linear, map, passed, pos, read, refl, suc, take, times_ordered, true, zero, ℕ, ℤ, ◌+◌, ◌-◌, ◌<ℤ◌, ◌<◌},
@@ -24,23 +23,7 @@ any_leap = record { unix_leap_time = pos 0; correction = pos 0 }
 pub index_within : (n : ℕ) (ts : List Transition) (k : ℕ) → 0 < n → NameTypes n ts → k ≤ length ts → index_of ts k < n
 index_within n ts k some named h = let last = last_taken (λ a. a.type_index) 0 ts (k - 1) any in grind arith
 
--- ---- grammars and tests by places
-module _ {X : Type 0} (g : ℕ → Grammar X) where
-  -- the first fault is that of all
-  pub each_fails : (n i : ℕ) (bytes : List ℕ) (xs : List X) (after : List ℕ) (e : Error) → i < n → read (Each i g) bytes ≡ Ok (xs, after)
-      → read (g i) after ≡ Err e → (read (Each n g) bytes ≡ Err e) × (from_fault (Each n g) bytes ≡ from_fault (g i) after)
-  each_fails zero i bytes xs after e l p q = absurd (omega arith)
-  each_fails (suc n) i bytes xs after e l p q = elim (cases_lt i n) [
-    | inl h ↦ let r = each_fails n i bytes xs after e h p q in grind arith
-    | inr h ↦ let same : n ≡ i = omega arith in grind arith
-  ]
-
-  -- grammars of no bytes
-  pub each_keeps : ((k : ℕ) (bytes : List ℕ) (x : X) (rest : List ℕ) → Spells (g k) bytes x rest → bytes ≡ rest) → (n : ℕ) (bytes : List ℕ) (xs : List X)
-      (rest : List ℕ) → Spells (Each n g) bytes xs rest → bytes ≡ rest
-  each_keeps keeps zero bytes xs rest h = h.1
-  each_keeps keeps (suc n) bytes xs rest (ys, mid, h, (x, after, k, (value, same))) = each_keeps keeps n bytes ys mid h ∙ keeps n mid x after k ∙ same
-
+-- ---- tests by places
 pub one_false : (n i : ℕ) (test : ℕ → Bool) → i < n → test i ≡ false → all_below n test ≡ false
 one_false zero i _ l q = absurd (omega arith)
 one_false (suc n) i test l q = grind (arith, one_false n i test)

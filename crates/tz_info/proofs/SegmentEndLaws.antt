@@ -1,6 +1,5 @@
 -- The first second at which clocks show a local time or a later one: that of the first segment that ends later.
 use Rattle.tz_info.proofs.{
-  DigitLaws.{digits-le, digits-less},
   ExtremeLaws.at_least_least,
   GapLaws.near_type,
   LeapStarts.saturated,
@@ -10,6 +9,7 @@ use Rattle.tz_info.proofs.{
   Words.{Zone, [], arith, begin_of, by_lt_z, cases_lt, get_or, get_or_append_left, get_or_push, index_of, inl, length, length_push, linear, place_at, pos},
   Words.{rises, saturate_signed, slice_get, suc, w64, zero, ℕ, ℤ, ◌++◌, ◌+ℤ◌, ◌-ℤ◌, ◌<ℤ◌, ◌<◌, ◌↔◌, ◌∷◌, ◌≡◌, ◌≤ℤ◌, ◌≤◌, ◌⊎◌},
 }
+use Rattle.tz_search.proofs.DigitLaws.{digits-le, digits-less}
 use Rattle.tz_info.specs.Steps.SegmentEnds.{AreEndsRising, IsFirstOf, IsFirstSegment, IsReached, end_of}
 
 -- the numbers of steps of a search

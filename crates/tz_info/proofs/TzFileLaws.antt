@@ -4,21 +4,20 @@ use Rattle.tz_base.specs.{
   declared.error.{Error.TheVariants.{InvalidTzFile, OutOfMemory}, Expected.TheVariants.{TZifAtFrontOfHeader}},
 }
 use Rattle.tz_info.proofs.{
-  FilePieceLaws.{file_ends, has_pieces},
   ListFaults.{has_list_fault, list_fault_low, list_fault_once, list_fault_or_valid},
-  Prefixes.each_keeps,
   Words.{Err, Error, FilePieces, HasPieces, IfErr, IfOk, In_file, IsErrAnd, IsFaultAt, IsFileFault, IsOutOfMemory, IsTzFile, IsValid, IsZoneFault, List},
   Words.{ListFault, MatchResult, No_memory, Not_spelled, Not_valid, Ok, Result, Spells, TimeZone, Zone, [], ap, apart, arith, below_more, drop, drop_front},
-  Words.{either, error_number, fault_low as low, fault_once as one_fault, file, inl, inr, lawful, length, length-append, length-take, linear, read, refl, sym},
+  Words.{IsUtf8-from_is_utf8, either, error_number, false_unless, fault_low as low, fault_once as one_fault, file, inl, inr, is_utf8-from_IsUtf8, lawful},
+  Words.{length, length-append, length-take, linear, read, refl, sym},
   Words.{take, take-append-drop, value_once, ℕ, ℤ, ◌++◌, ◌+◌, ◌-◌, ◌<ℤ◌, ◌∙◌, ◌≡◌, ◌≤◌, ◌⊎◌},
 }
+use Rattle.tz_file.proofs.FilePieceLaws.{file_ends, has_pieces, each_keeps}
 use Rattle.tz_info.specs.{
-  FileContents.{indicators, pair_at, time_at, type_at},
-  FileHeaders.{HasOtherMagic, header, tzif},
   FilePlaces.{At_index, At_leap, At_rule, At_time, HoldsOfNone, In_lists, In_spelling, IsFilePlace, IsFirstBelow, IsListPlace, IsNotLater},
   Footers.{optional_footer},
   TzFiles.{contents, tz_file},
 }
+use Rattle.tz_file.specs.{FileContents.{indicators, pair_at, time_at, type_at}, FileHeaders.{HasOtherMagic, header, tzif}}
 
 -- ---- what pieces say takes no bytes
 zone_ends : (bytes : List ℕ) (z : Zone) (rest : List ℕ) → Spells tz_file bytes z rest → rest ≡ []
@@ -140,20 +139,14 @@ module _ (bytes : List ℕ) where
     | inr m ↦ absurd (apart (lawful file bytes) (m.1.0, []) _ m.1.1 (magic_fault bytes other))
   ]
 
+-- whether the bytes of a footer are UTF-8
+pub ruleset utf8_tests = (IsUtf8-from_is_utf8, is_utf8-from_IsUtf8, false_unless)
+
 -- what a reader that reports the position needs
 pub ruleset reader = (fault_or_zone, memory, named, no_memory, one_zone, zone_fault)
 
 -- a file has a zone or one fault
 pub ruleset file_faults = (fault_low, fault_once, fault_or_zone, has_fault)
-
--- ---- where a file is at fault: the bytes from a part on
--- ---- the bytes from a part on
-pub last_bytes : (bytes front rest : List ℕ) (n : ℕ) → bytes ≡ front ++ rest → n + length rest ≡ length bytes → drop n bytes ≡ rest
-last_bytes bytes front rest n whole at =
-    let same : length front ≡ n = grind (arith, length-append) in rw (whole, ← same) (drop_front front rest)
-
-pub next_bytes : {bytes after : List ℕ} (x rest : List ℕ) → after ≡ drop (length x) bytes → bytes ≡ x ++ rest → after ≡ rest
-next_bytes x rest is whole = is ∙ ap (drop _) whole ∙ drop_front x rest
 
 -- ---- what the loops keep
 pub next_later : (p : FilePieces) (k : ℕ) (here before : ℤ) → HoldsOfNone (IsNotLater p) k → here ≡ time_at p k → before ≡ time_at p (k - 1) → before <ℤ here

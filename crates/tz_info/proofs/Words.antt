@@ -51,26 +51,16 @@ pub use Rattle.tz_base.specs.{
   Refusals.LocalTimeType,
   declared.{change.Change.Change, error.Error.Error, span.Span.Span},
 }
-pub use Rattle.tz_info.proofs.{
-  DigitLaws.{digits-le, digits-more},
-  FirstItems.{filter_first, le_false, le_is, le_true, lt_false, lt_true, rises},
-  SearchSteps.{first_come, times_ordered},
-  SearchWords.{AreOrdered, ArePassed, Bool, Counts, IsLastOf, List, SFits, [], add-suc, add-zero, ap, arith, cases_eq, cases_lt, cond, count_by, drop, false},
-  SearchWords.{filter, get_or, inl, inr, int_le, int_lt, ints, length, length-map, length-set, linear, map},
-  SearchWords.{option_map, pos, refl, rules, slice_index, suc, sum_by-cons, sym, take, to_z-of_z, true, w64, zero, ℕ, ℤ, ◌*◌, ◌+ℤ◌, ◌+◌, ◌-ℤ◌, ◌-◌, ◌/◌},
-  SearchWords.{◌<ℤ◌, ◌<◌, ◌∙◌, ◌∷◌, ◌≡◌, ◌≢◌, ◌≤ℤ◌, ◌≤◌, ◌⊎◌},
-}
+pub use Rattle.tz_search.proofs.{DigitLaws.{digits-le, digits-more}, FirstItems.{filter_first, le_false, le_is, le_true, lt_false, lt_true, rises}}
+pub use Rattle.tz_search.proofs.SearchSteps.{first_come, times_ordered}
+pub use Rattle.tz_search.proofs.Words.{AreOrdered, ArePassed, Bool, Counts, IsLastOf, List, SFits, [], add-suc, add-zero, ap, arith, cases_eq, cases_lt, cond}
+pub use Rattle.tz_search.proofs.Words.{count_by, drop, false, filter, get_or, inl, inr, int_le, int_lt, ints, length, length-map, length-set, linear, map}
+pub use Rattle.tz_search.proofs.Words.{option_map, pos, refl, rules, slice_index, suc, sum_by-cons, sym, take, to_z-of_z, true, w64, zero, ℕ, ℤ, ◌*◌, ◌+ℤ◌, ◌+◌}
+pub use Rattle.tz_search.proofs.Words.{◌-ℤ◌, ◌-◌, ◌/◌, ◌<ℤ◌, ◌<◌, ◌∙◌, ◌∷◌, ◌≡◌, ◌≢◌, ◌≤ℤ◌, ◌≤◌, ◌⊎◌}
 pub use Rattle.tz_info.specs.{
   Around.AreTypesAround,
   Changes.{AreChanges, HasNoChange, IsChange, IsFirst, IsFirstChange, IsFromUntil, IsLast, IsLastChange, IsNearest, IsNearestChange, Precedes},
-  Counts.{RoseWithin},
-  Steps.RisingCounts.{reads_more},
   Differences.{AreDifferences, IsDifference, IsInDifference},
-  FileBlocks.Parts,
-  FileContents.{designation_of, file_time, is_not_zero, leap_at, leap_second_of, least_offset, pair_test, record_at},
-  FileContents.{transition_at, values_below},
-  FileHeaders.{magic},
-  FilePieces.{FilePieces, HasCounts, HasPieces, footer_bytes, from_leap_seconds, from_times, from_type_indexes, from_types, from_ut_local},
   Folds.HasFold,
   Gaps.{HasGap, IsTypeBeforeGap},
   Leaps.{AreCounted, AreLeapSeconds, IsLeapTime, IsLeapTimeRefused, IsNear, IsNextLeap, IsOneStep, IsUnixTime, IsUnixTimeRefused, correction_at},
@@ -94,7 +84,7 @@ pub use Rattle.tz_info.specs.{
   Steps.Changes.{IsAhead, IsBegin, IsChangeByRule, IsEarlierOf, IsIdle, IsInStretch, IsInTable, IsLaterOf, IsOfYear, IsOneOf, IsStretchAhead},
   Steps.Changes.{near_end, nearer_one, new_year, year_at},
   Steps.{Differences.{AreListedTo, IsListedIf, IsPairUntil}, Extremes.{AreExtremes, AreJoined, AreJoinedByRule, offsets_of}},
-  Steps.FileLists.{AreFromParts, EndFile, HasLengths, IsFaultAt, IsReadInMemory, pieces_of, zone_of_lists},
+  Steps.FileLists.{IsFaultAt, zone_of_lists},
   Steps.{Gaps.{AreLess, HasReach, IsNeverFrom, IsRuleGap}, Kinds.{day_time_second, is_calm, is_calm_kind, kind_place, second_in}},
   Steps.{LastSpans.IsLastSpan, Merging.{IsMerged, IsNext, IsStep}},
   Steps.Pieces.{AreBelow, AreCutsCrossed, AreListed, ArePieces, ArePiecesAt, IsCutAt, IsJump, IsSegment, cut_of, zone_in},
@@ -108,7 +98,6 @@ pub use Rattle.tz_info.specs.{
   Steps.WallPieces.{AreInOrder, IsBegun, IsBegunNear, IsIndex, IsShownAmong, IsSideAmong, IsStart, IsTable, IsTableAnswer, IsTableLess},
   Steps.WallPieces.{ListedAmong, ShownAmong, WallIndex, answer_at, answer_before, place_at, shown_indexes, top_of},
   Transitions.{AreRising, AreTransitions, passed},
-  Trims.without_end,
   TzFiles.{In_file, IsFileFault, IsTzFile, IsZoneFault, No_memory, Not_spelled, Not_valid},
   TzGrammar.{IsTextFault, IsTzText, is_letter, is_not_greater, named_type},
   WallClocks.{AreShown, IsAmongShown, Shows},
@@ -117,19 +106,25 @@ pub use Rattle.tz_info.specs.{
   Zones.{Agrees, HasType, IsBeforeLast, IsFromLast, IsRefusedBy, IsRuleOrNone, IsTypeError, IsTypeOf, IsTypeRefused, IsValid, ListFault, No_type, Not_rising},
   Zones.{Other_index, Other_leaps, Other_rule, RuleOrElse, RuleOrType, TypeAt, TypeAtLeapTime, Zone, by_leap_time, by_rule, index_at, last_transition},
   Zones.{plain_zone, type_error, zone_of_rule},
-  declared.file.{counts.FileCounts.FileCounts, header.Version.Version, reader.Lists.Lists},
+  declared.file.reader.Lists.{Lists},
   declared.rule.{day.{DayForm.DayForm, DayTime.DayTime}, season.Season.Season, transition_rule.TransitionRule.TransitionRule},
   declared.zone.ask.{all_changes.Changes.Changes, differences.Difference.Difference, shown_seconds.ShownSeconds.ShownSeconds},
-  declared.zone.{lists.{leap_second.LeapSecond.LeapSecond, transition.Transition.Transition}, made.extremes.Extremes.Extremes},
+  declared.zone.made.extremes.Extremes.{Extremes},
   declared.zone.{made.{last_span.LastSpan.LastSpan, pieces.Piece.Piece, segments.Segment.Segment, shown.Shown.Shown}, time_zone.TimeZone.TimeZone},
 }
+pub use Rattle.tz_search.specs.{Counts.{RoseWithin}, RisingCounts.{reads_more}}
+pub use Rattle.tz_file.specs.FileBlocks.{Parts}
+pub use Rattle.tz_file.specs.FileContents.{designation_of, file_time, is_not_zero, leap_at, leap_second_of, least_offset, pair_test, record_at, transition_at}
+pub use Rattle.tz_file.specs.{FileContents.{values_below}, FileHeaders.{magic}}
+pub use Rattle.tz_file.specs.FilePieces.{FilePieces, HasCounts, HasPieces, footer_bytes, from_leap_seconds, from_times, from_type_indexes, from_types}
+pub use Rattle.tz_file.specs.{FilePieces.{from_ut_local}, FileLists.{AreFromParts, EndFile, HasLengths, IsReadInMemory, pieces_of}}
+pub use Rattle.tz_file.specs.declared.{pieces.FileCounts.{FileCounts}, header.Version.{Version}}
+pub use Rattle.tz_base.specs.{Trims.{without_end}, declared.{leap_second.LeapSecond.{LeapSecond}, transition.Transition.{Transition}}}
 unfoldable pub use Rattle.naive_base.proofs.Words.{day_number, days_of_months, year_of, year_start}
 unfoldable pub use Rattle.tz_base.specs.Fronts.{exact_at}
-unfoldable pub use Rattle.tz_info.proofs.SearchWords.{digits}
+unfoldable pub use Rattle.tz_search.proofs.Words.{digits}
 unfoldable pub use Rattle.tz_info.specs.{
   ChangesLeft.changes_left,
-  FileBlocks.block,
-  FilePieces.{after_first_block, file, first_version, later_version},
   Moments.moment,
   RuleDayOf.rule_day,
   Steps.{ChangeLists.{changes_of, seconds_between, type_or_none}, Changes.moments_near},
@@ -137,5 +132,6 @@ unfoldable pub use Rattle.tz_info.specs.{
   Steps.{Kinds.{are_calm, margin_of, seconds_by_kind}, RuleDays.closed_day, Segments.segment_of},
   TzGrammar.{alternate, date, day, days, dst_offset, duration, end, fixed, given_offset, julian_date, month_date, named, next_hour, offset, optional_time},
   TzGrammar.{rule, text, time},
-  Trims.trimmed,
 }
+unfoldable pub use Rattle.tz_file.specs.{FileBlocks.{block}, FilePieces.{after_first_block, file, first_version, later_version}}
+unfoldable pub use Rattle.tz_base.specs.Trims.{trimmed}

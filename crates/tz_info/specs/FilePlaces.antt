@@ -3,8 +3,9 @@
 use Rattle.std.specs.Prelude.{ℕ, ◌≡◌, ◌+◌, ◌*◌, ◌-◌, ◌<◌, ◌≤◌, ◌⊎◌, List, length, drop, slice_index, ◌≤ℤ◌}
 use Rattle.std.specs.Char.{is_ascii_whitespace}
 use Rattle.tz_base.specs.{Fronts.{after_run}, Grammar.{HasFault, fault_position}, declared.error.Error.{Error}}
-use Rattle.tz_info.specs.{FileContents.{time_at, leap_at}, Leaps.{IsFirstLeap, IsNextLeap}, TzFiles.{IsTzFile, tz_file}, Zones.{Zone}}
-use Rattle.tz_info.specs.FilePieces.{FilePieces, HasPieces, footer_bytes, from_leap_seconds, from_type_indexes, from_times}
+use Rattle.tz_file.specs.FileContents.{time_at, leap_at}
+use Rattle.tz_info.specs.{Leaps.{IsFirstLeap, IsNextLeap}, TzFiles.{IsTzFile, tz_file}, Zones.{Zone}}
+use Rattle.tz_file.specs.FilePieces.{FilePieces, HasPieces, footer_bytes, from_leap_seconds, from_type_indexes, from_times}
 
 -- k is the first of the numbers below n of which P holds
 pub record IsFirstBelow (P : ℕ → Type 0) (n k : ℕ) : Type 0 where

@@ -3,7 +3,9 @@ use Rattle.std.specs.{Prelude.{ℕ, ◌≡◌, ◌-◌, Bool, List, [], length, 
 use Rattle.std.specs.Str.{IsUtf8, Lossy.{utf8_valid_len}}
 use Rattle.tz_base.specs.{Fronts.{after_run}, Steps.{Comparisons.{equal}, TextTests.{utf8_test}}}
 use Rattle.tz_base.specs.Grammar.{Grammar, Nothing, Marked, Ended, End, Run, Refused, Check, Here, At, Inside, ◌>>=◌, ◌>>◌}
-use Rattle.tz_info.specs.{FileContents.{is_not_zero}, Trims.{trimmed}, TzGrammar.{colon, text}}
+use Rattle.tz_file.specs.FileContents.{is_not_zero}
+use Rattle.tz_base.specs.Trims.{trimmed}
+use Rattle.tz_info.specs.TzGrammar.{colon, text}
 use Rattle.tz_info.specs.declared.rule.transition_rule.TransitionRule.{TransitionRule}
 use Rattle.tz_base.specs.Refusals as refused
 use Rattle.tz_base.specs.declared.error.Expected.TheVariants as expected

@@ -3,7 +3,8 @@
 use Rattle.std.specs.Prelude.{ℕ, ◌≡◌, ◌+◌, ◌<◌, List, [], ◌∷◌, length, slice_index_or, take, map, filter, count_by, ℤ, pos, neg_ℤ, ◌+ℤ◌, ◌-ℤ◌, ◌≤ℤ◌, int_le}
 use Rattle.std.specs.{Prelude.{int_lt, if◌then◌else◌, ◌⊎◌, FitsSigned}, Int.{w64}, List.{AllAdjacentBelow}}
 use Rattle.tz_base.specs.declared.error.Expected.{Expected, TheVariants.{LeapTimeAboveI64Min, UnixTimeOf64Bits}}
-use Rattle.tz_info.specs.{Lists.{last_else}, declared.zone.lists.leap_second.LeapSecond.{LeapSecond}}
+use Rattle.tz_info.specs.Lists.{last_else}
+use Rattle.tz_base.specs.declared.leap_second.LeapSecond.{LeapSecond}
 
 -- one second more or one less
 abbrev pub IsOneStep : ℤ → ℤ → Type 0

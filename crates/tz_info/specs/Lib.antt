@@ -1,4 +1,3 @@
-pub mod Counts
 pub mod RuleDays
 pub mod RuleDayOf
 pub mod Rules
@@ -25,13 +24,8 @@ pub mod Looks
 pub mod Questions
 pub mod ZoneEquality
 pub mod TzGrammar
-pub mod Trims
 pub mod PosixZones
-pub mod FileHeaders
-pub mod FileBlocks
-pub mod FileContents
 pub mod Footers
-pub mod FilePieces
 pub mod TzFiles
 pub mod FilePlaces
 pub mod Steps

@@ -1,18 +1,9 @@
 -- How many probes a zone's lookups take: the bounds, each in one place.
-use Rattle.std.specs.Prelude.{ℕ, ℤ, ◌+◌, ◌*◌, ◌<◌, length, zero, suc, ◌/◌}
-use Rattle.tz_info.specs.{Counts.{Counts, RoseWithin, RoseByPieces}, Questions.{IsAskedFor}, Windows.{IsWindowCount}, Zones.{Zone}}
+use Rattle.std.specs.Prelude.{ℕ, ℤ, ◌+◌, ◌*◌, ◌<◌, length}
+use Rattle.tz_search.specs.{Counts.{Counts, RoseWithin, RoseByPieces}, Digits.{digits}}
+use Rattle.tz_info.specs.{Questions.{IsAskedFor}, Windows.{IsWindowCount}, Zones.{Zone}}
 use Rattle.offset_core.specs.{declared.around.Around.{Around}, declared.around.Around.TheVariants.{Gap}}
 use Rattle.tz_base.specs.{LocalTypes.{LocalType}, declared.change.Change.{Change}}
-
--- the binary digits of m, of which there are at most `fuel`
-abbrev pub digits_within : ℕ → ℕ → ℕ
-digits_within zero m = 0
-digits_within (suc fuel) zero = 0
-digits_within (suc fuel) (suc m) = suc (digits_within fuel (suc m / 2))
-
--- 0 has none, and another number one more than its half
-unfoldable pub digits : ℕ → ℕ
-digits m = digits_within m m
 
 -- by instant: the probes of one search in the transitions, and one question to the rule
 abbrev pub RoseByInstant : Zone → Counts → Counts → Type 0

@@ -1,7 +1,8 @@
 -- The zones of TZ strings (POSIX.1 section 8.3, "TZ").
 use Rattle.std.specs.{Prelude.{ℕ, pos, ◌≡◌, ◌≢◌, ◌⊎◌, ◌+◌, false, true, List, [], ◌∷◌, Some, MatchOption}, Char.{is_ascii_whitespace}, List.{prefix_len}}
 use Rattle.tz_base.specs.{Errors.{IsOutOfMemory}, LocalTypes.{LocalType}, declared.{error.Error.{Error}, parse_error.ParseError.{ParseError}}}
-use Rattle.tz_info.specs.{Zones.{Zone, plain_zone, zone_of_rule}, Trims.{trimmed}, TzGrammar.{IsTzText, IsTextFault, text_fault_position}}
+use Rattle.tz_info.specs.{Zones.{Zone, plain_zone, zone_of_rule}, TzGrammar.{IsTzText, IsTextFault, text_fault_position}}
+use Rattle.tz_base.specs.Trims.{trimmed}
 use Rattle.tz_info.specs.declared.rule.transition_rule.TransitionRule.{TransitionRule}
 use Rattle.tz_info.specs.declared.rule.transition_rule.TransitionRule.TheVariants as rules
 

@@ -12,6 +12,10 @@ abbrev pub IsUntil : Option ℤ → ℤ → Type 0
 IsUntil (Some until) u = u <ℤ until
 IsUntil None u = Unit {0}
 
+-- at each second from `from` on and before `until` the type t is in force
+abbrev pub IsInForceWithin : (ℤ → LocalType → Type 0) → ℤ → ℤ → LocalType → Type 0
+IsInForceWithin in_force from until t = (u : ℤ) → from ≤ℤ u → u <ℤ until → in_force u t
+
 -- the second u of 64 bits lies in the span
 pub record IsInSpan (s : Span) (u : ℤ) : Type 0 where
   pub fits : FitsSigned w64 u

@@ -1,13 +1,11 @@
 -- Steps of the proofs: what private functions ensure, and what private fields keep. No contract of a public function cites a
 -- page of this folder.
-pub mod Search
-pub mod RisingCounts
 pub mod Equivalences
-pub mod Hints
 pub mod Extremes
 pub mod Below
 pub mod Turns
 pub mod Seasons
+pub mod RulePieces
 pub mod Answers
 pub mod Segments
 pub mod Walk

@@ -1,6 +1,6 @@
 -- Transitions (RFC 8536 section 3.2, "transition times" and "transition types").
 use Rattle.std.specs.Prelude.{ℕ, ◌<◌, List, All, AllPairs, filter, ℤ, ◌<ℤ◌, int_le}
-use Rattle.tz_info.specs.declared.zone.lists.transition.Transition.{Transition}
+use Rattle.tz_base.specs.declared.transition.Transition.{Transition}
 
 -- each comes later than those before it
 abbrev pub AreRising : List Transition → Type 0

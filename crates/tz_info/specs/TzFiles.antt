@@ -1,8 +1,10 @@
 -- Whole TZif files: the lists that their bytes spell, and what is wrong with them (RFC 8536 section 3).
 use Rattle.std.specs.Prelude.{List, [], ℕ}
 use Rattle.tz_base.specs.{Grammar.{Grammar, Nothing, Each, Spells, HasFault, ◌>>=◌, ◌>>◌}, declared.error.Error.{Error, TheVariants.{OutOfMemory}}}
-use Rattle.tz_info.specs.{Zones.{Zone, ListFault}, FileContents.{transition_at, leap_at, type_at, indicators, values_below}}
-use Rattle.tz_info.specs.{Footers.{optional_footer}, FilePieces.{FilePieces, HasPieces, file}}
+use Rattle.tz_info.specs.Zones.{Zone, ListFault}
+use Rattle.tz_file.specs.FileContents.{transition_at, leap_at, type_at, indicators, values_below}
+use Rattle.tz_info.specs.Footers.{optional_footer}
+use Rattle.tz_file.specs.FilePieces.{FilePieces, HasPieces, file}
 
 -- what whole pieces say; the types are judged first, then the indicators and the footer
 unfoldable pub contents : FilePieces → Grammar Zone

@@ -2,7 +2,7 @@
 use Rattle.std.specs.Prelude.{ℕ, ◌≡◌, ◌&&◌, List, [], ◌∷◌, ◌++◌, length, map, filter, Contains, All, ℤ, ◌-ℤ◌, ◌≤ℤ◌, int_le, int_lt, Option, Some, None}
 use Rattle.tz_base.specs.LocalTypes.{LocalType}
 use Rattle.tz_info.specs.{Leaps.{IsLeapTime}, Zones.{Zone}, declared.rule.transition_rule.TransitionRule.{TransitionRule, TheVariants.{Fixed, Alternate}}}
-use Rattle.tz_info.specs.declared.zone.lists.transition.Transition.{Transition}
+use Rattle.tz_base.specs.declared.transition.Transition.{Transition}
 
 -- the offsets of a rule's types
 abbrev pub rule_offsets : Option TransitionRule → List ℤ

@@ -1,8 +1,9 @@
 -- When two rules are equal: their types, and the days and times of their changes are. When two zones are: their lists and rules are.
 use Rattle.std.specs.{Prelude.{Bool}, Cmp.Lexicographic.{pointwise}, Option.{option_eq}, Ordering.{on, eq_of_both}}
 use Rattle.tz_base.specs.LocalTypes.{LocalType}
-use Rattle.tz_info.specs.{Zones.{Zone}, declared.rule.transition_rule.TransitionRule.{TransitionRule}, declared.zone.lists.leap_second.LeapSecond.{LeapSecond}}
-use Rattle.tz_info.specs.{declared.zone.lists.transition.Transition.{Transition}, Rules.{Alternate}, declared.rule.day.DayTime.{DayTime}}
+use Rattle.tz_info.specs.{Zones.{Zone}, declared.rule.transition_rule.TransitionRule.{TransitionRule}}
+use Rattle.tz_base.specs.declared.{leap_second.LeapSecond.{LeapSecond}, transition.Transition.{Transition}}
+use Rattle.tz_info.specs.{Rules.{Alternate}, declared.rule.day.DayTime.{DayTime}}
 
 -- whether two alternate rules are equal, given tests of types and of days with their times
 abbrev pub alternate_eq : (LocalType → LocalType → Bool) → (DayTime → DayTime → Bool) → Alternate → Alternate → Bool

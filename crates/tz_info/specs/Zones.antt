@@ -5,7 +5,7 @@ use Rattle.tz_base.specs.declared.error.Expected.TheVariants.{AtLeastOneLocalTim
 use Rattle.tz_base.specs.declared.error.Expected.TheVariants.{TransitionTimesThatRise, TypeIndexesWithinTypes, YearThatRuleAnswersIn}
 use Rattle.tz_info.specs.{Leaps.{AreLeapSeconds, IsLeapTime, IsLeapTimeRefused, IsUnixTime}, Lists.{last_else}, RuleTypes.{RuleAt, IsRuleRefused, IsRule}}
 use Rattle.tz_info.specs.{Transitions.{NameTypes, AreRising, AreTransitions, passed}, declared.rule.transition_rule.TransitionRule.{TransitionRule}}
-use Rattle.tz_info.specs.declared.zone.lists.{leap_second.LeapSecond.{LeapSecond}, transition.Transition.{Transition}}
+use Rattle.tz_base.specs.declared.{leap_second.LeapSecond.{LeapSecond}, transition.Transition.{Transition}}
 
 -- what a zone shows: its transitions, its types of local time, its leap seconds, and the rule of its TZ string if it has one
 pub record Zone : Type 0 where

@@ -3,22 +3,17 @@
 ghost use Rattle.std.specs.{Prelude.{◌≡◌, ◌⊎◌, IfErr, IfOk, MatchResult}, Result.{IsErrAnd}};
 ghost use Rattle.{
   tz_base.specs.Errors.{IsOutOfMemory},
-  tz_info.specs.{FileHeaders.{HasOtherMagic}, FilePlaces.{IsFilePlace}, PosixZones.{IsPlaced}},
-  tz_info.specs.{FilePieces.{FilePieces, HasPieces}, Steps.FileLists.{IsFaultAt}},
+  tz_file.specs.{FileHeaders.{HasOtherMagic}, FilePieces.{FilePieces, HasPieces}},
+  tz_info.specs.{FilePlaces.{IsFilePlace}, PosixZones.{IsPlaced}},
+  tz_info.specs.Steps.FileLists.{IsFaultAt},
   tz_info.specs.TzFiles.{IsFileFault, IsTzFile, IsZoneFault},
   tz_info.specs.Zones.{IsValid, Zone},
 };
 
-mod block;
-mod contents;
-pub(crate) mod counts;
+mod counts;
 mod footer;
-mod header;
-mod numbers;
-mod pieces;
 mod place;
 mod reader;
-mod types;
 
 use crate::zone::TimeZone;
 use reader::read_zone;
@@ -77,9 +72,8 @@ impl TimeZone {
     /// number of bytes in front of it.
     ///
     /// ```
-    /// match TimeZone::parse_tz_data(alloc, b"TZif4") {
-    ///     Ok(zone) => Ok(zone),
-    ///     Err(e) => Err(e.position), // Some(4), at the version
+    /// if let Err(e) = TimeZone::parse_tz_data(alloc, b"TZif4") {
+    ///     let position = e.position; // Some(4), at the version
     /// }
     /// ```
     ///

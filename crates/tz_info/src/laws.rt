@@ -22,7 +22,7 @@ ghost use Rattle.{
 
 use crate::DayForm;
 use crate::rule::TransitionRule;
-use crate::zone::{LeapSecond, Transition};
+use tz_base::{LeapSecond, Transition};
 
 /// A rule has one day in each year, and its moments at a fixed time of day come later in a later
 /// year.

@@ -9,6 +9,7 @@ mod day_places;
 mod kind_places;
 mod kinds;
 mod moments;
+pub(crate) mod piece;
 mod reached;
 pub(crate) mod reader;
 mod season;

@@ -8,6 +8,4 @@ mod parts;
 mod posix;
 mod time_zone;
 
-pub use lists::leap_second::LeapSecond;
-pub use lists::transition::Transition;
 pub use time_zone::TimeZone;

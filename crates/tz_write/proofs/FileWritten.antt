@@ -7,15 +7,17 @@ use Rattle.std.proofs.{
 }
 use Rattle.std.specs.Str.{IsAscii}
 use Rattle.tz_base.specs.{Grammar.{At, Byte, Check, Each, Ended, Exact, Grammar, Here, IsRun, Marked, Nothing, Number, Rest, Run, Then}, LocalTypes.plain_type}
-use Rattle.tz_info.{
-  proofs.{FilePieceLaws.file_ends, PosixLaws.in_footer, TrimLaws.trim_whole, TzFileLaws.one_pieces},
-  proofs.Words.{All-push, FilePieces, FitsSigned, IsTzFile, cases_lt, designation_of, drop-drop, drop_front, exact_cut, is_not_zero, leap_at, length-drop},
-  proofs.Words.{length-take, nil_from_length, record_at, take-append-drop, take-suc, take_all, take_more, transition_at, values_below, w32, w64, ◌-◌},
-  specs.declared.file.header.{Counts.Counts, Header.Header, Place.{TheVariants.{First, Second}, Place}, Version.{TheVariants.{Three, Two}, Version}},
-  specs.declared.zone.lists.transition.Transition.Transition,
-  specs.{FileContents.{designation, indicators, local_type, mark, type_at, typed}, FileHeaders.CountsAgree, FilePieces.later_pieces},
-  specs.{Footers.{footer, footer_text, newline, optional_footer, utf8}, TzFiles.{contents, tz_file}},
-}
+use Rattle.tz_file.proofs.FilePieceLaws.{file_ends}
+use Rattle.tz_info.proofs.{PosixLaws.{in_footer}, TzFileLaws.{one_pieces}}
+use Rattle.tz_info.proofs.Words.{All-push, FilePieces, FitsSigned, IsTzFile, cases_lt, designation_of, drop-drop, drop_front, exact_cut, is_not_zero, leap_at}
+use Rattle.tz_info.proofs.Words.{length-drop, length-take, nil_from_length, record_at, take-append-drop, take-suc, take_all, take_more, transition_at}
+use Rattle.tz_info.proofs.Words.{values_below, w32, w64, ◌-◌}
+use Rattle.tz_base.proofs.TrimLaws.{trim_whole}
+use Rattle.tz_file.specs.declared.header.{Counts.{Counts}, Header.{Header}, Place.{TheVariants.{First, Second}, Place}, Version.TheVariants.{Three, Two}}
+use Rattle.tz_file.specs.{declared.header.Version.{Version}, FileContents.{designation, indicators, local_type, mark, type_at, typed}}
+use Rattle.tz_file.specs.{FileHeaders.{CountsAgree}, FilePieces.{later_pieces}}
+use Rattle.tz_base.specs.declared.transition.Transition.{Transition}
+use Rattle.tz_info.specs.{Footers.{footer, footer_text, newline, optional_footer, utf8}, TzFiles.{contents, tz_file}}
 use Rattle.tz_write.{
   proofs.Words.{[], All, AllOf, Bool, HasNoZero, HasPieces, HasPlace, HavePlaces, IsNamedIn, IsRuleOrNone, IsType, IsTzText, List, LocalType, None, Option},
   proofs.Words.{Parts, Room, Some, Spells, StandsAt, append-nil, drop, ints, name_of, name_or_none, nat_tests, TransitionRule, Zone, after_first_block, ap},

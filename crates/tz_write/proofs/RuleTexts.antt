@@ -1,13 +1,13 @@
 -- The text of a rule, and of a zone: it spells the rule, or gives the zone, and each other one is longer.
 use Rattle.std.proofs.{Common.{Decides, decimal, int_eq}, lemmas.Bool.{Decides.Decides-int_eq, le-ltb}}
 use Rattle.tz_base.{proofs.RunLaws.all_of, specs.{Grammar.{Grammar, Number, Run, Then}, Names.IsName}}
-use Rattle.tz_info.{
-  proofs.Words.{IsRuleDay, IsTzText, IsWithinDay, ints, is_letter, is_not_greater, neg_ℤ},
-  proofs.Words.{nil_from_length, pos, trimmed, unsigned_abs, zone_of_rule, ◌+ℤ◌, ◌<ℤ◌},
-  proofs.TrimLaws.{IsSpace, trim_is, trim_whole},
-  proofs.ForCallers.offset_fits,
-  specs.{TzGrammar.{clock_max, minus, time_limit}, declared.rule.day.{DayForm.{TheVariants.{Julian0, Julian1, MonthWeekday}, DayForm}, DayTime.DayTime}},
+use Rattle.tz_info.proofs.{
+  Words.{IsRuleDay, IsTzText, IsWithinDay, ints, is_letter, is_not_greater, neg_ℤ, nil_from_length, pos, trimmed, unsigned_abs, zone_of_rule, ◌+ℤ◌, ◌<ℤ◌},
+  ForCallers.{offset_fits},
 }
+use Rattle.tz_base.proofs.TrimLaws.{IsSpace, trim_is, trim_whole}
+use Rattle.tz_info.specs.{TzGrammar.{clock_max, minus, time_limit}, declared.rule.day.DayForm.{TheVariants.{Julian0, Julian1, MonthWeekday}, DayForm}}
+use Rattle.tz_info.specs.declared.rule.day.DayTime.{DayTime}
 use Rattle.tz_write.{
   proofs.TextBytes.{AreTextBytes, Begins, Best, Front, Writes, all_others, first_optional, front_cons, front_longer, front_optional, front_then},
   proofs.TextBytes.{front_unless, front_whole, names_are, number_begins, number_front, number_writes, pair_front, pair_writes, pairs_over, no_space},

@@ -12,7 +12,9 @@ use Rattle.tz_base.specs.{
   Refusals.Refusal,
   Tests.Test,
 }
-use Rattle.tz_info.{proofs.{TrimLaws.HasNoSpace, Words.nil_from_length}, specs.TzGrammar.dot}
+use Rattle.tz_base.proofs.TrimLaws.{HasNoSpace}
+use Rattle.tz_info.proofs.Words.{nil_from_length}
+use Rattle.tz_info.specs.TzGrammar.{dot}
 use Rattle.tz_write.{
   proofs.Words.{[], AllOf, AreInPairs, Bool, HasNoZero, List, NoneFirst, Spells, Without, append-nil, append_assoc, arith, both_ways, colon, comma},
   proofs.Words.{cond, false, greater, is_digit, is_name_byte, length, length-append, less, nat_tests, not, refl, rules, slash, spelled_pair},

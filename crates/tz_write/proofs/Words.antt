@@ -1,19 +1,13 @@
 -- The words that the proofs of this crate and of those above it cite, passed on from std, from the crates below and from specs/.
 use Rattle.std.proofs.lemmas.{Grind.elements, List.{flat_map_more, take_more}}
-pub use Rattle.std.{
-  proofs.lemmas.{Bool.both_ways, Result.on_err_weaker},
-  proofs.Common.{None, Option, Some, ◌^◌},
-  specs.List.{flat_map, fold},
-}
+pub use Rattle.std.{proofs.lemmas.{Bool.both_ways, Result.on_err_weaker}, proofs.Common.{None, Option, Some, ◌^◌}, specs.List.{flat_map, fold}}
 pub use Rattle.tz_base.specs.{Fronts.{AllOf, NoneFirst, is_digit, run_of}, Grammar.Without, Names.is_name_byte}
-pub use Rattle.tz_info.{
-  proofs.Words.{[], All, Bool, HasPieces, IsNameOrNone, IsRule, IsRuleOrNone, IsTzText, List, LocalType},
-  proofs.Words.{MatchOption, Parts, Spells, Zone, ap, append-nil, append_assoc, arith, cond, drop, false, is_not_zero},
-  proofs.Words.{false≢true, get_or, inl, inr, ints, length, length-append, list_all, magic, nat_tests, not, pos, refl, rules, subst, suc, sym, take},
-  proofs.Words.{true, unsigned_abs, zero, ℕ, ℤ, ◌%◌, ◌&&◌, ◌*◌, ◌++◌, ◌+ℤ◌, ◌+◌, ◌/◌, ◌<ℤ◌, ◌<◌, ◌==◌, ◌↔◌, ◌∙◌, ◌∷◌, ◌≡◌, ◌≢◌, ◌≤ℤ◌, ◌≤◌, ◌⊎◌},
-  specs.{FileHeaders.counts_test, TzGrammar.{colon, comma, greater, less, slash}},
-  specs.declared.rule.transition_rule.TransitionRule.TransitionRule,
-}
+pub use Rattle.tz_info.proofs.Words.{[], All, Bool, HasPieces, IsNameOrNone, IsRule, IsRuleOrNone, IsTzText, List, LocalType, MatchOption, Parts, Spells, Zone}
+pub use Rattle.tz_info.proofs.Words.{ap, append-nil, append_assoc, arith, cond, drop, false, is_not_zero, false≢true, get_or, inl, inr, ints, length}
+pub use Rattle.tz_info.proofs.Words.{length-append, list_all, magic, nat_tests, not, pos, refl, rules, subst, suc, sym, take, true, unsigned_abs, zero, ℕ, ℤ}
+pub use Rattle.tz_info.proofs.Words.{◌%◌, ◌&&◌, ◌*◌, ◌++◌, ◌+ℤ◌, ◌+◌, ◌/◌, ◌<ℤ◌, ◌<◌, ◌==◌, ◌↔◌, ◌∙◌, ◌∷◌, ◌≡◌, ◌≢◌, ◌≤ℤ◌, ◌≤◌, ◌⊎◌}
+pub use Rattle.tz_file.specs.FileHeaders.{counts_test}
+pub use Rattle.tz_info.specs.{TzGrammar.{colon, comma, greater, less, slash}, declared.rule.transition_rule.TransitionRule.{TransitionRule}}
 pub use Rattle.tz_write.specs.{
   FileDesignations.{AreShortest, HasNoZero, IsNamedIn, StandsAt, name_of, name_or_none},
   Steps.{
@@ -26,10 +20,8 @@ pub use Rattle.tz_write.specs.{
   declared.file.writer.Room.Room,
 }
 unfoldable pub use Rattle.tz_base.specs.Grammar.{be_u32}
-unfoldable pub use Rattle.tz_info.{
-  proofs.Words.{after_first_block, block, file, first_version, later_version},
-  specs.{FileContents.signed, FileHeaders.{header, six_counts, tzif, version, version_1}},
-}
+unfoldable pub use Rattle.tz_info.proofs.Words.{after_first_block, block, file, first_version, later_version}
+unfoldable pub use Rattle.tz_file.specs.{FileContents.{signed}, FileHeaders.{header, six_counts, tzif, version, version_1}}
 unfoldable pub use Rattle.tz_write.specs.{
   Steps.LaidFiles.{counts_bytes, file_bytes, first_half, header_bytes, laid_file, leap_bytes, number_bytes, second_half, signed_bytes, type_bytes},
   Steps.LaidNames.{begins, laid_names},

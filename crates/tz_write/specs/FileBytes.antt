@@ -1,6 +1,6 @@
 -- Bytes that each written TZif file has (RFC 8536 section 3).
 use Rattle.std.specs.Prelude.{ℕ, Bool, if◌then◌else◌, List, [], ◌∷◌, ◌++◌}
-use Rattle.tz_info.specs.declared.file.header.Counts.{Counts}
+use Rattle.tz_file.specs.declared.header.Counts.{Counts}
 
 -- the byte of version 2, or of version 3, whose footer may have extensions
 abbrev pub version_byte : Bool → ℕ

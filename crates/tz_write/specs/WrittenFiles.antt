@@ -1,9 +1,11 @@
 -- Which zones are written as files, and what is written.
 use Rattle.std.specs.{Prelude.{ℕ, ◌≡◌, ◌<◌, ◌^◌, Bool, false, List, [], length, slice_index, All, FitsSigned, Option, Some, None}, Int.{w32, w64}}
 use Rattle.tz_base.specs.{Grammar.{Spells}, LocalTypes.{LocalType, IsUtOffset}, Names.{IsNameOrNone}}
-use Rattle.tz_info.specs.{FileHeaders.{header}, FilePieces.{FilePieces, HasPieces}, TzFiles.{IsTzFile}, Zones.{Zone}}
-use Rattle.tz_info.specs.declared.{file.header.{Place.TheVariants.{First}, Version.{Version}}, rule.transition_rule.TransitionRule.{TransitionRule}}
-use Rattle.tz_info.specs.declared.zone.lists.{leap_second.LeapSecond.{LeapSecond}, transition.Transition.{Transition}}
+use Rattle.tz_file.specs.{FileHeaders.{header}, FilePieces.{FilePieces, HasPieces}}
+use Rattle.tz_info.specs.{TzFiles.{IsTzFile}, Zones.{Zone}}
+use Rattle.tz_file.specs.declared.header.{Place.TheVariants.{First}, Version.{Version}}
+use Rattle.tz_info.specs.declared.rule.transition_rule.TransitionRule.{TransitionRule}
+use Rattle.tz_base.specs.declared.{leap_second.LeapSecond.{LeapSecond}, transition.Transition.{Transition}}
 use Rattle.tz_write.specs.{FileBytes.{version_byte, least_counts, footer_bytes}, FileDesignations.{AreNamesIn, AreShortest}, Steps.LaidFiles.{laid_file}}
 use Rattle.tz_write.specs.WrittenTexts.{CanBeSpelled, AreTimesOf, IsWrittenText}
 

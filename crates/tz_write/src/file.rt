@@ -59,7 +59,7 @@ impl ToTzData for TimeZone {
     ///
     /// ```
     /// if let Some(bytes) = zone.to_tz_data(alloc)? {
-    ///     let again = TimeZone::from_tz_data(alloc, &bytes)?; // equal to zone
+    ///     let is_equal = TimeZone::from_tz_data(alloc, &bytes)? == zone; // true
     /// }
     /// ```
     #[tactic(auto, using(crate::proofs::FileWritten::can_be_written, crate::proofs::FileWritten::writable, crate::proofs::RuleTexts::rule_read))]

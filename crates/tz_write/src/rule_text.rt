@@ -41,7 +41,7 @@ pub trait ToTzString {
     /// ```
     /// let text = b"<EST>+05:00<EDT>,M3.2.0/02:00:00,M11.1.0";
     /// let rule = TransitionRule::from_tz_string(text, false)?;
-    /// let written = rule.to_tz_string(alloc)?; // EST5EDT,M3.2.0,M11.1.0
+    /// let written = rule.to_tz_string(alloc)??.text; // EST5EDT,M3.2.0,M11.1.0
     /// ```
     ///
     /// # Errors

@@ -22,7 +22,7 @@ pub trait ToPosixTz {
     ///
     /// ```
     /// let zone = TimeZone::from_posix_tz(alloc, "<+0530>-05:30:00")?;
-    /// let written = zone.to_posix_tz(alloc)?; // <+0530>-5:30
+    /// let written = zone.to_posix_tz(alloc)??; // <+0530>-5:30
     /// ```
     ///
     /// # Errors

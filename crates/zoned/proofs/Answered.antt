@@ -2,7 +2,8 @@
 use Rattle.std.proofs.Common.{Err, Ok, Result, inl, ◌⊎◌}
 use Rattle.std.specs.Result.{IsOkAnd}
 use Rattle.tz_base.specs.{declared.error.Error.{Error, TheVariants.{OutOfMemory}}, Errors.{IsOutOfMemory}}
-use Rattle.tz_info.specs.{FilePieces.{FilePieces, HasPieces}, PosixZones.{IsPosixFault, IsPosixZone}, TzFiles.{In_file, IsFileFault, IsZoneFault, No_memory}}
+use Rattle.tz_file.specs.FilePieces.{FilePieces, HasPieces}
+use Rattle.tz_info.specs.{PosixZones.{IsPosixFault, IsPosixZone}, TzFiles.{In_file, IsFileFault, IsZoneFault, No_memory}}
 use Rattle.zoned.proofs.Words.{List, Zone, arith, inr, refl, subst, ℕ, ◌≡◌}
 use Rattle.zoned.specs.Headline.{IsAnswerOf}
 use Rattle.tz_base.specs.declared.error.Error.TheVariants as errors

@@ -6,7 +6,8 @@ use Rattle.offset_core.specs.{declared.local_result.LocalResult.{LocalResult}, d
 use Rattle.naive_base.specs.{Months.{days_of, months_of}, NaiveDateTime.{reading}, NaiveTime.{second_of, fraction_of}, Range.{IsWide}}
 use Rattle.naive_base.specs.Reading.{reading_at, day_at, moved, difference, total}
 use Rattle.tz_base.specs.{LocalTypes.{LocalType}, declared.error.Error.{Error}, declared.error.Error.TheVariants.{OutOfMemory}}
-use Rattle.tz_info.specs.{FilePieces.{FilePieces, HasPieces}, Looks.{RoseByWallClock}, PosixZones.{IsPosixZone, IsPosixFault}, RuleTypes.{RuleAt}}
+use Rattle.tz_file.specs.FilePieces.{FilePieces, HasPieces}
+use Rattle.tz_info.specs.{Looks.{RoseByWallClock}, PosixZones.{IsPosixZone, IsPosixFault}, RuleTypes.{RuleAt}}
 use Rattle.tz_info.specs.{TzFiles.{IsTzFile, IsFileFault}, TzGrammar.{IsTzText, IsTextFault}, WallClocks.{Shows}, Zones.{Zone, IsValid, TypeAt}}
 use Rattle.tz_info.specs.declared.rule.transition_rule.TransitionRule.{TransitionRule}
 use Rattle.zoned_time.specs.{declared.datetime.Instant.{Instant}, Choice.{IsOffsetBeforeGap, IsResolved, IsUnresolved}}

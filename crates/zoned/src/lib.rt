@@ -1,9 +1,9 @@
 //! Zoned time, proved: the zoned-time layer of chrono 0.4.45, under chrono's names.
 //!
-//! This is the only library that a client names, unless it needs [less](#which-libraries-to-name). It
-//! passes on what the libraries below it make, and the words of their contracts. Its own are the
-//! theorems of [`headline`], which join those contracts, and those of [`client_laws`], for a client's
-//! own contracts.
+//! This is the only library of Sahvumbi that a client names, unless it needs
+//! [less](#which-libraries-to-name). It passes on what the libraries below it make, and the words of
+//! their contracts. Its own are the theorems of [`headline`], which join those contracts, and those of
+//! [`client_laws`], for a client's own contracts.
 //!
 //! Each call returns what its contract says, and no call panics, overflows, reads out of bounds or
 //! loops forever; no contract bounds the stack. The caller proves what a call requires, such as a
@@ -34,10 +34,11 @@
 //! | [`TimeZoneRef`] | such a zone, borrowed, as the zone of `DateTime`s |
 //! | [`KeptZone`] | such a zone, kept until the program ends: a zone of `DateTime`s without a lifetime |
 //! | [`TimeZone`], [`Offset`] | the traits that each zone, and each zone's offset, implements |
-//! | [`LocalResult`] | what a lookup by wall clock returns: `None`, `Single` or `Ambiguous` |
-//! | [`Choice`] | what to take in gaps and in folds |
+//! | [`LocalResult`] | what a lookup by local time returns: `None`, `Single` or `Ambiguous` |
+//! | [`Choice`] | the policy for gaps and folds |
 //! | [`ZoneDays`], [`ShownDay`] | the trait of zones whose days can be found, and a day |
-//! | [`DailySeries`] | a wall-clock time on each day |
+//! | [`ZonePlans`], [`Plan`] | the calls of such a zone that take a plan or a step of the clock, and the trait of plans |
+//! | [`DailySeries`] | a local time on each day |
 //!
 //! `TimeZone` is the trait, as in chrono. The parsed zone is `tz_info::TimeZone`.
 //!
@@ -52,8 +53,8 @@
 //! let parsed = tz_info::TimeZone::from_tz_data(alloc, bytes)?;
 //! let new_york = TimeZoneRef::new(&parsed).ok_or(MyError::WideZone)?;
 //! let gap = new_york.with_ymd_and_hms(2021, 3, 14, 2, 30, 0); // None
-//! let fold = new_york.with_ymd_and_hms(2021, 11, 7, 1, 30, 0); // Ambiguous(-04:00, -05:00)
-//! let noon = new_york.with_ymd_and_hms(2021, 7, 1, 12, 0, 0); // Single(-04:00)
+//! let fold = new_york.with_ymd_and_hms(2021, 11, 7, 1, 30, 0); // Ambiguous(2021-11-07 01:30:00 -04:00, 2021-11-07 01:30:00 -05:00)
+//! let noon = new_york.with_ymd_and_hms(2021, 7, 1, 12, 0, 0); // Single(2021-07-01 12:00:00 -04:00)
 //! ```
 //!
 //! [`TimeZone::resolve`] returns the one instant that a policy selects, or the reason why there isn't
@@ -89,6 +90,7 @@
 //!     let instant = instant?;
 //!     lines.push(format!(in alloc; "{instant}")?)?;
 //! }
+//! let after_the_gap = lines[1].as_str(); // 2021-03-14 03:30:00 -04:00
 //! ```
 //!
 //! | 02:30 from 2021-03-13 on | 01:30 from 2021-11-06 on |
@@ -138,8 +140,8 @@
 //! | a TZ string | a zone | [`tz_info::TimeZone::from_posix_tz`] |
 //! | a parsed zone | a zone of `DateTime`s | [`TimeZoneRef::new`]: `None` if one of its offsets is a day or more |
 //! | a parsed zone | one for the whole program, without a lifetime | [`KeptZone::open`] from the bytes of a file; [`KeptZone::keep`], whose error gives the zone back |
-//! | a wall clock | each instant that shows it | [`TimeZone::with_ymd_and_hms`], [`TimeZone::from_local_datetime`] |
-//! | a wall clock | one instant | [`TimeZone::resolve`] |
+//! | a local time | each instant that shows it | [`TimeZone::with_ymd_and_hms`], [`TimeZone::from_local_datetime`] |
+//! | a local time | one instant | [`TimeZone::resolve`] |
 //! | a Unix time | the instant | [`TimeZone::timestamp_opt`], [`DateTime::from_timestamp`] |
 //! | a UTC date-time | the instant | [`TimeZone::from_utc_datetime`], [`NaiveZoned::and_utc`] |
 //! | an instant | what clocks elsewhere show then | [`DateTime::with_timezone`] |
@@ -160,21 +162,21 @@
 //! | a date | when its week, month or year starts | [`ZoneDays::start_of_week`], [`ZoneDays::start_of_month`], [`ZoneDays::start_of_year`] |
 //! | an instant | the date of the day that it lies in; when that day starts | [`ZoneDays::date_of`]; [`DateTime::start_of_day`] |
 //! | an instant | the last local time that clocks have shown by then | [`ZoneDays::reached`] |
-//! | an instant | when its day, week, month, year, hour or another [`ClockStep`] begins and ends | [`ZoneDays::floor`], [`ZoneDays::ceil`], [`ZoneDays::step_at`] |
+//! | an instant | when its day, week, month, year, hour or another [`ClockStep`] begins and ends | [`ZonePlans::floor`], [`ZonePlans::ceil`], [`ZonePlans::step_at`] |
 //! | a rule of RFC 5545 and its start | its local times, as a plan | [`Recurrence::new`] |
 //! | local times, or several plans | a plan of them | [`LocalTimes`], [`Union`], [`Intersection`], [`Except`] |
-//! | a plan, such as a line of a crontab ([`Cron`]) | when it fires next, or fired last | [`ZoneDays::next_fire`], [`ZoneDays::first_fire`]; [`ZoneDays::last_fire`], [`ZoneDays::previous_fire`] |
-//! | a plan | each time that it fires between two instants | [`ZoneDays::fires`] |
-//! | a plan, and a [`FirePolicy`] for its local times in gaps and folds | when it fires next | [`ZoneDays::next_fire_by`] |
+//! | a plan, such as a line of a crontab ([`Cron`]) | when it fires next, or fired last | [`ZonePlans::next_fire`], [`ZonePlans::first_fire`]; [`ZonePlans::last_fire`], [`ZonePlans::previous_fire`] |
+//! | a plan | each time that it fires between two instants | [`ZonePlans::fires`] |
+//! | a plan, and a [`FirePolicy`] for its local times in gaps and folds | when it fires next | [`ZonePlans::next_fire_by`] |
 //! | two versions of a zone, and a plan | the runs that only one of them has | [`moved`] |
 //! | a date | the first and the last second at which clocks show it | [`ZoneDays::day`] |
-//! | a wall clock | the first instant at which clocks have reached it | [`ZoneDays::first_at_or_after`] |
+//! | a local time | the first instant at which clocks have reached it | [`ZoneDays::first_at_or_after`] |
 //! | two versions of a zone | what differs | [`tz_info::TimeZone::differences`] |
 //! | an instant | it, rounded | [`DurationRound`], [`SubsecRound`] |
-//! | a wall-clock time | it, on each day | [`DailySeries::new`] |
+//! | a local time | it, on each day | [`DailySeries::new`] |
 //! | a date | the next day, the days or the week from it | [`NaiveDate::succ_opt`], [`NaiveDate::iter_days`], [`NaiveDate::week`] |
 //! | a year and a month | the n-th Sunday; the days of the month | [`NaiveDate::from_weekday_of_month_opt`]; [`Month::num_days`], [`gregorian::days_in_month`] |
-//! | the bytes or a text, and a wall clock | types of local time and instants in one call | [`WallClock`] |
+//! | the bytes or a text, and a local time | types of local time and instants in one call | [`WallClock`] |
 //! | a rule, or a zone that has only a rule | its TZ string | [`ToTzString::to_tz_string`], [`ToPosixTz::to_posix_tz`] |
 //! | a parsed zone | the bytes of its TZif file | [`ToTzData::to_tz_data`] |
 //! | a zone that no file describes | it, as the zone of `DateTime`s | an implementation of [`TimeZone`] |
@@ -205,8 +207,8 @@
 //! # Which libraries to name
 //!
 //! The first check of a program proves each library that its line of `crates.txt` names, and those
-//! below; later checks use what was kept. With `zoned` that is all of them, the writers too, so a
-//! program that needs less names less, and imports from each library what `zoned` passes on:
+//! below; later checks use what was kept. `zoned` brings all of them. A program that needs fewer can
+//! name these in place of it, and import from each library what `zoned` passes on:
 //!
 //! | you need | name | minutes |
 //! |---|---|---|
@@ -218,13 +220,13 @@
 //! | everything, with what writes zones | `zoned` | 45 |
 //!
 //! The minutes are a sum over the libraries, each checked from nothing on a machine of 4 processors on
-//! which three or more other checks ran (2026-11-26): an upper bound, since libraries that don't need
-//! one another can be checked at once.
+//! which three or more other checks ran (2026-11-26). Libraries that don't need one another can be
+//! checked at once.
 //!
 //! # What the checker doesn't cover
 //!
 //! What is written every day needs no contract, no lemma and no proof file: the repository's crate
-//! `tests_idioms` has more than a hundred such functions over instants of a kept zone, those whose code
+//! `tests_idioms` has some two hundred such functions over instants of a kept zone, those whose code
 //! differs over UTC or over a borrowed zone, and those over dates, times of day and lengths.
 //! These aren't covered yet:
 //!
@@ -255,9 +257,11 @@ pub use naive_base::{
     Timelike, Weekday,
 };
 pub use naive_plans::{
-    ClockStep, Cron, DayPlan, Except, Frequency, Intersection, LocalTimes, NthWeekday, PartOfDay,
-    Plan, Recurrence, RecurrenceEnd, RecurrenceError, RecurrenceRule, ReversibleDayPlan,
+    ClockStep, Cron, DailyTime, DayPlan, Except, Intersection, LocalTimes, PartOfDay, Plan, ReversibleDayPlan,
     ReversiblePlan, Union, last_local_time, next_local_time,
+};
+pub use naive_rrule::{
+    Frequency, NthWeekday, Recurrence, RecurrenceEnd, RecurrenceError, RecurrenceRule,
 };
 pub use offset_core::{
     Around, Choice, FixedOffset, FoldChoice, GapChoice, LocalResult, MappedLocalTime,
@@ -267,13 +271,15 @@ pub use tz_base;
 pub use tz_info;
 pub use tz_saving::{Saving, daylight_saving};
 pub use tz_write::{ToPosixTz, ToTzData, ToTzString, TzText};
+pub use zoned_plans::{
+    FirePolicy, Fires, FoldFires, GapFires, Move, Moves, StepBounds, ZonePlans, moved,
+};
 pub use zoned_ref::{
     KeepError, KeptChange, KeptZone, OpenError, TimeZoneRef, WallClock, ZoneChange, ZoneOffset,
 };
 pub use zoned_round::{DurationRound, RoundingError, SubsecRound};
 pub use zoned_series::{DailyItems, DailySeries, SeriesError};
 pub use zoned_time::{
-    AsInstant, DateTime, FirePolicy, Fires, FoldFires, GapFires, Instant, MAX_DATETIME,
-    MIN_DATETIME, Move, Moves, NaiveZoned, Offset, OffsetStretch, ShownDay, StepBounds, TimeZone,
-    Utc, ZoneDays, moved,
+    AsInstant, DateTime, Instant, MAX_DATETIME, MIN_DATETIME, NaiveZoned, Offset, OffsetStretch,
+    ShownDay, TimeZone, Utc, ZoneDays,
 };

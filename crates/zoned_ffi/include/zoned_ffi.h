@@ -1,4 +1,4 @@
-/* zoned_ffi.h: the proved calls of time zones for C. zoned.h has them and zones by name.
+/* zoned_ffi.h: the proved calls of Sahvumbi, whose name is zoned in C and Rattle. zoned.h has them and zones by name.
 
    Open a zone once and ask it by its handle, as often as you like:
 
@@ -112,8 +112,8 @@ uint32_t zoned_open(uint32_t kind, const void *zone, size_t zone_len, struct zon
 uint32_t zoned_open_limited(uint32_t kind, const void *zone, size_t zone_len,
                             size_t most_transitions, size_t most_leap_seconds, struct zoned_zone *out);
 
-/* Returns how many bytes are in front of the fault for which zoned_open rejects the bytes. In a TZ string: where the first byte is with
-   which no string goes on; the number, the time or the name that is out of its limits; the end if bytes are missing; or the first byte
+/* Returns how many bytes are in front of the fault for which zoned_open rejects the bytes. In a TZ string the fault is the first byte
+   that can't continue one; the number, the time or the name that is out of its limits; the end if bytes are missing; or the first byte
    that is not UTF-8. In a file: the end if it is too short, and else the first byte of the field whose value is rejected, such as a
    version, a count, a type's DST flag or a transition's time. In the TZ string of a file's footer: as in a TZ string, or its first
    byte if the rule disagrees with the last transition (44).
@@ -234,7 +234,7 @@ typedef struct zoned_change {
    comes at a second of 64 bits, and nothing is written. The changes of a zone are listed by asking again after change->at.
 
    A transition of the file that changes nothing doesn't count, and what a rule does after the last transition does. A second at
-   which the zone begins or ends to have a type is no change either: the last change of the rule EST5EDT,M3.2.0,M11.1.0, which answers up to the
+   which the zone starts or stops having a type is no change either: the last change of the rule EST5EDT,M3.2.0,M11.1.0, which answers up to the
    year 2147483645, is that of November of that year, 67767976165557600, also before INT64_MAX. The calls skip any
    number of transitions that change nothing at once.
 
@@ -256,8 +256,8 @@ uint32_t zoned_zone_previous_offset_change(const struct zoned_zone *zone, int64_
 /* Writes the TZ string of the rule that governs from the zone's last transition on, as much as fits into `text` with a zero byte after it
    (nothing if text_len is 0). *length is the length of the whole string, as with snprintf: 0 if the zone has no rule.
 
-   It is the shortest string that zoned_open reads as that rule with ZONED_EXTENDED_STRING; New York's is EST5EDT,M3.2.0,M11.1.0. A zone
-   of zoned_open_fixed has no rule, nor has one of a file whose footer is empty.
+   It is the shortest string, with minutes and seconds in two digits, that zoned_open reads as that rule with ZONED_EXTENDED_STRING;
+   New York's is EST5EDT,M3.2.0,M11.1.0. A zone of zoned_open_fixed has no rule, nor has one of a file whose footer is empty.
 
    ZONED_OUT_OF_MEMORY: this call takes memory, and gives it back. Nothing is written then. */
 uint32_t zoned_zone_rule_text(const struct zoned_zone *zone, char *text, size_t text_len, size_t *length);
@@ -295,7 +295,7 @@ uint32_t zoned_zone_wall_clocks(const struct zoned_zone *zone,
 
 /* `gap`: what to return for a local time that the clocks skipped. */
 enum zoned_gap {
-    ZONED_GAP_REFUSE = 0,       /* nothing */
+    ZONED_GAP_REFUSE = 0,       /* no instant: the answer is ZONED_IN_GAP */
     ZONED_GAP_SHIFT_FORWARD = 1, /* the instant at which a clock that was not set forward shows it. New York's clocks skipped
                                     02:30 on 2021-03-14: it is the instant at which they showed 03:30 */
     ZONED_GAP_END = 2,          /* the second at which the gap ends: the instant at which they showed 03:00 */
@@ -306,7 +306,7 @@ enum zoned_gap {
 
 /* `fold`: what to return for a local time that they show several times. */
 enum zoned_fold {
-    ZONED_FOLD_REFUSE = 0,   /* nothing */
+    ZONED_FOLD_REFUSE = 0,   /* no instant: the answer is ZONED_IN_FOLD */
     ZONED_FOLD_EARLIEST = 1, /* the first instant */
     ZONED_FOLD_LATEST = 2,   /* the last */
     ZONED_FOLD_NO_TIME = 3   /* in zoned_column_instants: ZONED_NO_TIME */
@@ -315,8 +315,8 @@ enum zoned_fold {
 /* The instant of a local time. */
 typedef struct zoned_resolved {
     uint32_t number; /* ZONED_OK, or ZONED_IN_GAP, ZONED_IN_FOLD or ZONED_INSTANT_OUT_OF_RANGE: then the others are 0 */
-    int32_t offset;  /* the offset in force at the instant, in seconds east of UTC: in a gap that is shifted forward mostly the
-                        one after it, and in one that is shifted backward the one before it */
+    int32_t offset;  /* the offset in force at the instant, in seconds east of UTC: in a gap that is shifted forward usually
+                        the one after it, and in one that is shifted backward the one before it */
     int64_t instant; /* a Unix second */
 } zoned_resolved;
 
@@ -366,8 +366,8 @@ uint32_t zoned_zone_firsts_at_or_after(const struct zoned_zone *zone,
 
 /* *change is the change of the clocks around the local time: in a gap the one that skips it, and in a fold the one that sets clocks back,
    so that they show it again. In a gap the offset after the change is greater than the one before it, and in a fold it is less. If
-   clocks are set back more than once between the first and the last second that show the local time, it is the last change at which
-   they showed it, or a later time, the second before.
+   clocks are set back more than once between the first and the last second that show the local time, it is the last change whose
+   previous second showed it or a later time.
 
    In New York 02:30 on 2021-03-14 (1615689000) lies in a gap: the change is at 1615705200, from EST, -18000, to EDT, -14400. And 01:30
    on 2021-11-07 (1636248600) lies in a fold: the change is at 1636264800, back to EST.

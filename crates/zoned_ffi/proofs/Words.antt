@@ -34,7 +34,8 @@ pub use Rattle.tz_info.proofs.Words.{IsZoneFault, List, LocalType, MatchOption, 
 pub use Rattle.tz_info.proofs.Words.{inr, ints, length, length-append, map, neg_ℤ, error_number, pos, refl, rules, subst, suc, sym, take, to_z-of_z, true, w128}
 pub use Rattle.tz_info.proofs.Words.{w32, w64, zero, ℕ, ℤ, [], ◌&&◌, ◌*ℤ◌, ◌*◌, ◌++◌, ◌+ℤ◌, ◌+◌, ◌-ℤ◌, ◌<ℤ◌, ◌<◌, ◌∙◌, ◌∷◌, ◌≡◌, ◌≤ℤ◌, ◌≤◌, ◌⊎◌}
 pub use Rattle.tz_info.specs.{Windows.{IsGreatest, IsLeast, offsets}, declared.rule.transition_rule.TransitionRule.{TransitionRule}}
-pub use Rattle.tz_info.specs.{declared.{file.counts.FileCounts.{FileCounts}, zone.ask.offset_stretch.OffsetStretch.{OffsetStretch}}, FilePieces.{HasCounts}}
+pub use Rattle.tz_file.specs.{declared.pieces.FileCounts.{FileCounts}, FilePieces.{HasCounts}}
+pub use Rattle.tz_info.specs.declared.zone.ask.offset_stretch.OffsetStretch.{OffsetStretch}
 unfoldable pub use Rattle.tz_info.proofs.Words.{changes_left}
 pub use Rattle.zoned_ffi.specs.{Columns.{IsNoInstant}, WrittenTypes.{AreOffsetsAt, IsWrittenOffsetAt}, Kinds.{IsAboveLimits}, Owned.{boxed, held, lent, loan}}
 pub use Rattle.zoned_ffi.specs.{Owned.{shared_row}, Refusals.{IsErrorOfKind, IsExtendedFault, IsFault, IsFileError, IsStringError, detail_number}}

@@ -2,7 +2,8 @@
 use Rattle.std.specs.{Prelude.{ℕ, ◌≡◌, List, Result, Ok, Err, true}, Option.{unwrap_or}, Str.{IsUtf8, IsValidUpTo}}
 use Rattle.tz_base.specs.declared.{error.Error.{Error}, parse_error.ParseError.{ParseError}}
 use Rattle.tz_info.specs.{PosixZones.{IsPosixFault, IsPosixFaultPlace, IsPosixZone, IsExtendedZone}, TzGrammar.{IsTextFault, text_fault_position}}
-use Rattle.tz_info.specs.{FilePieces.{FilePieces, HasPieces}, FilePlaces.{IsFilePlace}, TzFiles.{IsFileFault, IsTzFile}, Zones.{IsValid, Zone}}
+use Rattle.tz_file.specs.FilePieces.{FilePieces, HasPieces}
+use Rattle.tz_info.specs.{FilePlaces.{IsFilePlace}, TzFiles.{IsFileFault, IsTzFile}, Zones.{IsValid, Zone}}
 use Rattle.zoned_ffi.specs.Kinds.{IsKind}
 
 abbrev pub no_position : ℕ

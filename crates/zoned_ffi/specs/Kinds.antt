@@ -1,7 +1,7 @@
 -- How bytes are read, by the number of a kind, the zones that they spell then, and files that are above the limits of a caller.
 use Rattle.std.specs.{Prelude.{ℕ, ◌≡◌, List, ◌<◌, ◌⊎◌}, Str.{IsUtf8}}
-use Rattle.tz_info.specs.{PosixZones.{IsPosixZone, IsExtendedZone}, TzFiles.{IsTzFile}, Zones.{Zone, IsValid}, FilePieces.{HasCounts}}
-use Rattle.tz_info.specs.declared.file.counts.FileCounts.{FileCounts}
+use Rattle.tz_info.specs.{PosixZones.{IsPosixZone, IsExtendedZone}, TzFiles.{IsTzFile}, Zones.{Zone, IsValid}}
+use Rattle.tz_file.specs.{FilePieces.{HasCounts}, declared.pieces.FileCounts.{FileCounts}}
 use Rattle.zoned_ffi.specs.declared.kind.Kind.{Kind}
 use Rattle.zoned_ffi.specs.declared.kind.Kind.TheVariants as kinds
 

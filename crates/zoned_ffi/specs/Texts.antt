@@ -48,7 +48,7 @@ abbrev pub written_over : List ℕ → List ℕ → List ℕ
 written_over said [] = []
 written_over said (b ∷ bs) = take (length bs) said ++ (0 ∷ drop (length (take (length bs) said)) bs)
 
--- the shortest string that spells the rule; nothing without a rule, and nothing of a rule that no string spells
+-- the shortest string, with minutes and seconds in two digits, that spells the rule; nothing without a rule, and nothing of a rule that no string spells
 pub data IsRuleString : Option TransitionRule → List ℕ → Type 0 where
   no_rule : IsRuleString None []
   unspelled : (rule : TransitionRule) → IsUnspelled rule → IsRuleString (Some rule) []

@@ -4,8 +4,8 @@ use Rattle.naive_base.specs.{Range.{IsInRange}, Stamp.{of_secs}, Weekday.{weekda
 use Rattle.naive_plans.specs.{ClockSteps.{BeginsStep}, declared.clock_step.ClockStep.{ClockStep, TheVariants.{Day, Week, Month, Year, Part}}}
 use Rattle.tz_info.specs.Zones.{Zone}
 use Rattle.zoned_ref.specs.Offsets.{AreOffsetsOf, IsNarrow}
-use Rattle.zoned_time.specs.{Days.{IsInDay}, Fires.{IsLastFire, IsNextFire, NoneFiresAfter, NoneFiresUntil}, Zone.{IsReachedAt}}
-use Rattle.zoned_time.specs.StepBounds.{AreStepBounds, IsStepOutOfRange}
+use Rattle.zoned_time.specs.{Days.{IsInDay}, Zone.{IsReachedAt}}
+use Rattle.zoned_plans.specs.{Fires.{IsLastFire, IsNextFire, NoneFiresAfter, NoneFiresUntil}, StepBounds.{AreStepBounds, IsStepOutOfRange}}
 use Rattle.zoned_ffi.specs.declared.{days.WrittenDay.{WrittenDay}, whole_second.WholeSecond.{WholeSecond, TheVariants.{Reached, Floor, Ceil}}}
 
 -- the number of a step: its seconds, if it is a part of a day; of a week 100,000 more than its weekday, 0 for Sunday

@@ -7,6 +7,7 @@ use crate::refusal::{INSTANT_OUT_OF_RANGE, WIDE_ZONE};
 use naive_base::NaiveTime;
 use naive_plans::ClockStep;
 use tz_info::TimeZone;
+use zoned_plans::ZonePlans;
 use zoned_ref::TimeZoneRef;
 use zoned_time::{DateTime, Utc, ZoneDays};
 

@@ -7,7 +7,8 @@ ghost use Rattle.{
   naive_plans.specs.ClockSteps.{BeginsStep},
   offset_core.specs.WallAnswer.{IsShownBetween, IsShownOnce},
   tz_base.specs.LocalTypes.{LocalType},
-  tz_info.specs.{Around.{Skips}, PosixZones.{IsExtendedZone}, WallClocks.{Shows}, FilePieces.{HasCounts}},
+  tz_file.specs.FilePieces.{HasCounts},
+  tz_info.specs.{Around.{Skips}, PosixZones.{IsExtendedZone}, WallClocks.{Shows}},
   tz_info.specs.{Folds.{HasFold, Repeats, SkipsOrRepeats}, TzFiles.{IsTzFile}},
   tz_info.specs.Zones.{IsTypeRefused, IsValid, TypeAt, Zone},
   tz_write.specs.WrittenTexts.{IsWrittenText},
@@ -37,8 +38,9 @@ ghost use Rattle.{
   zoned_ffi.specs.WholeSeconds.{step_number, IsDayAt, IsFound, IsNoDayAt, IsStep},
   zoned_ffi.specs.WrittenChanges.{written_change, written_into, IsNoLocalChange},
   zoned_ffi.specs.WrittenTypes.{mark, no_type, written_type, zero_ended, zeros},
+  zoned_plans.specs.StepBounds.{AreStepBounds},
   zoned_ref.specs.Offsets.{AreOffsetsOf},
-  zoned_time.specs.{Days.{IsInDay}, StepBounds.{AreStepBounds}},
+  zoned_time.specs.Days.{IsInDay},
 };
 
 use crate::choice::{Choice, ChoiceInGap};

@@ -4,14 +4,16 @@ ghost use Rattle.std.specs.Prelude.{◌≡◌, ◌<◌, MatchOption, MatchResult
 ghost use Rattle.{
   naive_base.specs.Stamp.{of_secs},
   zoned_ffi.specs.WholeSeconds.{step_number, IsFound, IsFoundBy, IsNoneFoundBy, IsNotFound, IsStep},
+  zoned_plans.specs.Fires.{second_before},
   zoned_ref.specs.TimeZoneRef.{off_of},
-  zoned_time.specs.{DateTime.{zoned}, Fires.{second_before}},
+  zoned_time.specs.DateTime.{zoned},
 };
 
 use crate::refusal::{INSTANT_OUT_OF_RANGE, WIDE_ZONE};
 use naive_base::Weekday;
 use naive_plans::ClockStep;
 use tz_info::TimeZone;
+use zoned_plans::ZonePlans;
 use zoned_ref::TimeZoneRef;
 use zoned_time::{DateTime, Utc, ZoneDays};
 

@@ -18,7 +18,7 @@ use zoned_time::{DateTime, TimeZone};
 /// let change = new_york.next_change(&new_year)?; // from 2021-01-01 00:00:00 UTC on
 /// change.before; // 2021-03-14 01:59:59 -05:00
 /// change.at; // 2021-03-14 03:00:00 -04:00
-/// change.at.offset().name(); // EDT
+/// change.at.offset().name(); // Some("EDT")
 /// ```
 #[derive(Clone, Copy, Debug)]
 pub struct KeptChange {
@@ -35,8 +35,8 @@ impl KeptZone {
     ///
     /// ```
     /// let new_year = Utc.timestamp(1_609_459_200, 0); // 2021-01-01 00:00:00 UTC
-    /// let forward = new_york.next_change(&new_year)?; // at 2021-03-14 03:00:00 -04:00
-    /// let back = new_york.next_change(&forward.at)?; // at 2021-11-07 01:00:00 -05:00
+    /// let forward = new_york.next_change(&new_year)?.at; // 2021-03-14 03:00:00 -04:00
+    /// let back = new_york.next_change(&forward)?.at; // 2021-11-07 01:00:00 -05:00
     /// ```
     pub fn next_change<Tz: TimeZone>(&self, after: &DateTime<Tz>) -> Option<KeptChange>
         ensures change { IsFirst (TypeAt (zone_of self.now))

@@ -22,9 +22,9 @@ use tz_info::Error;
 /// Two are equal as borrowed zones are.
 ///
 /// ```
-/// let new_york = KeptZone::open(alloc, bytes)?; // New York's file
+/// let new_york = KeptZone::open(alloc, bytes)?; // the file of New York
 /// new_york.with_ymd_and_hms(2021, 3, 14, 2, 30, 0); // None: it lies in a gap
-/// new_york.with_ymd_and_hms(2021, 11, 7, 1, 30, 0); // Ambiguous: at -04:00, and an hour later at -05:00
+/// new_york.with_ymd_and_hms(2021, 11, 7, 1, 30, 0); // Ambiguous(2021-11-07 01:30:00 -04:00, 2021-11-07 01:30:00 -05:00)
 /// ```
 #[derive(Clone, Copy, Debug, PartialEq, Eq, Hash)]
 pub struct KeptZone {

@@ -21,13 +21,13 @@ use std::hash::{Hash, Hasher};
 /// captures an instant: write such closures in a function that is generic over the zone.
 ///
 /// ```
-/// let parsed = tz_info::TimeZone::from_tz_data(alloc, bytes)?; // New York's file
+/// let parsed = tz_info::TimeZone::from_tz_data(alloc, bytes)?; // the file of New York
 /// let new_york = TimeZoneRef::new(&parsed).ok_or(MyError::WideZone)?;
 /// let instant = new_york.timestamp(1_636_266_600, 0); // 2021-11-07 01:30:00 -05:00
-/// instant.offset().name(); // EST
+/// instant.offset().name(); // Some("EST")
 /// let kept = instant.fixed_offset(); // a DateTime<FixedOffset>
 /// new_york.with_ymd_and_hms(2021, 3, 14, 2, 30, 0); // None: it lies in a gap
-/// new_york.with_ymd_and_hms(2021, 11, 7, 1, 30, 0); // Ambiguous: at -04:00, and an hour later at -05:00
+/// new_york.with_ymd_and_hms(2021, 11, 7, 1, 30, 0); // Ambiguous(2021-11-07 01:30:00 -04:00, 2021-11-07 01:30:00 -05:00)
 /// ```
 #[derive(Clone, Copy)]
 pub struct TimeZoneRef<'a> {

@@ -5,8 +5,10 @@ ghost use Rattle.{
   naive_base.specs.NaiveDateTime.{reading},
   offset_core.specs.{FixedOffset.{seconds_of}, LocalResult.{map_of}, Offset.{IsWithinDay}},
   tz_base.specs.Errors.{error_number},
-  tz_info.specs.{Counts.{HasRoom}, FilePieces.{FilePieces, HasPieces}, PosixZones.{IsPosixFault, IsPosixZone}},
+  tz_file.specs.FilePieces.{FilePieces, HasPieces},
+  tz_info.specs.PosixZones.{IsPosixFault, IsPosixZone},
   tz_info.specs.{Looks.{RoseByWallClock}, TzFiles.{IsTzFile, IsZoneFault}, Zones.{IsValid, Zone}},
+  tz_search.specs.Counts.{HasRoom},
   zoned_ref.specs.Instants.{AreInstantsAt, AreInstantsFor, AreTypesFor},
   zoned_time.specs.{DateTime.{zoned}, Relocal.{instant_of, HasInstant}, Zone.{Each}, Zoned.{in_seconds}},
 };

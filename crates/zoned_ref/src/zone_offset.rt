@@ -21,7 +21,7 @@ use zoned_time::Offset;
 ///
 /// ```
 /// let fold = new_york.with_ymd_and_hms(2021, 11, 7, 1, 30, 0).earliest()?;
-/// fold.offset().name(); // EDT
+/// fold.offset().name(); // Some("EDT")
 /// fold.offset().is_dst(); // true
 /// ```
 #[derive(Clone, Copy)]

@@ -1,5 +1,5 @@
 -- A time of day on each day from a first one on, by the clocks of a zone, under a choice for gaps and folds.
-use Rattle.std.specs.Prelude.{◌≡◌, ℕ, ◌+◌, ◌-◌, ◌<◌, ◌≤◌, ℤ, pos, ◌+ℤ◌, ◌≤ℤ◌, Option, MatchOption, Result, MatchResult}
+use Rattle.std.specs.Prelude.{◌≡◌, ℕ, ◌+◌, ◌-◌, ◌<◌, ◌≤◌, ℤ, pos, ◌+ℤ◌, Option, MatchOption, Result, MatchResult}
 use Rattle.offset_core.specs.{declared.choice.Choice.{Choice}, declared.resolve_error.ResolveError.{ResolveError}}
 use Rattle.offset_core.specs.ResolveNumbers.{resolve_error_number as number_within}
 use Rattle.naive_base.specs.{Range.{IsDayInRange}, Reading.{Reading, reading_at}, NaiveDate.{day_of}, NaiveTime.{second_of, fraction_of}}
@@ -18,11 +18,6 @@ pub record Series (Z : Type 0) : Type 0 where
 -- that time on the day n days after the first
 abbrev pub reading_of : {Z : Type 0} → Series Z → ℕ → Reading
 reading_of s n = reading_at (s.first +ℤ pos n) s.second s.fraction
-
--- as a plan it has its second of each day from the first one on
-pub record IsPlannedOn {Z : Type 0} (s : Series Z) (day : ℤ) (second : ℕ) : Type 0 where
-  pub from : s.first ≤ℤ day
-  pub at : second ≡ s.second
 
 -- item n is that instant: the day is in range, and the choice takes the instant for the time on that day
 pub record IsItem {Z O : Type 0} {m : Meaning O} (law : Law m) (s : Series Z) (n : ℕ) (d : Zoned O) : Type 0 where

@@ -1,7 +1,7 @@
 //! Theorems: each function is empty, its contract is proved; never called.
-ghost use Rattle.std.specs.{Iterator.{at_most}, Prelude.{◌≡◌, ◌↔◌, ◌≤◌, ◌-◌, ◌+ℤ◌, pos, IsTrue, ℕ, ℤ}};
+ghost use Rattle.std.specs.{Iterator.{at_most}, Prelude.{◌≡◌, ◌↔◌, ◌≤◌, ◌-◌, IsTrue, ℕ}};
 ghost use Rattle.{
-  zoned_series.specs.{Series.{items_of, series_of}, Series.{IsItem, IsMissing, IsPlannedOn, Series}},
+  zoned_series.specs.{Series.{items_of, series_of}, Series.{IsItem, IsMissing, Series}},
   zoned_time.specs.Zoned.{in_seconds, Zoned},
 };
 
@@ -24,13 +24,6 @@ pub fn one_item<Tz: TimeZone>()
         → IsMissing (Tz.law zone) s n e → IsMissing (Tz.law zone) s n f → e ≡ f }
     ensures not_both { (zone : Tz) (s : Series Tz) (n : ℕ) (d : Zoned Tz.Offset) (e : SeriesError)
         → IsItem (Tz.law zone) s n d → IsMissing (Tz.law zone) s n e → ⊥ }
-{}
-
-/// As a plan a series has its time on the day of each of its items, and at no other second.
-pub fn plans<Tz: TimeZone>()
-    ensures items { (s : Series Tz) (n : ℕ) → IsPlannedOn s (s.first +ℤ pos n) s.second }
-    ensures no_others { (s : Series Tz) (day : ℤ) (second : ℕ) → IsPlannedOn s day second
-        → (n : ℕ) × (day ≡ s.first +ℤ pos n) × (second ≡ s.second) }
 {}
 
 /// A clone of a series is that series except for a clone of its zone, and so is one of its items. They

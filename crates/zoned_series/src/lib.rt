@@ -3,7 +3,6 @@
 
 mod items;
 pub mod laws;
-mod plan;
 mod series;
 mod series_error;
 

@@ -20,13 +20,30 @@ use zoned_time::{DateTime, TimeZone};
 ///
 /// Two days can have the same instant. Clocks in Apia skipped 2011-12-30: with
 /// `GapChoice::ShiftForward`, 12:00 on that day is 2011-12-31 12:00:00 +14:00, as it is on the next one.
-/// The series is a [`Plan`](naive_plans::Plan) too, and as a plan it fires at no instant twice.
+/// A plan of the same times, `DailyTime` of `naive_plans`, fires at no instant twice.
 #[derive(Clone, Copy)]
 pub struct DailySeries<Tz> {
     zone: Tz,
-    pub(crate) first: NaiveDate,
-    pub(crate) time: NaiveTime,
+    first: NaiveDate,
+    time: NaiveTime,
     choice: Choice,
+}
+
+impl<Tz> DailySeries<Tz> {
+    /// Returns the first day.
+    pub fn first(&self) -> NaiveDate
+        ensures { day_of result ≡ (series_of self.now).first }
+    {
+        self.first
+    }
+
+    /// Returns the local time, the same on each day.
+    pub fn time(&self) -> NaiveTime
+        ensures second { second_of result ≡ (series_of self.now).second }
+        ensures fraction { fraction_of result ≡ (series_of self.now).fraction }
+    {
+        self.time
+    }
 }
 
 impl<Tz: TimeZone> DailySeries<Tz> {

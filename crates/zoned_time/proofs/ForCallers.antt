@@ -9,3 +9,6 @@ pub use Rattle.zoned_time.proofs.Walls.{wall_by_seconds, gap_by_seconds}
 pub use Rattle.zoned_time.proofs.Walls.{constant_wall, constant_no_gap}
 pub use Rattle.zoned_time.proofs.Once.{resolved_once, not_resolved, one_taken, taken_once, unresolved_once}
 pub use Rattle.zoned_time.proofs.Stays.{stays}
+-- of days, and of the last local time that clocks have shown
+pub use Rattle.zoned_time.proofs.{Days.{first_whole, to_reached}, DayStarts.{StayWithinDay, one_first}}
+pub use Rattle.zoned_time.proofs.ReachedTimes.{adjoint, by_test, reached_near, still_to_come}

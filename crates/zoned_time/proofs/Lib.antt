@@ -4,11 +4,6 @@ pub mod Days
 pub mod DayStarts
 pub mod DayEnds
 pub mod ReachedTimes
-pub mod FireTimes
-pub mod RunMoves
-pub mod ShownFires
-pub mod LastShown
-pub mod StepTimes
 pub mod ForCallers
 pub mod Homes
 pub mod Instants

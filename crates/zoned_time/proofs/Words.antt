@@ -34,14 +34,8 @@ pub use Rattle.zoned_time.specs.DayEnds.{AreStartsOfDays, HasNoEnd, IsEndOfDay, 
 pub use Rattle.zoned_time.specs.Days.{AreEndsOfDay, AreInstantsOfDay, HasReached, IsFirstInstantFrom, IsFirstOutOfRange, IsFirstToReach, IsInDay, IsInstantFrom}
 pub use Rattle.zoned_time.specs.Days.{IsFirstSecondOutOfRange, IsNeverOnDay, IsNoDay, IsOnDay, IsZonedAtOrAfter, IsZonedFirst, midnight}
 pub use Rattle.zoned_time.specs.Relocal.{IsOnlyWhere}
-pub use Rattle.naive_plans.specs.Plans.{HasNoneAfter, HasNoneUntil, IsLastUntil, IsNextAfter}
-pub use Rattle.zoned_time.specs.Fires.{AreFires, IsFire, IsLastFire, IsNextFire, IsZonedLastFire, IsZonedNextFire, NoneFiresAfter, NoneFiresUntil, RiseFrom}
 pub use Rattle.zoned_time.specs.Zone.{IsReachedAt}
 pub use Rattle.zoned_time.specs.Steps.Passed.{HasPassed}
-pub use Rattle.zoned_time.specs.Nearest.{AreAllOf, IsZonedLastOf, IsZonedNextOf, NoneAfter, NoneBetween, NoneUntil}
-pub use Rattle.zoned_time.specs.Policies.{IsFireBy, IsShownFire}
-pub use Rattle.zoned_time.specs.Steps.Shown.{AreAllQuiet, AreAllQuietUntil, AreQuiet, AreQuietUntil, IsEither, IsFirstPlannedIn, IsFirstShown}
-pub use Rattle.zoned_time.specs.Steps.Shown.{IsLastPlannedIn, IsPast, IsPastUntil, NonePlannedIn, NoneUntilPlannedIn}
 pub use Rattle.zoned_time.specs.Zone.{IsOffsetStretch}
 pub use Rattle.zoned_time.specs.Relocal.{AreInstantsOf, HasInstant, IsRelocal, SingleIff, instant_of}
 pub use Rattle.zoned_time.specs.Stamps.{in_utc}

@@ -2,13 +2,8 @@ pub mod Choice
 pub mod DateTime
 pub mod Days
 pub mod DayEnds
-pub mod Fires
-pub mod Moves
-pub mod Nearest
-pub mod Policies
 pub mod Relocal
 pub mod Stamps
-pub mod StepBounds
 pub mod Steps
 pub mod Years
 pub mod Zone

@@ -1,8 +1,6 @@
 //! Theorems: functions that only have a contract, and are never called.
 
 pub mod days;
-pub mod fires;
-pub mod steps;
 
 ghost use Rattle.std.specs.{Int.{w64}, Prelude.{◌≡◌, ◌↔◌, ◌⊎◌, ◌++◌, [], FitsSigned, IsTrue, Option, SomeIff, ℕ, ℤ}};
 ghost use Rattle.{

@@ -2,15 +2,11 @@
 #![tactic(auto)]
 
 mod datetime;
-mod fires;
 mod fixed;
 mod fixed_days;
-mod last_fires;
 pub mod laws;
-mod moves;
 mod naive_zoned;
 mod offset;
-mod policies;
 mod reached;
 mod resolve;
 mod time_zone;
@@ -18,12 +14,9 @@ mod utc;
 mod zone_days;
 
 pub use datetime::{AsInstant, DateTime, Instant, MAX_DATETIME, MIN_DATETIME};
-pub use fires::Fires;
-pub use moves::{Move, Moves, moved};
 pub use naive_zoned::NaiveZoned;
 pub use offset::Offset;
 pub use offset_core::{Around, ResolveError, Taken};
-pub use policies::{FirePolicy, FoldFires, GapFires};
 pub use time_zone::TimeZone;
 pub use utc::Utc;
-pub use zone_days::{OffsetStretch, ShownDay, StepBounds, ZoneDays};
+pub use zone_days::{OffsetStretch, ShownDay, ZoneDays};

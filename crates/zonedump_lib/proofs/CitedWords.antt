@@ -9,7 +9,7 @@ pub use Rattle.tz_base.specs.{LocalTypes.{LocalType}, declared.change.Change.{Ch
 pub use Rattle.tz_info.proofs.Words.{All, AreChanges, Contains-get_or, FitsSigned, List, SFits, TypeAt, Zone, append-nil, append_assoc, arith, floors, ints, []}
 pub use Rattle.tz_info.proofs.Words.{pos, refl, rules, to_z-of_z, w128, w32, w64, ℕ, ℤ, ◌++◌, ◌+ℤ◌, ◌∙◌, ◌≡◌, ◌≤◌}
 pub use Rattle.tz_info.specs.declared.{rule.transition_rule.TransitionRule.{TransitionRule}, zone.ask.differences.Difference.{Difference}}
-pub use Rattle.tz_info.specs.declared.zone.lists.leap_second.LeapSecond.{LeapSecond}
+pub use Rattle.tz_base.specs.declared.leap_second.LeapSecond.{LeapSecond}
 pub use Rattle.zonedump_lib.specs.{ChangeLines.{change_lines, change_text, ended_line}, ChangeValues.{change_value, name_value, type_value}}
 pub use Rattle.zonedump_lib.specs.{DifferenceForms.{difference_lines, difference_value, differences_value, lone_value}, JsonSteps.{Puts}}
 pub use Rattle.zonedump_lib.specs.{JsonValues.{leap_value, rule_value, zone_value}, Periods.{IsPeriod, bound_value, first_second, second_after}}

@@ -2,7 +2,8 @@
 use Rattle.std.specs.{Prelude.{◌≡◌, ℕ, List, [], ◌∷◌, length, Option, Some, None, codes, decimal}, Fmt.{signed_decimal}}
 use Rattle.json.specs.{Json.{Json, null, number, string, document}, Print.{print}, Tree.{json_tokens}}
 use Rattle.tz_info.specs.{Changes.{AreChanges}, Zones.{Zone, TypeAt}, declared.rule.day.{DayForm.{DayForm}, DayTime.{DayTime}}}
-use Rattle.tz_info.specs.declared.{rule.transition_rule.TransitionRule.{TransitionRule}, zone.lists.leap_second.LeapSecond.{LeapSecond}}
+use Rattle.tz_info.specs.declared.rule.transition_rule.TransitionRule.{TransitionRule}
+use Rattle.tz_base.specs.declared.leap_second.LeapSecond.{LeapSecond}
 use Rattle.tz_base.specs.declared.change.Change.{Change}
 use Rattle.zonedump_lib.specs.{ChangeValues.{change_value, fields, list_value, type_value}, Periods.{bound_value, first_second, second_after}}
 use Rattle.zonedump_lib.specs.declared.period.Bound.{Bound}

@@ -1,6 +1,7 @@
 -- The table of a zone in a period: a head, and a line for each change of its clocks.
 use Rattle.std.specs.{Prelude.{◌≡◌, ℕ, List, ◌++◌, codes, decimal, length}, Fmt.{signed_decimal}, List.{flat_map}}
-use Rattle.tz_info.specs.{Changes.{AreChanges}, Zones.{Zone, TypeAt}, declared.zone.lists.leap_second.LeapSecond.{LeapSecond}}
+use Rattle.tz_info.specs.{Changes.{AreChanges}, Zones.{Zone, TypeAt}}
+use Rattle.tz_base.specs.declared.leap_second.LeapSecond.{LeapSecond}
 use Rattle.tz_base.specs.declared.change.Change.{Change}
 use Rattle.zonedump_lib.specs.{ChangeLines.{change_lines, ended_line}, Periods.{bound_words, first_second, second_after}, RuleWords.{rule_words}}
 use Rattle.zonedump_lib.specs.declared.period.Bound.{Bound}

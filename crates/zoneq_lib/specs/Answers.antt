@@ -4,7 +4,8 @@ use Rattle.offset_core.specs.{Offset.{offset_text}, WallAnswer.{IsWallAnswer}, d
 use Rattle.offset_core.specs.{ResolveNumbers.{resolve_error_number as resolve_number}, declared.resolve_error.ResolveError.{ResolveError}}
 use Rattle.naive_base.specs.{Reading.{Reading, ahead}, Text.{reading_text}, Stamp.{IsStamp, of_secs}}
 use Rattle.tz_base.specs.{Errors.{error_number, IsOutOfMemory}, LocalTypes.{LocalType}, declared.error.Error.{Error}}
-use Rattle.tz_info.specs.{FilePieces.{FilePieces, HasPieces}, PosixZones.{IsPosixZone, IsPosixFault}, TzFiles.{IsTzFile, IsFileFault}, WallClocks.{Shows}}
+use Rattle.tz_file.specs.FilePieces.{FilePieces, HasPieces}
+use Rattle.tz_info.specs.{PosixZones.{IsPosixZone, IsPosixFault}, TzFiles.{IsTzFile, IsFileFault}, WallClocks.{Shows}}
 use Rattle.tz_info.specs.{Zones.{Zone, IsValid, TypeAt, IsTypeRefused}, declared.rule.transition_rule.TransitionRule.{TransitionRule}}
 use Rattle.zoned_time.specs.{Choice.{IsResolved, IsUnresolved}, Zone.{Meaning, Law, meaning_by_seconds, law_by_seconds}, Zoned.{Zoned}}
 use Rattle.zoned_ref.specs.Offsets.{IsNarrow, AreOffsetsOf}

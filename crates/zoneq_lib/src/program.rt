@@ -18,8 +18,8 @@ use std::io::Write;
 ///
 /// ```
 /// let mut errors = Watched::new(Vec::new(alloc));
-/// report(Err(RunError::Read), &mut errors);
-/// // gives 1, and writes "zoneq: read failed\n"
+/// let status = report(Err(RunError::Read), &mut errors); // 1
+/// let written = errors.into_inner(); // "zoneq: read failed\n"
 /// ```
 pub fn report<E: Write>(ended: Result<(), RunError>, errors: &mut Watched<E>) -> u8
     requires { errors.old.failed ≡ false }

@@ -34,7 +34,7 @@ const BLOCK: usize = 16384;
 /// let mut reader = Watched::new(b"text UTC0\nat 0\n".as_slice());
 /// let mut writer = Watched::new(Vec::new(alloc));
 /// run(alloc, &mut reader, &mut writer)?;
-/// // writes "ok 0 1 0 fixed\n0 std UTC\n"
+/// let written = writer.into_inner(); // "ok 0 1 0 fixed\n0 std UTC\n"
 /// ```
 pub fn run<R: Read, W: Write>(
     alloc: Global,

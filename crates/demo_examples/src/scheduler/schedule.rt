@@ -7,7 +7,8 @@ ghost use Rattle.{
 
 use crate::scheduler::RunDays;
 use zoned::{
-    DateTime, DayPlan, NaiveDate, NaiveDateTime, NaiveTime, Plan, ZoneDays, next_local_time,
+    DateTime, DayPlan, NaiveDate, NaiveDateTime, NaiveTime, Plan, ZoneDays, ZonePlans,
+    next_local_time,
 };
 
 /// Times of day, in any order, on some days. Fractions of a second are ignored.
@@ -23,7 +24,7 @@ impl Schedule {
     ///
     /// ```
     /// let schedule = Schedule { days: RunDays::Workdays, times }; // at 09:00 and 17:30
-    /// let next = schedule.next_fire(&new_york, &friday_evening); // 2021-11-08 09:00:00 -05:00
+    /// let next = schedule.next_fire(&new_york, &friday_evening); // Some(2021-11-08 09:00:00 -05:00)
     /// ```
     pub fn next_fire<Tz: ZoneDays>(&self, zone: &Tz, after: &DateTime<Tz>) -> Option<DateTime<Tz>>
         ensures { let law = Tz.law zone.now in let now = (zoned after.now).utc.s in

@@ -11,9 +11,8 @@ impl NaiveDateDaysIterator {
     /// day in range doesn't come.
     ///
     /// ```
-    /// for date in last.iter_days().rev().take(7) {
-    ///     days.push(date)?; // 2022-04-23, 2022-04-22, .. 2022-04-17
-    /// }
+    /// let mut days = last.iter_days().rev();
+    /// let two = (days.next(), days.next()); // (Some(2022-04-23), Some(2022-04-22))
     /// ```
     pub fn rev(self) -> NaiveDateDaysBack
         ensures { runs.days_back_from result ≡ runs.days_from self }

@@ -59,7 +59,8 @@ impl NaiveDate {
     ///
     /// ```
     /// let first = NaiveDate::from_ymd_opt(2024, 1, 1)?;
-    /// let days = first.abs_diff(NaiveDate::from_ymd_opt(2025, 1, 1)?); // 366 days
+    /// let days = NaiveDate::from_ymd_opt(2025, 1, 1)?.abs_diff(first);
+    /// let is_leap_year = days == Days::new(366); // true
     /// ```
     pub fn abs_diff(self, rhs: NaiveDate) -> Days
         ensures { days_of result ≡ unsigned_abs (day_of self -ℤ day_of rhs) }
@@ -93,9 +94,8 @@ impl NaiveDate {
     /// doesn't come.
     ///
     /// ```
-    /// for date in first.iter_days().take(7) {
-    ///     days.push(date)?; // 2022-04-17, 2022-04-18, .. 2022-04-23
-    /// }
+    /// let mut days = first.iter_days();
+    /// let two = (days.next(), days.next()); // (Some(2022-04-17), Some(2022-04-18))
     /// ```
     pub fn iter_days(&self) -> NaiveDateDaysIterator
         ensures { days_from result ≡ day_of self.now }
@@ -107,9 +107,8 @@ impl NaiveDate {
     /// week later is in range.
     ///
     /// ```
-    /// for date in first.iter_weeks().take(3) {
-    ///     days.push(date)?; // 2022-04-17, 2022-04-24, 2022-05-01
-    /// }
+    /// let mut days = first.iter_weeks();
+    /// let two = (days.next(), days.next()); // (Some(2022-04-17), Some(2022-04-24))
     /// ```
     pub fn iter_weeks(&self) -> NaiveDateWeeksIterator
         ensures { weeks_from result ≡ day_of self.now }

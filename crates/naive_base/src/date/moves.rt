@@ -1,6 +1,7 @@
 //! Dates moved by months and by days.
 ghost use Rattle.std.specs.Prelude.{◌≡◌, ◌≤◌, int_div, neg_ℤ, option_map, pos, SomeIff};
 ghost use Rattle.{
+  gregorian.specs.DateOf.{month_of, year_of},
   naive_base.specs.Fields.{month_after, IsDaysLater, IsMonthsLater, MayShowDay},
   naive_base.specs.Months.{days_of, month_number, month_of_number, months_of, year_of_number},
   naive_base.specs.{NaiveDate.{day_of, IsDateOn}, Range.{IsWideYear}, Steps.Moves.{IsInMonth, IsWithin}},
@@ -131,7 +132,7 @@ impl NaiveDate {
     }
 
     // The year and the month that many months later.
-    fn month_after(self, by: i64) -> (i32, u32)
+    pub(crate) fn month_after(self, by: i64) -> (i32, u32)
         requires { IsWithin 4_294_967_296 by }
         ensures year { result.0 ≡ year_of_number (month_after (day_of self) by) }
         ensures month { result.1 ≡ month_of_number (month_after (day_of self) by) }
@@ -145,8 +146,16 @@ impl NaiveDate {
         ensures value { result ≡ month_after (day_of self) by }
         ensures bound { IsWithin 5_000_000_000 result }
     {
+        self.month_number() + by
+    }
+
+    // The number of the month that it lies in.
+    pub(crate) fn month_number(self) -> i64
+        ensures value { result ≡ month_number (year_of (day_of self)) (month_of (day_of self)) }
+        ensures bound { IsWithin 4_000_000 result }
+    {
         let date = self.year_month_day();
-        number_of_month(date.year, date.month) + by
+        number_of_month(date.year, date.month)
     }
 
     // In that month on the same day, or on its last.

@@ -14,9 +14,9 @@ use std::ops::{Add, AddAssign, Sub, SubAssign};
 /// [`NaiveDate::checked_add_signed`], which must return a date.
 ///
 /// ```
-/// let later = first + TimeDelta::days(45); // 45 days later
-/// let same = first + Days::new(45);
-/// let length = later - first; // a TimeDelta of 45 days
+/// let later = first + TimeDelta::days(45); // 2022-06-01
+/// let same = first + Days::new(45); // 2022-06-01
+/// let length = later - first; // 45 days
 /// ```
 impl Add<TimeDelta> for NaiveDate {
     type Output = NaiveDate;

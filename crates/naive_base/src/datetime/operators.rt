@@ -15,9 +15,9 @@ use std::ops::{Add, AddAssign, Sub, SubAssign};
 /// [`NaiveDateTime::checked_add_signed`], which must return a value.
 ///
 /// ```
-/// let later = start + TimeDelta::minutes(90); // an hour and a half later
+/// let later = start + TimeDelta::minutes(90); // 2022-01-01 00:30:00
 /// let length = later - start; // 90 minutes
-/// let tomorrow = start + Days::new(1); // the same time on the next day
+/// let tomorrow = start + Days::new(1); // 2022-01-01 23:00:00
 /// ```
 impl Add<TimeDelta> for NaiveDateTime {
     type Output = NaiveDateTime;
@@ -71,7 +71,7 @@ impl SubAssign<TimeDelta> for NaiveDateTime {
 /// [`NaiveDateTime::checked_add_offset`], which must return a value.
 ///
 /// ```
-/// let local = utc + FixedOffset::east(3600); // an hour ahead of UTC
+/// let local = utc + FixedOffset::east(3600); // 2021-03-14 01:00:00
 /// ```
 impl Add<FixedOffset> for NaiveDateTime {
     type Output = NaiveDateTime;

@@ -12,9 +12,3 @@ pub record IsFirstAfter (set : ℤ → Type 0) (s l : ℤ) : Type 0 where
   pub one : set l
   pub after : s <ℤ l
   pub least : (m : ℤ) → set m → s <ℤ m → l ≤ℤ m
-
-abbrev pub HasNoneUpTo : (ℤ → Type 0) → ℤ → Type 0
-HasNoneUpTo set s = (m : ℤ) → set m → m ≤ℤ s → ⊥
-
-abbrev pub HasNoneLeft : (ℤ → Type 0) → ℤ → Type 0
-HasNoneLeft set s = (m : ℤ) → set m → s <ℤ m → ⊥

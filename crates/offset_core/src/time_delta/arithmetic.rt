@@ -41,7 +41,7 @@ impl TimeDelta {
     ///
     /// ```
     /// let day = TimeDelta::hours(9).saturating_add(TimeDelta::hours(15)); // 24 hours
-    /// let longest = TimeDelta::MAX.saturating_add(day); // TimeDelta::MAX
+    /// let is_longest = TimeDelta::MAX.saturating_add(day) == TimeDelta::MAX; // true
     /// ```
     pub fn saturating_add(self, other: TimeDelta) -> TimeDelta
         ensures { nanos_of result ≡ nearest_length (nanos_of self +ℤ nanos_of other) }
@@ -84,7 +84,7 @@ impl TimeDelta {
     /// Returns this length times a number, or `None` if that is out of range.
     ///
     /// ```
-    /// let back = TimeDelta::minutes(90).checked_mul(-2); // three hours, negative
+    /// let back = TimeDelta::minutes(90).checked_mul(-2)?; // -3 hours
     /// let none = TimeDelta::MAX.checked_mul(2); // None
     /// ```
     pub fn checked_mul(&self, rhs: i32) -> Option<TimeDelta>
@@ -97,7 +97,7 @@ impl TimeDelta {
     /// number 0.
     ///
     /// ```
-    /// let third = TimeDelta::seconds(-4).checked_div(3); // -1_333_333_333 nanoseconds
+    /// let third = TimeDelta::seconds(-4).checked_div(3)?; // -1_333_333_333 nanoseconds
     /// let none = TimeDelta::seconds(-4).checked_div(0); // None
     /// ```
     pub fn checked_div(&self, rhs: i32) -> Option<TimeDelta>

@@ -10,7 +10,7 @@ use std::ops::{Add, AddAssign, Div, Mul, Neg, Sub, SubAssign};
 ///
 /// ```
 /// let both = TimeDelta::hours(1) + TimeDelta::minutes(30); // 90 minutes
-/// let two_hours = TimeDelta::hours(1) * 3 - TimeDelta::hours(1);
+/// let two_hours = TimeDelta::hours(1) * 3 - TimeDelta::hours(1); // 2 hours
 /// let third = -TimeDelta::seconds(4) / 3; // -1_333_333_333 nanoseconds
 /// ```
 impl Add for TimeDelta {

@@ -31,7 +31,7 @@ impl TimeDelta {
     /// Returns the sum of lengths, added one by one, or `None` if a sum on the way is out of range.
     ///
     /// ```
-    /// let total = TimeDelta::checked_sum(lengths.iter().copied())?;
+    /// let total = TimeDelta::checked_sum(lengths.iter().copied())?; // 39 hours
     /// ```
     pub fn checked_sum<I: Iterator<Item = TimeDelta>>(iter: I) -> Option<TimeDelta>
         requires can { I.can_next iter }

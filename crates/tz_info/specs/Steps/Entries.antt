@@ -12,10 +12,11 @@ use Rattle.tz_info.specs.{
   Steps.{Segments.{begin_of, index_of}, Starts.{leap_time_at}},
   Transitions.{AreRising, NameTypes, passed},
   Zones.{Zone, IsFromLast, index_at},
-  Looks.{digits},
   declared.zone.made.change_table.{Between.{Between}, Come.{Come}},
-  declared.zone.lists.{leap_second.LeapSecond.{LeapSecond}, table.Entry.{Entry}, transition.Transition.{Transition}},
+  declared.zone.lists.table.Entry.{Entry},
 }
+use Rattle.tz_search.specs.Digits.{digits}
+use Rattle.tz_base.specs.declared.{leap_second.LeapSecond.{LeapSecond}, transition.Transition.{Transition}}
 
 -- a list of entries, how many of them have come once all transitions have, and the transitions as listed
 pub record Entries : Type 0 where

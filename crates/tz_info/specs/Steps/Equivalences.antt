@@ -2,7 +2,7 @@
 use Rattle.std.{specs.{Prelude.{Bool}, Cmp.{IsEquivalence, Lexicographic.{options_equiv}}}, proofs.lemmas.Cmp.{on_equiv, and_equiv, lists_equiv}}
 use Rattle.tz_base.specs.LocalTypes.{LocalType}
 use Rattle.tz_info.specs.{ZoneEquality.{alternate_eq, zone_eq}, declared.rule.{day.DayTime.{DayTime}, transition_rule.TransitionRule.{TransitionRule}}}
-use Rattle.tz_info.specs.declared.zone.lists.{leap_second.LeapSecond.{LeapSecond}, transition.Transition.{Transition}}
+use Rattle.tz_base.specs.declared.{leap_second.LeapSecond.{LeapSecond}, transition.Transition.{Transition}}
 
 pub alternate_eq_equiv : {T : LocalType → LocalType → Bool} {D : DayTime → DayTime → Bool} → IsEquivalence T → IsEquivalence D
     → IsEquivalence (alternate_eq T D)

@@ -12,8 +12,9 @@ use Rattle.tz_info.specs.{
   Zones.{Zone},
   declared.zone.made.{segments.{Segment.{Segment}, ZoneLists.{ZoneLists}}, pieces.Piece.{Piece}},
   declared.zone.made.shown.Shown.{Shown, TheVariants.{Skipped, Once, Several}},
-  declared.{rule.transition_rule.TransitionRule.{TransitionRule}, zone.lists.{leap_second.LeapSecond.{LeapSecond}, transition.Transition.{Transition}}},
+  declared.rule.transition_rule.TransitionRule.{TransitionRule},
 }
+use Rattle.tz_base.specs.declared.{leap_second.LeapSecond.{LeapSecond}, transition.Transition.{Transition}}
 
 -- the zone of those lists
 abbrev pub zone_of : List Transition → List LocalType → List LeapSecond → Option TransitionRule → Zone

@@ -4,7 +4,8 @@ use Rattle.std.specs.{
   Int.{saturate_signed, w64},
 }
 use Rattle.tz_base.specs.LocalTypes.{IsUtOffset, LocalType}
-use Rattle.tz_info.specs.{Steps.Segments.{begin_of, index_of}, declared.zone.lists.transition.Transition.{Transition}}
+use Rattle.tz_info.specs.Steps.Segments.{begin_of, index_of}
+use Rattle.tz_base.specs.declared.transition.Transition.{Transition}
 
 abbrev pub offset_of : Option LocalType → ℤ
 offset_of (Some t) = t.offset

@@ -5,8 +5,9 @@ use Rattle.tz_info.specs.{
   Lists.{last_else},
   Transitions.{passed},
   Zones.{Zone},
-  declared.{rule.transition_rule.TransitionRule.{TransitionRule}, zone.lists.transition.Transition.{Transition}},
+  declared.rule.transition_rule.TransitionRule.{TransitionRule},
 }
+use Rattle.tz_base.specs.declared.transition.Transition.{Transition}
 
 -- the segment of the second u: how many transitions have come by then
 unfoldable pub segment_of : Zone → ℤ → ℕ

@@ -4,10 +4,10 @@ use Rattle.std.specs.{Prelude.{ℕ, ℤ, ◌≡◌, ◌+◌, Bool, false, List, 
 use Rattle.tz_base.specs.{Fronts.{◌>>=◌}, Grammar.{read}, declared.{error.Error.{Error}, parse_error.ParseError.{ParseError}}}
 use Rattle.tz_info.specs.{
   Rules.{IsWithinWeek},
-  Trims.{trimmed},
   TzGrammar.{text, text_fault_position},
   declared.rule.{day.{DayForm.{DayForm}, DayTime.{DayTime}}, reader.text.Spelled.{Spelled}, transition_rule.TransitionRule.{TransitionRule}},
 }
+use Rattle.tz_base.specs.Trims.{trimmed}
 use Rattle.tz_info.specs.declared.rule.reader.text.Spelled.TheVariants as spelled
 use Rattle.tz_info.specs.declared.rule.transition_rule.TransitionRule.TheVariants as rules
 

@@ -1,10 +1,7 @@
 -- From which second on a transition has come, and which seconds have a leap time.
 use Rattle.std.specs.Prelude.{ℕ, ℤ, pos, ◌<◌, ◌≤◌, ◌+ℤ◌, ◌≤ℤ◌, ◌<ℤ◌, List, length, slice_index_or}
-use Rattle.tz_info.specs.{
-  Leaps.{IsLeapTime, IsLeapTimeRefused, correction_at, least_time},
-  Zones.{Zone},
-  declared.zone.lists.leap_second.LeapSecond.{LeapSecond},
-}
+use Rattle.tz_info.specs.{Leaps.{IsLeapTime, IsLeapTimeRefused, correction_at, least_time}, Zones.{Zone}}
+use Rattle.tz_base.specs.declared.leap_second.LeapSecond.{LeapSecond}
 
 -- the leap time of the second u, if it has one
 abbrev pub leap_time_at : Zone → ℤ → ℤ

@@ -15,9 +15,9 @@ use Rattle.tz_info.specs.{
   WallClocks.{Shows},
   Zones.{Zone, HasType, TypeAt},
   declared.rule.transition_rule.TransitionRule.{TransitionRule},
-  declared.zone.lists.{leap_second.LeapSecond.{LeapSecond}, transition.Transition.{Transition}},
   declared.zone.made.{pieces.Piece.{Piece}, shown.Shown.{Shown, TheVariants.{Less, Skipped, Once, Several}}},
 }
+use Rattle.tz_base.specs.declared.{leap_second.LeapSecond.{LeapSecond}, transition.Transition.{Transition}}
 
 -- the starts of the pieces don't fall
 abbrev pub AreInOrder : List Piece → Type 0

@@ -1,20 +1,11 @@
 //! How many entries the lists of a file have.
 
 ghost use Rattle.std.specs.Prelude.{◌≡◌, ◌↔◌};
-ghost use Rattle.tz_info.specs.FilePieces.{HasCounts};
+ghost use Rattle.tz_file.specs.FilePieces.{HasCounts};
 
-use crate::file::pieces::read_pieces;
 use crate::zone::TimeZone;
 use tz_base::Cursor;
-
-/// How many transitions and leap seconds a TZif file has. From [`TimeZone::file_counts`].
-#[derive(Clone, Copy, Debug, PartialEq, Eq)]
-pub struct FileCounts {
-    /// The transitions.
-    pub transitions: u32,
-    /// The leap seconds.
-    pub leap_seconds: u32,
-}
+use tz_file::{FileCounts, read_pieces};
 
 impl TimeZone {
     /// Returns how many transitions and leap seconds a TZif file has in the data block that
@@ -24,7 +15,7 @@ impl TimeZone {
     ///
     /// ```
     /// let counts = TimeZone::file_counts(&bytes)?;    // of /usr/share/zoneinfo/Europe/Paris
-    /// let few = counts.transitions <= 2_000 && counts.leap_seconds <= 100;
+    /// let few = counts.transitions <= 2_000 && counts.leap_seconds <= 100; // true
     /// ```
     pub fn file_counts(bytes: &[u8]) -> Option<FileCounts>
         ensures { (c : FileCounts) → (result ≡ Some c) ↔ HasCounts bytes.now c }

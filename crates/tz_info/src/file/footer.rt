@@ -6,15 +6,12 @@ ghost use Rattle.{
   tz_info.specs.{Footers.{footer, footer_text, optional_footer, utf8}, Steps.Spelled.{rule_of, IsSpelled}},
 };
 
-use crate::file::contents::byte_or_zero;
-use crate::file::header::after;
-use crate::file::pieces::Pieces;
-use crate::file::place::fault_inside;
-use crate::file::types::read_to_zero;
 use crate::rule::reader::text::{Spelled, read_text};
-use crate::trims::{after_space, trimmed};
 use std::str;
+use tz_base::place::{after, fault_inside};
+use tz_base::trims::{after_space, trimmed};
 use tz_base::{Cursor, Error, Expected};
+use tz_file::{Pieces, byte_or_zero, read_to_zero};
 
 /// What the footer spells, if it has a rule.
 #[tactic(auto, unfolding(crate::specs::Footers::optional_footer))]
@@ -68,7 +65,7 @@ fn read_footer(extended: bool, cursor: &mut Cursor<'_>) -> Result<Option<Spelled
     }
 }
 
-#[tactic(auto, using(crate::proofs::FilePieceLaws::utf8_tests), unfolding(crate::specs::Footers::utf8))]
+#[tactic(auto, using(crate::proofs::TzFileLaws::utf8_tests), unfolding(crate::specs::Footers::utf8))]
 fn check_utf8(cursor: &mut Cursor<'_>) -> Result<(), Error>
     ensures { IsRead utf8 cursor.old (λ unit. unit) result cursor.new }
 {

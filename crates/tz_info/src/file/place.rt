@@ -1,70 +1,82 @@
-//! The bytes of a file from a fault on.
+//! Where lists that make no zone are at fault.
 
-ghost use Rattle.std.specs.Prelude.{◌≡◌, ◌-◌, drop, length, option_map};
+ghost use Rattle.std.specs.Prelude.{◌≡◌, ◌↔◌, ◌<◌, IsTrue};
 ghost use Rattle.{
-  tz_info.specs.FilePieces.{footer_bytes},
-  tz_info.specs.Steps.FileLists.{pieces_of, AreFromParts, EndFile},
+  tz_file.specs.{FileContents.{leap_at, time_at}, FileLists.{pieces_of, EndFile, HasLengths}},
+  tz_info.specs.FilePlaces.{IsListPlace, IsNotLater, IsOtherIndex, IsOtherLeap},
+  tz_info.specs.Steps.FileLists.{Finds},
 };
 
-pub mod lists;
+use crate::zone::lists::valid::{is_first, is_next};
+use tz_base::place::after;
+use tz_base::trims::after_space;
+use tz_file::{Pieces, footer_bytes, from_parts, leap_at, time_at};
 
-use crate::file::header::after;
-use crate::file::pieces::Pieces;
-use tz_base::Cursor;
-
-/// The bytes of a file from the parts of the last data block on.
-#[derive(Clone, Copy)]
-pub struct FromParts<'a> {
-    pub times: &'a [u8],
-    pub type_indexes: &'a [u8],
-    pub types: &'a [u8],
-    pub leap_seconds: &'a [u8],
-    pub ut_local: &'a [u8],
-}
-
-/// Returns them. The parts follow one another, and the footer ends the file.
-pub fn from_parts<'a>(bytes: &'a [u8], pieces: &Pieces<'_>) -> FromParts<'a>
+/// Returns the bytes from the first fault of the lists on that the pieces say: from a type index, a
+/// time, a leap second, or else the footer's text.
+pub fn from_fault_of_lists<'a>(bytes: &'a [u8], pieces: &Pieces<'a>) -> &'a [u8]
     requires { EndFile bytes.now (pieces_of pieces.now) }
-    ensures { AreFromParts (pieces_of pieces.now) result }
+    ensures { IsListPlace (pieces_of pieces.now) result.now }
 {
-    let block = pieces.block;
-    let footer = bytes.len() - footer_bytes(pieces.footer).len();
-    let leap_seconds = footer
-        - block.ut_local.len()
-        - block.standard_wall.len()
-        - block.leap_seconds.len();
-    let type_indexes = leap_seconds
-        - block.designations.len()
-        - block.types.len()
-        - block.type_indexes.len();
-    let times = after(bytes, type_indexes - block.times.len());
-    let type_indexes = after(times, block.times.len());
-    let types = after(type_indexes, block.type_indexes.len());
-    let designations = after(types, block.types.len());
-    let leap_seconds = after(designations, block.designations.len());
-    let standard_wall = after(leap_seconds, block.leap_seconds.len());
-    FromParts {
-        times,
-        type_indexes,
-        types,
-        leap_seconds,
-        ut_local: after(standard_wall, block.standard_wall.len()),
+    let from = from_parts(bytes, pieces);
+    if let Some(k) = first_other_index(pieces) {
+        return after(from.type_indexes, k);
     }
+    if let Some(k) = first_not_later(pieces) {
+        return after(from.times, k * pieces.time_size);
+    }
+    if let Some(k) = first_other_leap(pieces) {
+        return after(from.leap_seconds, k * (pieces.time_size + 4));
+    }
+    after_space(footer_bytes(pieces.footer))
 }
 
-/// Returns the footer, or no bytes if there is none.
-pub fn footer_bytes(footer: Option<&[u8]>) -> &[u8]
-    ensures { result.now ≡ footer_bytes (option_map (λ f. f.now) footer.entry) }
+fn first_other_index(pieces: &Pieces<'_>) -> Option<usize>
+    requires { HasLengths (pieces_of pieces.now) }
+    ensures { Finds (IsOtherIndex (pieces_of pieces.now)) pieces.now.counts.transitions result }
 {
-    match footer {
-        Some(bytes) => bytes,
-        None => &[],
+    let indexes = pieces.block.type_indexes;
+    for k in 0..indexes.len() {
+        if indexes[k] as u32 >= pieces.counts.types {
+            return Some(k);
+        }
     }
+    None
 }
 
-/// Returns the cursor that comes as many bytes after the start of `from` as the other one does in the part.
-pub fn fault_inside<'a>(part: &[u8], inside: &Cursor<'_>, from: &'a [u8]) -> Cursor<'a>
-    ensures { result ≡ drop (length part.now - length inside.now) from.now }
+fn first_not_later(pieces: &Pieces<'_>) -> Option<usize>
+    requires { HasLengths (pieces_of pieces.now) }
+    ensures { Finds (IsNotLater (pieces_of pieces.now)) pieces.now.counts.transitions result }
 {
-    Cursor::new(after(from, part.len().saturating_sub(inside.remaining().len())))
+    for k in 1..pieces.counts.transitions as usize {
+        if time_at(pieces, k) <= time_at(pieces, k - 1) {
+            return Some(k);
+        }
+    }
+    None
+}
+
+fn first_other_leap(pieces: &Pieces<'_>) -> Option<usize>
+    requires { HasLengths (pieces_of pieces.now) }
+    ensures { Finds (IsOtherLeap (pieces_of pieces.now)) pieces.now.counts.leap_seconds result }
+{
+    for k in 0..pieces.counts.leap_seconds as usize {
+        if is_other_leap(pieces, k) {
+            return Some(k);
+        }
+    }
+    None
+}
+
+// Whether the leap second may not be the first, or may not follow the one before it.
+fn is_other_leap(pieces: &Pieces<'_>, k: usize) -> bool
+    requires lengths { HasLengths (pieces_of pieces.now) }
+    requires place { k < pieces.now.counts.leap_seconds }
+    ensures { IsTrue result ↔ IsOtherLeap (pieces_of pieces.now) k }
+{
+    let here = leap_at(pieces, k);
+    if k == 0 {
+        return !is_first(here);
+    }
+    !is_next(leap_at(pieces, k - 1), here)
 }

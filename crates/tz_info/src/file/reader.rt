@@ -2,22 +2,21 @@
 
 ghost use Rattle.std.specs.Prelude.{◌≡◌, IfErr, IfOk, MatchResult};
 ghost use Rattle.{
-  tz_info.specs.Steps.FileLists.{pieces_of, zone_of_lists, EndFile, IsFaultAt, IsReadInMemory},
+  tz_file.specs.{FileContents.{transition_at, values_below}, FileLists.{pieces_of, EndFile, HasLengths, IsReadInMemory}},
+  tz_info.specs.Steps.FileLists.{zone_of_lists, IsFaultAt},
   tz_info.specs.{TzFiles.{contents, IsTzFile}, Zones.{IsValid, ListFault}},
 };
 
-use crate::file::contents::{check_indicators, read_leap_seconds, read_transitions};
 use crate::file::footer::read_footer_rule;
-use crate::file::pieces::{Pieces, read_pieces};
-use crate::file::place::lists::from_fault_of_lists;
-use crate::file::types::read_types;
+use crate::file::place::from_fault_of_lists;
 use crate::rule::TransitionRule;
 use crate::rule::reader::text::rule_of;
+use crate::zone::TimeZone;
 use crate::zone::lists::kept::Kept;
 use crate::zone::lists::valid::check;
-use crate::zone::{LeapSecond, TimeZone};
 use std::alloc::Global;
-use tz_base::{Cursor, Error, LocalTimeType};
+use tz_base::{Cursor, Error, LeapSecond, LocalTimeType};
+use tz_file::{Pieces, check_indicators, read_leap_seconds, read_pieces, read_types, time_at};
 
 /// The lists that a file spells. They need not make a valid zone.
 #[derive(Drop)]
@@ -95,4 +94,19 @@ fn read_lists<'a>(
         leap_seconds,
         rule: spelled.map(rule_of),
     })
+}
+
+// The transitions: a time and a type index for each.
+fn read_transitions(alloc: Global, pieces: &Pieces<'_>) -> Result<Vec<Kept>, Error>
+    requires { HasLengths (pieces_of pieces.now) }
+    ensures { MatchResult result
+        (λ v. v.items ≡ values_below pieces.now.counts.transitions (transition_at (pieces_of pieces.now)))
+        (λ e. e ≡ Error.OutOfMemory) }
+{
+    let type_indexes = pieces.block.type_indexes;
+    let mut transitions = Vec::with_capacity(alloc, type_indexes.len())?;
+    for k in 0..type_indexes.len() {
+        transitions.push_reserved(Kept::of(time_at(pieces, k), type_indexes[k] as u32));
+    }
+    Ok(transitions)
 }

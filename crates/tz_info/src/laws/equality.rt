@@ -9,10 +9,11 @@ ghost use Rattle.{
 use crate::DayForm;
 use crate::change::{HeldChange, HeldSecond, HeldSpan, TypedSecond};
 use crate::rule::{AlternateTime, RuleDay, TransitionRule};
+use crate::zone::TimeZone;
 use crate::zone::ask::all_changes::Changes;
 use crate::zone::ask::differences::Difference;
 use crate::zone::ask::shown_seconds::ShownSeconds;
-use crate::zone::{LeapSecond, TimeZone, Transition};
+use tz_base::{LeapSecond, Transition};
 
 /// Transitions are equal if and only if their times and their indexes are. A clone is the value,
 /// and does not fail.

@@ -3,7 +3,8 @@
 ghost use Rattle.std.specs.Prelude.{◌≡◌, ◌≤◌, ◌++◌, length, List, ℕ};
 ghost use Rattle.{
   tz_base.specs.Errors.{error_number},
-  tz_info.specs.{FilePieces.{from_times, FilePieces, HasPieces}, TzFiles.{IsFileFault, IsTzFile}},
+  tz_file.specs.FilePieces.{from_times, FilePieces, HasPieces},
+  tz_info.specs.TzFiles.{IsFileFault, IsTzFile},
   tz_info.specs.{FilePlaces.{IsFilePlace}, Zones.{IsRuleOrNone, IsValid, Zone}},
 };
 
@@ -44,7 +45,7 @@ pub fn fault_place()
 {}
 
 /// The parts of the last block, in order, and the footer end the file.
-#[tactic(auto, using(crate::proofs::FilePieceLaws::end_file))]
+#[tactic(auto, using(tz_file::proofs::FilePieceLaws::end_file))]
 pub fn parts_end_file()
     ensures { (bytes : List ℕ) (p : FilePieces) → HasPieces bytes p
         → (before : List ℕ) × (bytes ≡ before ++ from_times p) }

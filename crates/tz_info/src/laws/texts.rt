@@ -51,7 +51,7 @@ pub fn fault_or_zone()
 {}
 
 /// The fault of a text has one place, in the text or at its end.
-#[tactic(auto, using(crate::proofs::PosixLaws::one_place, crate::proofs::TrimLaws::trimmed_fits))]
+#[tactic(auto, using(crate::proofs::PosixLaws::one_place, tz_base::proofs::TrimLaws::trimmed_fits))]
 pub fn fault_place()
     ensures once { (text : List ℕ) (a b : ℕ) → IsPosixFaultPlace text a → IsPosixFaultPlace text b
         → a ≡ b }

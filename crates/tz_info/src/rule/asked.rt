@@ -6,16 +6,16 @@
 ghost use Rattle.std.specs.Prelude.{◌≡◌, ◌≢◌, ◌+◌, true, MatchOption};
 ghost use Rattle.{
   tz_info.specs.{Changes.{IsChange}, Moments.{type_when, AlternateAt, IsRuleTime, IsRuleYear, IsYearOf}},
-  tz_info.specs.Steps.RisingCounts.{HasRoomFor},
   tz_info.specs.Steps.{AskedYears.{turn_of, IsAskedYear, IsCalmRule}, Beside.{change_found, IsNearestMomentOf}},
   tz_info.specs.Steps.Changes.{IsIdle, IsInStretch, IsOfYear},
+  tz_search.specs.RisingCounts.{HasRoomFor},
 };
 
 use crate::change::is_same_type;
 use crate::rule::alternate::AlternateTime;
 use crate::rule::moments::{Moment, Turns, nearer};
 use crate::rule::years::{Stretch, rule_year_of};
-use crate::timeline::Probes;
+use tz_search::Probes;
 
 // A year, and the two moments of a rule in it.
 #[derive(Clone, Copy)]

@@ -3,14 +3,15 @@
 
 ghost use Rattle.std.specs.Prelude.{◌≡◌, option_map, MatchOption};
 ghost use Rattle.{
-  tz_info.specs.{Counts.{RoseWithin}, Steps.RisingCounts.{HasRoomFor}, Steps.Beside.{change_found, IsBeside}, Moments.{IsRuleTime}},
+  tz_info.specs.{Steps.Beside.{change_found, IsBeside}, Moments.{IsRuleTime}},
   tz_info.specs.Rules.{Alternate},
+  tz_search.specs.{Counts.{RoseWithin}, RisingCounts.{HasRoomFor}},
 };
 
 use crate::rule::alternate::AlternateTime;
 use crate::rule::moments::Moment;
 use crate::rule::season::is_rule_time;
-use crate::timeline::Probes;
+use tz_search::Probes;
 
 // Whether it is daylight saving time at a second, and the seconds of the last change up to it and of
 // the first one after it.

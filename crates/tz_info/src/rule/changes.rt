@@ -5,8 +5,9 @@ ghost use Rattle.{
   tz_info.specs.Changes.{HasNoChange, IsNearest},
   tz_info.specs.Steps.{Changes.{year_at, IsAhead, IsNearRuleTime}, Beside.{change_found, IsNearestMomentOf}},
   tz_info.specs.Steps.AskedYears.{IsAskedYear, IsYearNear},
-  tz_info.specs.{Counts.{RoseWithin}, Steps.RisingCounts.{HasRoomFor}, HeldChanges.{change_held}},
+  tz_info.specs.HeldChanges.{change_held},
   tz_info.specs.Moments.{type_when, AlternateAt, IsRuleTime, IsRuleYear, IsYearOf},
+  tz_search.specs.{Counts.{RoseWithin}, RisingCounts.{HasRoomFor}},
 };
 
 use crate::change::HeldChange;
@@ -15,7 +16,7 @@ use crate::rule::asked::AskedYear;
 use crate::rule::moments::Moment;
 use crate::rule::season::{FIRST_RULE_TIME, LAST_RULE_TIME};
 use crate::rule::years::stretch_ahead;
-use crate::timeline::Probes;
+use tz_search::Probes;
 
 // The first and the last of the years that a rule answers in.
 const FIRST_RULE_YEAR: i64 = -2_147_483_646;

@@ -140,7 +140,7 @@ impl RuleDay {
     /// `(12, 32)`.
     ///
     /// ```
-    /// let day = RuleDay::month_weekday(3, 2, 0)?;    // M3.2.0: the second Sunday of March
+    /// let day = RuleDay::month_weekday(3, 2, 0)?;    // the second Sunday of March
     /// let date = day.transition_date(2021);          // (3, 14)
     /// ```
     pub fn transition_date(&self, year: i32) -> (usize, i64)

@@ -4,17 +4,18 @@
 ghost use Rattle.std.specs.Prelude.{◌≤ℤ◌, option_map, pos};
 ghost use Rattle.{
   naive_base.specs.Range.{IsWide},
-  tz_info.specs.{Changes.{IsNearest}, Counts.{RoseWithin}, Steps.RisingCounts.{HasRoomFor}, HeldChanges.{change_held}},
+  tz_info.specs.{Changes.{IsNearest}, HeldChanges.{change_held}},
   tz_info.specs.{Moments.{AlternateAt, IsRuleTime}, RuleTypes.{RuleAt}, Rules.{IsAlternateRule}},
   tz_info.specs.Steps.{Changes.{IsAhead}, Since.{IsFirstSince, IsReachedSince}},
+  tz_search.specs.{Counts.{RoseWithin}, RisingCounts.{HasRoomFor}},
 };
 
 use crate::answers::{second_showing, shown_at};
 use crate::change::{HeldChange, HeldSecond};
 use crate::rule::alternate::AlternateTime;
 use crate::rule::transition_rule::TransitionRule;
-use crate::timeline::Probes;
 use tz_base::LocalTimeType;
+use tz_search::Probes;
 
 impl TransitionRule {
     // The last local time that a clock shows from one second to another one.

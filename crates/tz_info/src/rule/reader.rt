@@ -6,7 +6,6 @@ ghost use Rattle.tz_info.specs.{Steps.Spelled.{IsParsed}, TzGrammar.{text_fault_
 mod clock;
 mod date;
 mod name;
-pub(crate) mod place;
 pub(crate) mod text;
 
 use crate::rule::transition_rule::TransitionRule;
@@ -43,9 +42,8 @@ impl TransitionRule {
     /// fault.
     ///
     /// ```
-    /// match TransitionRule::parse_tz_string(b"EST5EDT,M3.2.0,M13.1.0", false) {
-    ///     Ok(rule) => Ok(rule),
-    ///     Err(e) => Err(e.position), // Some(16), at the month 13
+    /// if let Err(e) = TransitionRule::parse_tz_string(b"EST5EDT,M3.2.0,M13.1.0", false) {
+    ///     let position = e.position; // Some(16), at the month 13
     /// }
     /// ```
     ///

@@ -5,20 +5,21 @@ ghost use Rattle.{
   naive_base.specs.{NaiveDateTime.{reading}, Range.{IsWide}},
   offset_core.specs.{LocalResult.{map_of}, WallAnswer.{IsWallAnswer}},
   tz_base.specs.LocalTypes.{IsUtOffset},
-  tz_info.specs.{Counts.{RoseWithin}, Steps.RisingCounts.{HasRoomFor}, HeldChanges.{change_held}},
+  tz_info.specs.HeldChanges.{change_held},
   tz_info.specs.Steps.{Walk.{IsAskedLast}, Gaps.{IsNeverFrom, IsRuleGap}, Seasons.{IsSeason, IsSeasonFor, IsSeasonOf}},
   tz_info.specs.Steps.RuleSeconds.{AreUtOffsets, IsAskedFrom, IsAskedSince, TypeFrom},
   tz_info.specs.{Moments.{type_when}, Rules.{IsAlternateRule}, RuleTypes.{RuleAt}, WallClocks.{Shows}},
+  tz_search.specs.{Counts.{RoseWithin}, RisingCounts.{HasRoomFor}},
 };
 
 use crate::answers::{joined, second_showing, types_copied};
 use crate::change::HeldChange;
 use crate::rule::moments::Moment;
 use crate::rule::{AlternateTime, Season, TransitionRule};
-use crate::timeline::Probes;
 use naive_base::NaiveDateTime;
 use offset_core::MappedLocalTime;
 use tz_base::{Error, LocalTimeType};
+use tz_search::Probes;
 
 impl TransitionRule {
     /// Returns the types in force at the instants at which a clock by this rule shows the local time.

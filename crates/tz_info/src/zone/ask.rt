@@ -10,6 +10,7 @@ mod lookup;
 pub(crate) mod lookups;
 mod offset_changes;
 pub(crate) mod offset_stretch;
+pub(crate) mod piece;
 mod reached;
 pub(super) mod runs;
 mod segment_search;

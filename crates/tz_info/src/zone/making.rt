@@ -13,10 +13,8 @@ use crate::zone::ask::all_changes::second_before;
 use crate::zone::ask::runs::start_by;
 use crate::zone::ask::typed::second_after;
 use crate::zone::lists::kept::{Kept, all_kept};
-use crate::zone::lists::leap_second::LeapSecond;
 use crate::zone::lists::leap_seconds::LeapSeconds;
 use crate::zone::lists::starts::cut_at;
-use crate::zone::lists::transition::Transition;
 use crate::zone::lists::valid::check;
 use crate::zone::made::change_list::ChangeList;
 use crate::zone::made::change_table::ChangeTable;
@@ -26,7 +24,7 @@ use crate::zone::made::last_span::LastSpan;
 use crate::zone::made::segments::ZoneLists;
 use crate::zone::time_zone::TimeZone;
 use std::alloc::Global;
-use tz_base::{Error, Expected, LocalTimeType, Span};
+use tz_base::{Error, Expected, LeapSecond, LocalTimeType, Span, Transition};
 
 impl TimeZone {
     /// Returns the zone of those transitions, types, leap seconds and rule.

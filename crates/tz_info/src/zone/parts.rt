@@ -4,11 +4,9 @@ ghost use Rattle.std.specs.{List.{slice_get}, Prelude.{◌≡◌, ◌<◌, ◌�
 ghost use Rattle.tz_info.specs.{Windows.{offsets, IsGreatest, IsLeast}, Zones.{IsRuleOrNone, IsValid}};
 
 use crate::rule::TransitionRule;
-use crate::timeline::Probes;
-use crate::zone::lists::leap_second::LeapSecond;
-use crate::zone::lists::transition::Transition;
 use crate::zone::time_zone::TimeZone;
-use tz_base::LocalTimeType;
+use tz_base::{LeapSecond, LocalTimeType, Transition};
+use tz_search::Probes;
 
 impl TimeZone {
     /// How many transitions the zone has.

@@ -11,9 +11,9 @@ ghost use Rattle.{
 use crate::rule::TransitionRule;
 use crate::rule::reader::read_all;
 use crate::rule::reader::text::{Spelled, rule_of};
-use crate::trims::{space_in_front, trimmed};
 use crate::zone::time_zone::TimeZone;
 use std::alloc::Global;
+use tz_base::trims::{space_in_front, trimmed};
 use tz_base::{Error, LocalTimeType, ParseError};
 
 impl TimeZone {
@@ -24,7 +24,7 @@ impl TimeZone {
     ///
     /// ```
     /// let zone = TimeZone::from_posix_tz(alloc, "EST5EDT,M3.2.0,M11.1.0")?;
-    /// let local = zone.find_local_time_type(1_615_705_200)?;    // EDT
+    /// let name = zone.find_local_time_type(1_615_705_200)?.name();    // Some("EDT")
     /// ```
     ///
     /// # Errors
@@ -55,9 +55,8 @@ impl TimeZone {
     /// [`TransitionRule::parse_tz_string`] gives, counted from the start of the text.
     ///
     /// ```
-    /// match TimeZone::parse_posix_tz(alloc, " EST5EDT,M3.2.0,M13.1.0") {
-    ///     Ok(zone) => Ok(zone),
-    ///     Err(e) => Err(e.position), // Some(17), at the month 13
+    /// if let Err(e) = TimeZone::parse_posix_tz(alloc, " EST5EDT,M3.2.0,M13.1.0") {
+    ///     let position = e.position; // Some(17), at the month 13
     /// }
     /// ```
     ///
@@ -123,9 +122,8 @@ impl TimeZone {
     /// Returns the zone of [`TimeZone::from_extended_tz`], or its error with the place of the fault.
     ///
     /// ```
-    /// match TimeZone::parse_extended_tz(alloc, b"<-03>3<-02>,M3.5.0/-2,M10.5.0/-168") {
-    ///     Ok(zone) => Ok(zone),
-    ///     Err(e) => Err(e.position), // Some(31), at the hours
+    /// if let Err(e) = TimeZone::parse_extended_tz(alloc, b"<-03>3<-02>,M3.5.0/-2,M10.5.0/-168") {
+    ///     let position = e.position; // Some(31), at the hours
     /// }
     /// ```
     ///

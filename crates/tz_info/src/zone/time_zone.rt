@@ -4,16 +4,14 @@
 ghost use Rattle.tz_info.specs.Zones.{IsValid, IsRuleOrNone};
 
 use crate::rule::TransitionRule;
-use crate::zone::lists::leap_second::LeapSecond;
 use crate::zone::lists::leap_seconds::LeapSeconds;
-use crate::zone::lists::transition::Transition;
 use crate::zone::made::change_table::ChangeTable;
 use crate::zone::made::extremes::Extremes;
 use crate::zone::made::index::Index;
 use crate::zone::made::last_span::LastSpan;
 use std::fmt;
 use std::marker::Model;
-use tz_base::LocalTimeType;
+use tz_base::{LeapSecond, LocalTimeType, Transition};
 
 /// A time zone: which type of local time is in force at each instant.
 ///
@@ -21,8 +19,8 @@ use tz_base::LocalTimeType;
 /// let types = vec![in alloc; LocalTimeType::utc(), LocalTimeType::with_offset(3600)?]?;
 /// let transitions = vec![in alloc; Transition::new(0, 1)]?;
 /// let zone = TimeZone::new(alloc, transitions, types, Vec::new(alloc), None)?;
-/// let before = zone.find_local_time_type(-1)?;    // UTC
-/// let after = zone.find_local_time_type(0)?;      // 3600 seconds east of UTC
+/// let before = zone.find_local_time_type(-1)?.offset();    // 0
+/// let after = zone.find_local_time_type(0)?.offset();      // 3600
 /// ```
 #[derive(Drop)]
 pub struct TimeZone {
@@ -75,8 +73,8 @@ impl PartialEq for TimeZone {
     ghost use Rattle.std.specs.Cmp.{partial_equiv_from_equiv};
     ghost use Rattle.tz_base.specs.contracts.local_time_type.LocalTimeTypeEq.TheImpl.Laws.{laws-law as types};
     ghost use Rattle.tz_info.specs.{ZoneEquality.{zone_eq}, Steps.Equivalences.{zone_eq_equiv}};
-    ghost use Rattle.tz_info.specs.contracts.zone.lists.transition.TransitionEq.TheImpl.Laws.{laws-law as transitions};
-    ghost use Rattle.tz_info.specs.contracts.zone.lists.leap_second.LeapSecondEq.TheImpl.Laws.{laws-law as leaps};
+    ghost use Rattle.tz_base.specs.contracts.transition.TransitionEq.TheImpl.Laws.{laws-law as transitions};
+    ghost use Rattle.tz_base.specs.contracts.leap_second.LeapSecondEq.TheImpl.Laws.{laws-law as leaps};
     ghost use Rattle.tz_info.specs.contracts.rule.transition_rule.TransitionRuleEq.TheImpl.Laws.{laws-law as rules};
 
     ghost eq = { zone_eq ⟦<Transition as PartialEq>⟧.eq ⟦<LocalTimeType as PartialEq>⟧.eq
@@ -95,8 +93,8 @@ impl PartialEq for TimeZone {
 impl Eq for TimeZone {
     ghost use Rattle.tz_base.specs.contracts.local_time_type.LocalTimeTypeEq.TheImpl.Laws.{laws-law as types};
     ghost use Rattle.tz_info.specs.Steps.Equivalences.{zone_eq_equiv};
-    ghost use Rattle.tz_info.specs.contracts.zone.lists.transition.TransitionEq.TheImpl.Laws.{laws-law as transitions};
-    ghost use Rattle.tz_info.specs.contracts.zone.lists.leap_second.LeapSecondEq.TheImpl.Laws.{laws-law as leaps};
+    ghost use Rattle.tz_base.specs.contracts.transition.TransitionEq.TheImpl.Laws.{laws-law as transitions};
+    ghost use Rattle.tz_base.specs.contracts.leap_second.LeapSecondEq.TheImpl.Laws.{laws-law as leaps};
     ghost use Rattle.tz_info.specs.contracts.rule.transition_rule.TransitionRuleEq.TheImpl.Laws.{laws-law as rules};
 
     ghost laws = { zone_eq_equiv transitions types leaps rules };

@@ -1,6 +1,7 @@
 -- What the parts of a written file rest on.
 use Rattle.std.specs.Prelude.{◌≡◌, All, Some}
-use Rattle.tz_info.specs.{Zones.{Zone}, declared.file.header.Counts.{Counts}}
+use Rattle.tz_info.specs.Zones.{Zone}
+use Rattle.tz_file.specs.declared.header.Counts.{Counts}
 use Rattle.tz_write.specs.{FileDesignations.{AreShortest}, Steps.{LaidFiles.{counts_of, zone_counts}, LaidNames.{HavePlaces, laid_names}}}
 use Rattle.tz_write.specs.{WrittenFiles.{HasCounts, HasIndex}, declared.file.{header.Sizes.{Sizes}, writer.Room.{Room}}}
 

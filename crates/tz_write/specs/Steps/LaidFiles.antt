@@ -3,8 +3,9 @@
 use Rattle.std.specs.{Prelude.{ℕ, ℤ, Bool, false, not, if◌then◌else◌, List, [], ◌∷◌, ◌++◌, length, Option, Some, None}, List.{flat_map}}
 use Rattle.std.specs.Int.{Width, w32, w64, to_be_bytes, cast_unsigned}
 use Rattle.tz_base.specs.LocalTypes.{LocalType}
-use Rattle.tz_info.specs.{FileBlocks.{Parts}, FileHeaders.{magic}, Zones.{Zone}, declared.file.header.Counts.{Counts}}
-use Rattle.tz_info.specs.declared.zone.lists.{leap_second.LeapSecond.{LeapSecond}, transition.Transition.{Transition}}
+use Rattle.tz_file.specs.{FileBlocks.{Parts}, FileHeaders.{magic}, declared.header.Counts.{Counts}}
+use Rattle.tz_info.specs.Zones.{Zone}
+use Rattle.tz_base.specs.declared.{leap_second.LeapSecond.{LeapSecond}, transition.Transition.{Transition}}
 use Rattle.tz_info.specs.declared.rule.transition_rule.TransitionRule.{TransitionRule}
 use Rattle.tz_write.specs.{FileBytes.{version_byte, least_counts, footer_bytes}, FileDesignations.{name_of, name_or_none}}
 use Rattle.tz_write.specs.Steps.{LaidNames.{place_of, laid_names}, TextPieces.{spelled_rule, has_plain_times}}

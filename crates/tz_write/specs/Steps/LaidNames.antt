@@ -3,7 +3,8 @@
 -- 255 then, another one is put last.
 use Rattle.std.specs.Prelude.{ℕ, suc, ◌<◌, ◌+◌, Bool, ◌&&◌, ◌==◌, nat_lt, nat_le, not, if◌then◌else◌, List, [], ◌∷◌, ◌++◌, length, slice_index, drop, All}
 use Rattle.std.specs.{Prelude.{Option, Some, None}, Bool.{nat_eq}, List.{fold, starts_with, ends_with, list_all}}
-use Rattle.{tz_base.specs.{Fronts.{run_of}, LocalTypes.{LocalType}}, tz_info.specs.FileContents.{is_not_zero}}
+use Rattle.tz_base.specs.{Fronts.{run_of}, LocalTypes.{LocalType}}
+use Rattle.tz_file.specs.FileContents.{is_not_zero}
 use Rattle.tz_write.specs.FileDesignations.{name_of, place_limit}
 
 -- the bytes begin with the text and a 0 byte

@@ -8,7 +8,7 @@ ghost use Rattle.{
   zoned_ffi.specs.Steps.KeptTimes.{IsAnsweredBy, IsKept, IsNotAnsweredBy, IsNotWritten, IsWritten},
   zoned_ffi.specs.Steps.ResolvedInstants.{taken_instant},
   zoned_ffi.specs.Units.{IsCounted, IsLocal, IsWithout, per_second},
-  zoned_time.specs.Fires.{second_before},
+  zoned_plans.specs.Fires.{second_before},
 };
 
 use crate::choice::{Choice, Missing};

@@ -94,7 +94,7 @@ impl<Tz, O: Offset> Instant<Tz, O> {
     /// other's.
     ///
     /// ```
-    /// let hour = Utc.timestamp(3_600, 0).signed_duration_since(Utc.timestamp(0, 0)); // an hour
+    /// let hour = Utc.timestamp(3_600, 0).signed_duration_since(Utc.timestamp(0, 0)); // 60 minutes
     /// ```
     pub fn signed_duration_since<R: AsInstant + Copy>(&self, rhs: R) -> TimeDelta
         ensures { nanos_of result ≡ difference (zoned self.now).utc (R.utc rhs) }

@@ -46,7 +46,7 @@ impl<Tz: TimeZone> DateTime<Tz> {
     /// ```
     /// // In New York clocks were set back at 02:00 on 2021-11-07.
     /// let noon = new_york.with_ymd_and_hms(2021, 11, 6, 12, 0, 0).single()?;
-    /// noon.checked_add_days(Days::new(1)) // 2021-11-07 12:00:00 -05:00, 25 hours later
+    /// noon.checked_add_days(Days::new(1)) // Some(2021-11-07 12:00:00 -05:00), 25 hours later
     /// ```
     pub fn checked_add_days(&self, days: Days) -> Option<DateTime<Tz>>
         ensures { IsDaysAdded Tz.meaning self.now (days_of days) result }

@@ -20,7 +20,7 @@ use std::time::Duration;
 /// let start = Utc.timestamp(1_636_264_800, 0); // 2021-11-07 06:00:00 UTC
 /// start + TimeDelta::hours(1) // 2021-11-07 07:00:00 UTC
 /// start + Months::new(1) // 2021-12-07 06:00:00 UTC
-/// (start + TimeDelta::hours(1)) - start // an hour
+/// (start + TimeDelta::hours(1)) - start // 60 minutes
 /// ```
 impl<Tz: TimeZone> Add<TimeDelta> for DateTime<Tz> {
     type Output = DateTime<Tz>;

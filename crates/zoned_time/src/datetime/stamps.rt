@@ -104,8 +104,8 @@ impl DateTime<Utc> {
     /// the last second of a minute.
     ///
     /// ```
-    /// DateTime::<Utc>::from_timestamp(1_609_459_200, 0) // 2021-01-01 00:00:00 UTC
-    /// DateTime::<Utc>::from_timestamp(59, 1_500_000_000) // 1970-01-01 00:00:60.500 UTC
+    /// DateTime::<Utc>::from_timestamp(1_609_459_200, 0) // Some(2021-01-01 00:00:00 UTC)
+    /// DateTime::<Utc>::from_timestamp(59, 1_500_000_000) // Some(1970-01-01 00:00:60.500 UTC)
     /// DateTime::<Utc>::from_timestamp(0, 1_000_000_000) // None
     /// ```
     pub fn from_timestamp(secs: i64, nsecs: u32) -> Option<DateTime<Utc>>

@@ -1,5 +1,5 @@
 use Rattle.tests_pins.proofs.{Words.{lawful, refl}, Computed.{files}, SpelledTexts.{never}}
-use Rattle.tz_info.specs.FileContents.{mark}
+use Rattle.tz_file.specs.FileContents.{mark}
 use Rattle.tests_pins.proofs.files.flags.Goals as goal
 
 pub returns : goal.returns

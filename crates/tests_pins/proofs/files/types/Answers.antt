@@ -1,4 +1,4 @@
-use Rattle.tz_info.specs.FileContents.{local_type}
+use Rattle.tz_file.specs.FileContents.{local_type}
 use Rattle.tests_pins.proofs.{Words.{designations, lawful, refl}, Computed.{files}, SpelledTexts.{never}}
 use Rattle.tests_pins.proofs.files.types.Goals as goal
 

@@ -1,5 +1,5 @@
 use Rattle.tz_base.specs.Grammar.{Each}
-use Rattle.tz_info.specs.FileContents.{indicators, type_at}
+use Rattle.tz_file.specs.FileContents.{indicators, type_at}
 use Rattle.tests_pins.proofs.{Words.{lawful, pieces, refl, []}, Computed.{files}}
 use Rattle.tests_pins.proofs.honolulu.contents.Goals as goal
 

@@ -1,4 +1,4 @@
-use Rattle.tz_info.specs.declared.file.header.{Place.TheVariants.{First, Second}, Version.TheVariants.{Two}}
+use Rattle.tz_file.specs.declared.header.{Place.TheVariants.{First, Second}, Version.TheVariants.{Two}}
 use Rattle.tests_pins.proofs.HonoluluFile.{is_header, version_2}
 use Rattle.tests_pins.proofs.honolulu.headers.Goals as goal
 

@@ -1,6 +1,7 @@
 use Rattle.naive_base.specs.Stamp.{of_secs}
 use Rattle.tests_pins.specs.{Days.{plain_law}, Plans.{daily}}
-use Rattle.zoned_time.specs.{Moves.{IsNextMove, utc_of_move}, Zoned.{Zoned}, declared.moves.Move.{Move, TheVariants.{Added, Removed}}}
+use Rattle.zoned_time.specs.Zoned.{Zoned}
+use Rattle.zoned_plans.specs.{Moves.{IsNextMove, utc_of_move}, declared.moves.Move.{Move, TheVariants.{Added, Removed}}}
 use Rattle.tests_pins.proofs.{SetFires.{InSpring}, SetMoves.{Always, first_only, none_before}}
 use Rattle.tests_pins.proofs.Words.{ap, arith, inl, inr, ints, neg_ℤ, pos, refl, sym, ℤ, ◌∙◌, ◌≡◌, ◌≤ℤ◌}
 use Rattle.tests_pins.proofs.moves.next_move.Goals as goal

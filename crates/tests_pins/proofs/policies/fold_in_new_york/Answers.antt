@@ -1,4 +1,4 @@
-use Rattle.zoned_time.specs.{Nearest.{IsNextOf}, Policies.{IsFireBy, IsShownFire}, declared.policies.{FirePolicy.{FirePolicy}, FoldFires.{FoldFires}}}
+use Rattle.zoned_plans.specs.{Nearest.{IsNextOf}, Policies.{IsFireBy, IsShownFire}, declared.policies.{FirePolicy.{FirePolicy}, FoldFires.{FoldFires}}}
 use Rattle.tests_pins.specs.Plans.{daily}
 use Rattle.tests_pins.proofs.{SetFires.{before_set, from_set, shown_after, shown_before}, SetPolicies.{one_next}}
 use Rattle.tests_pins.proofs.Words.{AreSetAt, IsFire, arith, by_lt_z, floors, inl, inr, ints, neg_ℤ, pos, refl, subst, sym, ℤ, ◌+ℤ◌, ◌<ℤ◌, ◌≡◌, ◌≤ℤ◌}

@@ -1,4 +1,4 @@
-use Rattle.zoned_time.specs.{Nearest.{IsNextOf}, Policies.{IsFireBy, IsShownFire}, declared.policies.{FirePolicy.{FirePolicy}, GapFires.{GapFires}}}
+use Rattle.zoned_plans.specs.{Nearest.{IsNextOf}, Policies.{IsFireBy, IsShownFire}, declared.policies.{FirePolicy.{FirePolicy}, GapFires.{GapFires}}}
 use Rattle.tests_pins.specs.Plans.{daily}
 use Rattle.tests_pins.proofs.{SetFires.{InSpring, from_set}, SetPolicies.{one_next, planned_before, planned_from}}
 use Rattle.tests_pins.proofs.Words.{IsFire, arith, by_lt_z, floors, inl, inr, ints, neg_ℤ, pos, refl, subst, sym, ℤ, ◌+ℤ◌, ◌<ℤ◌, ◌≡◌, ◌≤ℤ◌}

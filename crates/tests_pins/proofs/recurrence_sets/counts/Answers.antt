@@ -1,5 +1,5 @@
 use Rattle.naive_base.specs.Year.{floor_div, floor_mod}
-use Rattle.naive_plans.specs.{RecurrenceRules.{Counts}, RecurrenceSets.{HasBefore, IsRuleTime}}
+use Rattle.naive_rrule.specs.{RecurrenceRules.{Counts}, RecurrenceSets.{HasBefore, IsRuleTime}}
 use Rattle.tests_pins.proofs.Computed.{calendar}
 use Rattle.tests_pins.proofs.Words.{arith, floors, inl, ints, pos, refl, suc, ℕ, ℤ, ◌%◌, ◌*◌, ◌*ℤ◌, ◌+ℤ◌, ◌+◌, ◌/◌, ◌<ℤ◌, ◌<◌, ◌≡◌, ◌≤ℤ◌, ◌≤◌}
 use Rattle.tests_pins.{proofs.CountedTimes.{at_most, counted}, specs.Recurrences.{every_tenth_day}}

@@ -1,5 +1,5 @@
 use Rattle.std.proofs.Common.{rules}
-use Rattle.naive_plans.specs.RecurrenceSets.{IsRuleTime}
+use Rattle.naive_rrule.specs.RecurrenceSets.{IsRuleTime}
 use Rattle.tests_pins.proofs.{Words.{arith, inl, ints, pos, refl}, Computed.{calendar}, RuleDates.{counts, dated}}
 use Rattle.tests_pins.specs.Recurrences.{at_nine, days_of_january}
 use Rattle.tests_pins.proofs.recurrence_sets.ends.Goals as goal

@@ -1,6 +1,6 @@
 use Rattle.std.proofs.Common.{rules}
 use Rattle.naive_base.specs.{Year.{floor_div, floor_mod}, Weekday.{weekday_of}, declared.weekday.Weekday.TheVariants.{Fri, Mon, Thu, Tue, Wed}}
-use Rattle.naive_plans.specs.{RecurrenceRules.{month_number}, RecurrenceSets.{HasAfter, IsInPeriod}, declared.rule.NthWeekday.{NthWeekday}}
+use Rattle.naive_rrule.specs.{RecurrenceRules.{month_number}, RecurrenceSets.{HasAfter, IsInPeriod}, declared.rule.NthWeekday.{NthWeekday}}
 use Rattle.tests_pins.proofs.{Computed.{calendar}, CountedTimes.{at_most, counted}, RuleDates.{counts, dated, entry_at}}
 use Rattle.tests_pins.proofs.Words.{List, arith, date_is, day_number, floors, inl, inr, ints, month_of, neg_ℤ, pos, refl, suc, year_of, zero, ℕ, ℤ, [], ◌%◌}
 use Rattle.tests_pins.proofs.Words.{◌*◌, ◌*ℤ◌, ◌+ℤ◌, ◌/◌, ◌<ℤ◌, ◌<◌, ◌∷◌, ◌≡◌, ◌≤ℤ◌, ◌≤◌}

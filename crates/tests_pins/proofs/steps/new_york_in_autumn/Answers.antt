@@ -1,5 +1,5 @@
 use Rattle.naive_plans.specs.{ClockSteps.{BeginsStep}, declared.{clock_step.ClockStep.TheVariants.{Part}, part_of_day.PartOfDay.{PartOfDay}}}
-use Rattle.zoned_time.specs.StepBounds.{AreStepBounds}
+use Rattle.zoned_plans.specs.StepBounds.{AreStepBounds}
 use Rattle.tests_pins.proofs.{Words.{AreSetAt, arith, floors, inl, ints, neg_ℤ, pos, refl, ℤ, ◌≡◌}, SetFires.{before_set, from_set, in_fold}}
 use Rattle.tests_pins.proofs.SetSteps.{bounds, within_day}
 use Rattle.tests_pins.proofs.steps.new_york_in_autumn.Goals as goal

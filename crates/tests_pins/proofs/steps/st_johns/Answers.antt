@@ -1,8 +1,8 @@
 use Rattle.naive_plans.specs.{ClockSteps.{BeginsStep}, declared.clock_step.ClockStep.TheVariants.{Day}}
-use Rattle.zoned_time.specs.StepBounds.{AreStepBounds}
+use Rattle.zoned_plans.specs.StepBounds.{AreStepBounds}
 use Rattle.tests_pins.proofs.{Words.{AreSetAt, arith, floors, inl, ints, neg_ℤ, pos, refl, ℤ}, SetFires.{before_set, from_set, in_fold}}
 use Rattle.tests_pins.proofs.SetSteps.{bounds, within_day}
-use Rattle.zoned_time.proofs.StepTimes.{once}
+use Rattle.zoned_plans.proofs.StepTimes.{once}
 use Rattle.tests_pins.proofs.steps.st_johns.Goals as goal
 
 day : (off : ℤ → ℤ) → AreSetAt off (pos 1_130_639_460) (neg_ℤ (pos 9_000)) (neg_ℤ (pos 12_600))

@@ -1,5 +1,5 @@
 use Rattle.naive_plans.specs.{ClockSteps.{BeginsStep}, declared.clock_step.ClockStep.TheVariants.{Day}}
-use Rattle.zoned_time.specs.StepBounds.{AreStepBounds}
+use Rattle.zoned_plans.specs.StepBounds.{AreStepBounds}
 use Rattle.tests_pins.proofs.{Words.{AreSetAt, arith, floors, inl, inr, ints, neg_ℤ, pos, refl, ℤ}, SetFires.{from_set}}
 use Rattle.tests_pins.proofs.SetSteps.{after_gap, bounds, within_day}
 use Rattle.tests_pins.proofs.steps.toronto.Goals as goal

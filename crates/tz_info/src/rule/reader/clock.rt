@@ -9,7 +9,7 @@ ghost use Rattle.{
   tz_info.specs.TzGrammar.{seconds, sign},
 };
 
-use crate::rule::reader::place::checked_at;
+use tz_base::place::checked_at;
 use tz_base::{Cursor, Error, Expected};
 
 // The limit of each number, before those of hours, minutes and seconds.

@@ -9,7 +9,7 @@ ghost use Rattle.{
 
 use crate::rule::day::RuleDay;
 use crate::rule::reader::clock::read_optional_time;
-use crate::rule::reader::place::checked_at;
+use tz_base::place::checked_at;
 use tz_base::{Cursor, Error};
 
 // The limit of a month, a week and a weekday, before their own.

@@ -12,8 +12,8 @@ ghost use Rattle.{
 use crate::rule::reader::clock::read_offset;
 use crate::rule::reader::date::read_day;
 use crate::rule::reader::name::read_name;
-use crate::rule::reader::place::checked_at;
 use crate::rule::{AlternateTime, RuleDay, TransitionRule};
+use tz_base::place::checked_at;
 use tz_base::{Cursor, Error, Expected, LocalTimeType};
 
 // What a text spells: one type, or two with the days and times at which the second starts and

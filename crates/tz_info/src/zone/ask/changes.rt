@@ -13,10 +13,10 @@ ghost use Rattle.{
 
 use crate::change::{HeldChange, change_between, change_copied, held};
 use crate::rule::{AlternateTime, TransitionRule};
-use crate::timeline::Probes;
 use crate::zone::TimeZone;
 use crate::zone::made::change_table::ChangeTable;
 use tz_base::{Change, LocalTimeType};
+use tz_search::Probes;
 
 impl TimeZone {
     /// Returns the first clock change after that second, or `None` if none comes at a later second
@@ -29,7 +29,7 @@ impl TimeZone {
     /// let zone = TimeZone::from_posix_tz(alloc, "EST5EDT,M3.2.0,M11.1.0")?;
     /// let change = zone.next_change(1_609_459_200)?;    // from 2021-01-01 00:00:00 UTC on
     /// let at = change.at;                               // 1615705200: 14 March, 02:00 EST
-    /// let name = change.after.name();                   // EDT
+    /// let name = change.after.name();                   // Some("EDT")
     /// ```
     pub fn next_change(&self, after: i64) -> Option<Change>
         ensures { IsFirst (TypeAt self.now) (λ u. after <ℤ u) result }
@@ -101,7 +101,7 @@ impl TimeZone {
 
     // The change that comes with the entry at that place, if one does. That of the last transition is asked.
     #[inline(always)]
-    #[tactic(auto, using(crate::proofs::SearchWords::ints, crate::proofs::EntryChanges::with_entry))]
+    #[tactic(auto, using(crate::proofs::Words::ints, crate::proofs::EntryChanges::with_entry))]
     fn change_with<'a>(&'a self, changes: &'a ChangeTable, place: usize) -> Option<HeldChange<'a>>
         requires list { AreEntries self.now changes.now }
         requires place { place < length changes.now.items }
@@ -215,6 +215,7 @@ impl TimeZone {
     // no transition.
     pub(in crate::zone) fn rule_begin(&self) -> i128
         ensures begin { IsBegin self.now result }
+        ensures valid { IsValid self.now }
         ensures bound { neg_ℤ (pos 9_223_372_036_854_775_808) ≤ℤ result }
     {
         self.change_table().rule_begin()

@@ -5,18 +5,19 @@ ghost use Rattle.{
   offset_core.specs.WallAnswer.{IsNeverShown},
   std.specs.Prelude.{◌*◌, ◌^◌, length, option_map, ⊤, MatchOption},
   tz_info.specs.Around.{map_both, AreTypesAround, IsAroundOrBefore},
-  tz_info.specs.{Steps.{WallPieces.{IsTableLess}, Gaps.{HasReach}, RisingCounts.{HasRoomFor}, Seasons.{IsSeasonIn}}, Counts.{HasRoom, RoseWithin}},
+  tz_info.specs.Steps.{WallPieces.{IsTableLess}, Gaps.{HasReach}, Seasons.{IsSeasonIn}},
   tz_info.specs.{WallClocks.{Shows}, Gaps.{HasGap, IsShown, IsTypeBeforeGap}, HeldChanges.{change_held}},
-  tz_info.specs.{Looks.{digits, RoseAround}, Zones.{TypeAt}},
+  tz_info.specs.{Looks.{RoseAround}, Zones.{TypeAt}},
+  tz_search.specs.{Counts.{HasRoom, RoseWithin}, Digits.{digits}, RisingCounts.{HasRoomFor}},
 };
 
 use crate::change::HeldChange;
 use crate::rule::Season;
-use crate::timeline::Probes;
 use crate::zone::time_zone::TimeZone;
 use naive_base::NaiveDateTime;
 use offset_core::{Around, MappedLocalTime};
 use tz_base::{Change, LocalTimeType};
+use tz_search::Probes;
 
 impl TimeZone {
     /// Returns the local time types in force at the instants at which a clock of this zone shows the

@@ -4,26 +4,26 @@ ghost use Rattle.std.specs.Prelude.{◌≡◌, ◌↔◌, ◌<◌, ◌≤◌, �
 ghost use Rattle.{
   naive_base.specs.Range.{IsWide},
   offset_core.specs.WallAnswer.{IsShownOnce},
-  tz_info.specs.{Counts.{HasRoom, RoseWithin}, Steps.RisingCounts.{HasRoomFor}, Looks.{digits}},
   tz_info.specs.Steps.{Starts.{leap_time_at}, Entries.{HaveComeAt}, Asked.{IsAskedAtLeapTime}},
   tz_info.specs.{HeldChanges.{span_held}, Looks.{RoseByInstant}, Leaps.{IsLeapTime, IsLeapTimeRefused, IsNear}},
   tz_info.specs.{Questions.{IsAskedAt}, Spans.{IsSpanAt}, Transitions.{passed}, WallClocks.{Shows}},
   tz_info.specs.Zones.{IsFromLast, IsRefusedBy, IsTypeError, RuleOrType, TypeAt, TypeAtLeapTime},
+  tz_search.specs.{Counts.{HasRoom, RoseWithin}, RisingCounts.{HasRoomFor}, Digits.{digits}},
 };
 
 use crate::change::HeldSpan;
 use crate::rule::TransitionRule;
-use crate::timeline::Probes;
+use crate::zone::TimeZone;
 use crate::zone::made::change_table::Come;
-use crate::zone::{TimeZone, Transition};
-use tz_base::{Error, Expected, LocalTimeType};
+use tz_base::{Error, Expected, LocalTimeType, Transition};
+use tz_search::Probes;
 
 impl TimeZone {
     /// The type in force at the second of Unix time.
     ///
     /// ```
     /// let zone = TimeZone::from_posix_tz(alloc, "CET-1CEST,M3.5.0,M10.5.0/3")?;
-    /// let winter = zone.find_local_time_type(1_609_459_200)?;    // CET, 3600 seconds east of UTC
+    /// let winter = zone.find_local_time_type(1_609_459_200)?.name();    // Some("CET")
     /// ```
     ///
     /// Before the last transition it is the type of the latest transition that has come, and the
@@ -65,7 +65,7 @@ impl TimeZone {
     /// ```
     /// let mut probes = Probes::new();
     /// let local = zone.find_local_time_type_counted(0, &mut probes)?;
-    /// let reads = probes.reads();
+    /// let reads = probes.reads(); // 0, since the rule answers
     /// ```
     ///
     /// # Errors

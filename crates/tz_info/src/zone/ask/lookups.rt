@@ -59,8 +59,8 @@ impl TimeZone {
     ///
     /// ```
     /// let mut lookups = zone.lookups();
-    /// let first = lookups.find_local_time_type(1_609_459_200)?;
-    /// let next = lookups.find_local_time_type(1_609_462_800)?;
+    /// let first = lookups.find_local_time_type(1_609_459_200)?.offset(); // -18000
+    /// let next = lookups.find_local_time_type(1_609_462_800)?.offset(); // -18000
     /// ```
     pub fn lookups(&self) -> Lookups<'_>
         ensures { result ≡ self.now }
@@ -103,7 +103,7 @@ impl<'a> Lookups<'a> {
     ///
     /// As [`TimeZone::find_local_time_type`].
     #[inline(always)]
-    #[tactic(auto, using(crate::proofs::Fits::fits, crate::proofs::SearchWords::ints))]
+    #[tactic(auto, using(crate::proofs::Fits::fits, crate::proofs::Words::ints))]
     pub fn find_local_time_type(&mut self, unix_time: i64) -> Result<LocalTimeType, Error>
         ensures found { MatchResult result (TypeAt self.old unix_time)
             (IsTypeError self.old unix_time) }

@@ -3,14 +3,15 @@
 ghost use Rattle.std.specs.Prelude.{◌+◌, length};
 ghost use Rattle.{
   naive_base.specs.{NaiveDateTime.{reading}, Range.{IsWide}},
-  tz_info.specs.{Counts.{HasRoom, RoseWithin}, Looks.{digits}, ShownSeconds.{IsLastReached}, Zones.{TypeAt}},
+  tz_info.specs.{ShownSeconds.{IsLastReached}, Zones.{TypeAt}},
+  tz_search.specs.{Counts.{HasRoom, RoseWithin}, Digits.{digits}},
 };
 
 use crate::answers::shown_at;
-use crate::timeline::Probes;
 use crate::zone::ask::segment_search::{begin_of, latest_end};
 use crate::zone::time_zone::TimeZone;
 use naive_base::NaiveDateTime;
+use tz_search::Probes;
 
 impl TimeZone {
     /// Returns the last local time that a clock of this zone has shown up to that UTC date-time, both in
@@ -21,7 +22,7 @@ impl TimeZone {
     /// second that [`TimeZone::find_first_at_or_after`] finds for it is at or before that date-time.
     ///
     /// ```
-    /// let second_pass = NaiveDate::from_ymd_opt(2021, 11, 7)?.and_hms_opt(6, 30, 0)?; // 01:30 EST
+    /// let second_pass = NaiveDate::from_ymd_opt(2021, 11, 7)?.and_hms_opt(6, 30, 0)?; // at 01:30 EST
     /// let reached = new_york.find_reached(second_pass); // 1636250399: 2021-11-07 01:59:59
     /// ```
     pub fn find_reached(&self, utc: NaiveDateTime) -> i64
@@ -44,7 +45,7 @@ impl TimeZone {
     }
 
     // The same of a second: the last local time of the segment that it lies in, or of the segments before.
-    #[tactic(auto, using(crate::proofs::Fits::fits, crate::proofs::SearchWords::ints, crate::proofs::SegmentEndLaws::begun_by))]
+    #[tactic(auto, using(crate::proofs::Fits::fits, crate::proofs::Words::ints, crate::proofs::SegmentEndLaws::begun_by))]
     fn reached_at(&self, second: i64, probes: &mut Probes) -> i64
         requires second { IsWide second }
         requires room { HasRoom probes.old }

@@ -3,13 +3,14 @@
 ghost use Rattle.std.specs.Prelude.{◌^◌, ◌↔◌, ◌<ℤ◌, ◌≤ℤ◌, ℤ, true, false};
 ghost use Rattle.{
   tz_info.specs.{HeldChanges.{span_held}, Leaps.{IsNear}, Zones.{TypeAt}, Spans.{IsSince, IsSpanAt, IsUntil}},
-  tz_info.specs.{Looks.{RoseByInstant}, Steps.{RisingCounts.{HasRoomFor}, Runs.{IsEndOfRun}}},
+  tz_info.specs.{Looks.{RoseByInstant}, Steps.Runs.{IsEndOfRun}},
+  tz_search.specs.RisingCounts.{HasRoomFor},
 };
 
 use crate::change::HeldSpan;
-use crate::timeline::Probes;
 use crate::zone::time_zone::TimeZone;
 use tz_base::LocalTimeType;
+use tz_search::Probes;
 
 impl TimeZone {
     // The type in force at a second that is near enough to have one.

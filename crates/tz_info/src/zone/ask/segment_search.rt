@@ -3,20 +3,20 @@
 ghost use Rattle.std.specs.Prelude.{◌≡◌, ◌↔◌, ◌<◌, ◌≤◌, ◌+◌, ◌^◌, length, IsTrue};
 ghost use Rattle.{
   naive_base.specs.Range.{IsWide},
-  tz_info.specs.{Counts.{RoseWithin}, Steps.RisingCounts.{HasRoomFor}},
   tz_info.specs.Steps.Segments.{begin_of, index_of},
   tz_info.specs.Steps.SegmentEnds.{end_of, AreEnds, IsFirstOf, IsFirstSegment, IsLatestEnd, IsReached},
-  tz_info.specs.{Looks.{digits}, Transitions.{NameTypes}},
+  tz_info.specs.Transitions.{NameTypes},
+  tz_search.specs.{Counts.{RoseWithin}, RisingCounts.{HasRoomFor}, Digits.{digits}},
 };
 
 use crate::answers::second_showing;
 use crate::change::HeldSecond;
-use crate::timeline::Probes;
 use crate::zone::lists::starts::cut_at;
 use crate::zone::made::change_table::ChangeTable;
 use crate::zone::made::index::Index;
 use crate::zone::made::segment_ends::later;
 use tz_base::LocalTimeType;
+use tz_search::Probes;
 
 // What a clock would show at the end of the segment before that place: later local times aren't
 // shown in it. One probe is counted.

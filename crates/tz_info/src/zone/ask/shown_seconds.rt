@@ -4,20 +4,20 @@
 ghost use Rattle.std.specs.Prelude.{◌≡◌, ◌≤◌, ◌+◌, ◌*◌, ◌^◌, ◌<ℤ◌, ◌+ℤ◌, ◌-ℤ◌, ◌*ℤ◌, if◌then◌else◌, length, pos, MatchOption};
 ghost use Rattle.{
   naive_base.specs.{NaiveDate.{day_of}, NaiveDateTime.{reading}, Range.{IsWide}},
-  tz_info.specs.{Counts.{HasRoom, RoseWithin}, Leaps.{IsNear}, Zones.{TypeAt}, Looks.{digits}},
+  tz_info.specs.{Leaps.{IsNear}, Zones.{TypeAt}},
   tz_info.specs.ShownSeconds.{AreShownWithin, IsFirstAtOrAfter, IsNeverWithin},
-  tz_info.specs.Steps.RisingCounts.{HasRoomFor},
   tz_info.specs.Steps.Runs.{AreWithin, HaveOneTypeFrom, IsEnd, IsEndOfRun, IsEndWithin, IsNextRun},
+  tz_search.specs.{Counts.{HasRoom, RoseWithin}, Digits.{digits}, RisingCounts.{HasRoomFor}},
 };
 
 use crate::answers::second_showing;
 use crate::change::{HeldSecond, TypedSecond};
-use crate::timeline::Probes;
 use crate::zone::ask::runs::{end_by, first_of_run, last_of_run, start_by};
 use crate::zone::ask::segment_search::{begin_of, first_of, first_reaching};
 use crate::zone::time_zone::TimeZone;
 use naive_base::{NaiveDate, NaiveDateTime, NaiveTime};
 use tz_base::LocalTimeType;
+use tz_search::Probes;
 
 /// The first and the last second at which clocks show a local time of a certain stretch, such as a
 /// day. If clocks are set back, some seconds between the two may show other local times.
@@ -59,7 +59,6 @@ impl TimeZone {
     /// midnight, they show the old date again after they have shown the new one.
     ///
     /// ```
-    /// let apia = TimeZone::from_tz_data(alloc, bytes)?;
     /// let skipped = apia.find_seconds_of_day(NaiveDate::from_ymd_opt(2011, 12, 30)?); // None: skipped
     /// let day = apia.find_seconds_of_day(NaiveDate::from_ymd_opt(2011, 12, 31)?)?;
     /// let at = day.first.at; // 1325239200: 2011-12-30 10:00:00 UTC
@@ -153,7 +152,7 @@ impl TimeZone {
 
     // The first second that shows a local time of the stretch, or the last one: goes from run to run
     // in that direction, until one has such a second.
-    #[tactic(auto, using(crate::proofs::SearchWords::ints))]
+    #[tactic(auto, using(crate::proofs::Words::ints))]
     fn end_within(&self, from: i64, until: i64, forward: bool) -> Option<HeldSecond<'_>>
         requires from { IsEnd from }
         requires until { IsEnd until }
@@ -190,7 +189,7 @@ impl TimeZone {
 
     // The first run of the interval, or the last one, and its type: the part that the interval has
     // of the span of its first second, or of its last one.
-    #[tactic(auto, using(crate::proofs::Fits::fits, crate::proofs::SearchWords::ints, crate::proofs::RunLaws::near_end))]
+    #[tactic(auto, using(crate::proofs::Fits::fits, crate::proofs::Words::ints, crate::proofs::RunLaws::near_end))]
     fn next_run(&self, left: Interval, forward: bool) -> (Interval, &LocalTimeType)
         requires low { IsNear left.low }
         requires high { IsNear left.high }

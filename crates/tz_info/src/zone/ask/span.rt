@@ -8,9 +8,9 @@ ghost use Rattle.std.specs.Prelude.{◌≡◌, ◌<◌, ◌<ℤ◌, ◌≤ℤ◌
 ghost use Rattle.tz_info.specs.{HeldChanges.{span_held}, Spans.{IsSpanAt}, Zones.{IsTypeError, TypeAt}};
 
 use crate::change::HeldSpan;
-use crate::timeline::Probes;
 use crate::zone::TimeZone;
 use tz_base::{Error, Span};
+use tz_search::Probes;
 
 impl TimeZone {
     /// Returns the span of the second of Unix time: the local time type in force, the second since
@@ -21,9 +21,9 @@ impl TimeZone {
     /// ```
     /// let zone = TimeZone::from_posix_tz(alloc, "EST5EDT,M3.2.0,M11.1.0")?;
     /// let span = zone.span_at(1_609_459_200)?;          // at 2021-01-01 00:00:00 UTC
-    /// let name = span.local_time_type.name();           // EST
-    /// let from = span.from;                             // 1604210400: 1 November, 06:00 UTC
-    /// let until = span.until;                           // 1615705200: 14 March, 07:00 UTC
+    /// let name = span.local_time_type.name();           // Some("EST")
+    /// let from = span.from;                             // Some(1604210400): 1 November, 06:00 UTC
+    /// let until = span.until;                           // Some(1615705200): 14 March, 07:00 UTC
     /// ```
     ///
     /// # Errors

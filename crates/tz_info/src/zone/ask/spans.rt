@@ -45,9 +45,9 @@ impl TimeZone {
     /// ```
     /// let zone = TimeZone::from_posix_tz(alloc, "EST5EDT,M3.2.0,M11.1.0")?;
     /// let mut spans = zone.spans(1_609_459_200);       // from 2021-01-01 00:00:00 UTC on
-    /// let winter = spans.next()?.until;                // 1615705200: 14 March, 07:00 UTC
-    /// let summer = spans.next()?.until;                // 1636264800: 7 November, 06:00 UTC
-    /// let again = spans.previous()?.from;              // 1615705200
+    /// let winter = spans.next()?.until;                // Some(1615705200): 14 March, 07:00 UTC
+    /// let summer = spans.next()?.until;                // Some(1636264800): 7 November, 06:00 UTC
+    /// let again = spans.previous()?.from;              // Some(1615705200)
     /// ```
     pub fn spans(&self, from: i64) -> Spans<'_>
         ensures { result ≡ record { zone = self.now; at = from } }

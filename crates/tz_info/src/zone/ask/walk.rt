@@ -5,17 +5,17 @@ ghost use Rattle.std.specs.{Prelude.{◌≡◌, ◌↔◌, ◌<◌, ◌≤◌, �
 ghost use Rattle.{
   naive_base.specs.{NaiveDateTime.{reading}, Range.{IsWide}},
   offset_core.specs.{LocalResult.{map_of}, WallAnswer.{IsWallAnswer}},
-  tz_info.specs.{Counts.{HasRoom, RoseWithin}, Steps.RisingCounts.{HasRoomFor}},
   tz_info.specs.Steps.{Segments.{begin_of, index_of}, Walk.{IsCandidate, IsShownIn, IsTimeWithin, IsTried}},
   tz_info.specs.{Looks.{RoseByWalk}, WallClocks.{Shows}, Zones.{TypeAt}, Questions.{IsAskedFor}},
+  tz_search.specs.{Counts.{HasRoom, RoseWithin}, RisingCounts.{HasRoomFor}},
 };
 
 use crate::answers::{joined, second_showing, types_copied};
-use crate::timeline::Probes;
-use crate::zone::{TimeZone, Transition};
+use crate::zone::TimeZone;
 use naive_base::NaiveDateTime;
 use offset_core::MappedLocalTime;
-use tz_base::{Error, LocalTimeType};
+use tz_base::{Error, LocalTimeType, Transition};
+use tz_search::Probes;
 
 impl TimeZone {
     /// As [`TimeZone::find_local_time_type_from_local_counted`], but with transition probes instead of

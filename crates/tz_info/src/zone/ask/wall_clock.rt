@@ -4,20 +4,20 @@ ghost use Rattle.std.specs.{Prelude.{◌≡◌, ◌<◌, ◌+◌, ◌*◌, lengt
 ghost use Rattle.{
   naive_base.specs.{NaiveDateTime.{reading}, Range.{IsWide}},
   offset_core.specs.{LocalResult.{map_of}, WallAnswer.{IsWallAnswer}},
-  tz_info.specs.{Counts.{HasRoom, RoseByPieces, RoseWithin}, Steps.RisingCounts.{HasRoomFor}},
   tz_info.specs.Steps.{Seasons.{IsSeasonIn}, Walk.{IsShownIn}, Pieces.{AreBelow, AreListed}},
   tz_info.specs.Steps.WallPieces.{shown_indexes, IsTableAnswer},
-  tz_info.specs.{Looks.{digits}, WallClocks.{Shows}, Zones.{TypeAt}, Looks.{RoseByWallClock}, Questions.{IsAskedFor}},
+  tz_info.specs.{WallClocks.{Shows}, Zones.{TypeAt}, Looks.{RoseByWallClock}, Questions.{IsAskedFor}},
+  tz_search.specs.{Counts.{HasRoom, RoseByPieces, RoseWithin}, RisingCounts.{HasRoomFor}, Digits.{digits}},
 };
 
 use crate::answers::{joined, types_copied};
 use crate::rule::{Season, TransitionRule};
-use crate::timeline::Probes;
 use crate::zone::made::shown::Shown;
 use crate::zone::time_zone::TimeZone;
 use naive_base::NaiveDateTime;
 use offset_core::MappedLocalTime;
 use tz_base::{Error, LocalTimeType};
+use tz_search::Probes;
 
 impl TimeZone {
     /// Returns the types in force at the instants at which a clock of this zone shows the local time.

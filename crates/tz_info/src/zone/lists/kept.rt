@@ -2,11 +2,11 @@
 
 ghost use Rattle.std.specs.Prelude.{◌≡◌, ◌<◌, ◌≤◌, length, MatchResult};
 
-use crate::timeline::{Probes, Timed};
-use crate::zone::lists::transition::{AsTransition, Transition};
 use std::alloc::{AllocError, Global};
 use std::fmt;
 use std::marker::Model;
+use tz_base::Transition;
+use tz_search::{Probes, Timed};
 
 // A transition, its time in two halves: a number of eight bytes would be followed by four more, so
 // that the next one begins at a multiple of eight.
@@ -19,7 +19,7 @@ pub(crate) struct Kept {
 
 impl Model for Kept {
     ghost use Rattle.std.specs.{Int.{cast_signed, w64}, Prelude.{◌+◌, ◌*◌}};
-    ghost use Rattle.tz_info.specs.declared.zone.lists.transition.Transition.{Transition};
+    ghost use Rattle.tz_base.specs.declared.transition.Transition.{Transition};
 
     ghost Value = { Transition };
 
@@ -70,6 +70,25 @@ impl Kept {
     }
 }
 
+// A transition, in one form or another.
+pub(crate) trait AsTransition {
+    ghost use Rattle.tz_base.specs.declared.transition.Transition.{Transition};
+
+    // what it says
+    ghost transition: { Self → Transition };
+
+    fn transition(&self) -> Transition
+        ensures { result ≡ transition self.now };
+}
+
+impl AsTransition for Transition {
+    ghost transition = { λ t. t };
+
+    fn transition(&self) -> Transition {
+        *self
+    }
+}
+
 // All of them as they are kept.
 pub(in crate::zone) fn all_kept(
     alloc: Global,
@@ -102,19 +121,19 @@ impl AsTransition for Kept {
 }
 
 impl Timed for Kept {
-    ghost use Rattle.tz_info.specs.Steps.RisingCounts.{reads_more, reads_more_on, reads_more_none, reads_more_looks};
+    ghost use Rattle.tz_search.specs.RisingCounts.{reads_more, reads_more_on, reads_more_none, reads_more_probed};
 
     ghost time = { λ k. k.unix_leap_time };
 
     ghost counted = { reads_more };
 
-    ghost looks = { λ c. c.reads };
+    ghost probed = { λ c. c.reads };
 
     ghost counts_up = { reads_more_on };
 
     ghost counts_none = { reads_more_none };
 
-    ghost counts_looks = { reads_more_looks };
+    ghost counts_probed = { reads_more_probed };
 
     #[inline(always)]
     fn second(&self) -> i64 {
@@ -122,7 +141,7 @@ impl Timed for Kept {
     }
 
     #[inline(always)]
-    fn count_look(probes: &mut Probes) {
+    fn count_probe(probes: &mut Probes) {
         probes.count_read();
     }
 }
@@ -135,7 +154,7 @@ impl fmt::Debug for Kept {
 
 impl PartialEq for Kept {
     ghost use Rattle.std.specs.Cmp.{partial_equiv_from_equiv};
-    ghost use Rattle.tz_info.specs.contracts.zone.lists.transition.TransitionEq.TheImpl.Laws.{laws-law};
+    ghost use Rattle.tz_base.specs.contracts.transition.TransitionEq.TheImpl.Laws.{laws-law};
 
     ghost eq = { ⟦<Transition as PartialEq>⟧.eq };
 

@@ -6,11 +6,10 @@ ghost use Rattle.{
   tz_info.specs.Steps.Starts.{IsLastWithLeapTime},
 };
 
-use crate::zone::lists::leap_second::LeapSecond;
 use crate::zone::lists::leap_time::{correction_after, passed_at};
 use std::alloc::Global;
 use std::marker::Model;
-use tz_base::{Error, Expected};
+use tz_base::{Error, Expected, LeapSecond};
 
 // The entries, and the last second of Unix time that has a leap time.
 #[derive(Drop)]
@@ -21,7 +20,8 @@ pub(in crate::zone) struct LeapSeconds {
 
 impl Model for LeapSeconds {
     ghost use Rattle.std.specs.Prelude.{List};
-    ghost use Rattle.tz_info.specs.{Leaps.{AreLeapSeconds}, declared.zone.lists.leap_second.LeapSecond.{LeapSecond}};
+    ghost use Rattle.tz_info.specs.Leaps.{AreLeapSeconds};
+    ghost use Rattle.tz_base.specs.declared.leap_second.LeapSecond.{LeapSecond};
     ghost use Rattle.tz_info.specs.Steps.Starts.{IsLastWithLeapTime};
 
     ghost Value = { List LeapSecond };
@@ -90,7 +90,7 @@ impl LeapSeconds {
 }
 
 // The last second that no entry refuses, or the last one of 64 bits.
-#[tactic(auto, using(crate::proofs::Fits::fits, crate::proofs::SearchWords::ints, crate::proofs::LeapStarts::since_epoch))]
+#[tactic(auto, using(crate::proofs::Fits::fits, crate::proofs::Words::ints, crate::proofs::LeapStarts::since_epoch))]
 fn last_with_leap_time(entries: &[LeapSecond]) -> i64
     requires { AreLeapSeconds entries.now }
     ensures { IsLastWithLeapTime entries.now result }

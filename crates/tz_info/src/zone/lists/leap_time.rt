@@ -7,8 +7,7 @@ ghost use Rattle.{
   tz_info.specs.{Steps.Starts.{AreBefore}, Lists.{last_else}},
 };
 
-use crate::zone::lists::leap_second::LeapSecond;
-use tz_base::{Error, Expected};
+use tz_base::{Error, Expected, LeapSecond};
 
 // How many entries are passed at the Unix time.
 pub(super) fn passed_at(entries: &[LeapSecond], unix_time: i64) -> usize
@@ -41,7 +40,7 @@ fn is_passed(entries: &[LeapSecond], place: usize, unix_time: i64) -> bool
 }
 
 // The correction after the first `count` entries.
-#[tactic(auto, using(crate::proofs::SearchWords::ints, crate::proofs::Prefixes::last_taken))]
+#[tactic(auto, using(crate::proofs::Words::ints, crate::proofs::Prefixes::last_taken))]
 pub(super) fn correction_after(entries: &[LeapSecond], count: usize) -> i32
     requires { count ≤ length entries.now }
     ensures { result ≡ last_else (pos 0) (corrections (take count entries.now)) }

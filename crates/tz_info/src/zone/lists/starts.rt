@@ -4,8 +4,8 @@ ghost use Rattle.std.specs.Int.{saturate_signed, w64};
 ghost use Rattle.std.specs.Prelude.{◌≡◌, ◌↔◌, ◌≤ℤ◌, ◌+ℤ◌, neg_ℤ, pos, ℤ, ◌<◌, ◌≤◌, ◌-◌, ◌<ℤ◌, length, slice_index_or, IsTrue};
 ghost use Rattle.tz_info.specs.{Leaps.{AreLeapSeconds, IsLeapTime}, Steps.Starts.{HaveCome}};
 
-use crate::zone::lists::leap_second::LeapSecond;
 use crate::zone::lists::leap_time::correction_after;
+use tz_base::LeapSecond;
 
 // The first second at which the leap time has come: also one that 64 bits don't hold. It is found without
 // a search if `near` entries have come by then. Then as many as have come are near.

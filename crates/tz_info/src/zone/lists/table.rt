@@ -2,17 +2,17 @@
 
 ghost use Rattle.std.specs.Prelude.{◌≡◌, ◌<◌, ◌≤◌, ◌+◌, [], length, option_map, slice_index_or, take, MatchResult};
 ghost use Rattle.{
-  tz_info.specs.{Counts.{RoseWithin}, Steps.RisingCounts.{HasRoomFor}, Looks.{digits}, Transitions.{passed, AreRising}},
-  tz_info.specs.Steps.{Entries.{IsEntryAt}, Search.{IsLastOf}},
+  tz_info.specs.Transitions.{passed, AreRising},
+  tz_info.specs.Steps.Entries.{IsEntryAt},
+  tz_search.specs.{Counts.{RoseWithin}, RisingCounts.{HasRoomFor}, Digits.{digits}, Search.{IsLastOf}},
 };
 
-use crate::timeline::{Passed, Probes, Timed, Timeline};
-use crate::zone::lists::kept::Kept;
-use crate::zone::lists::transition::{AsTransition, Transition};
+use crate::zone::lists::kept::{AsTransition, Kept};
 use std::alloc::Global;
 use std::fmt;
 use std::marker::Model;
-use tz_base::Error;
+use tz_base::{Error, Transition};
+use tz_search::{Passed, Probes, Timed, Timeline};
 
 // A transition: the indexes of the types before it and from it on, and when it comes.
 #[derive(Clone, Copy)]
@@ -30,7 +30,8 @@ pub(in crate::zone) struct Table {
 
 impl Model for Table {
     ghost use Rattle.std.specs.Prelude.{List};
-    ghost use Rattle.tz_info.specs.{Transitions.{AreRising}, declared.zone.lists.transition.Transition.{Transition}};
+    ghost use Rattle.tz_info.specs.Transitions.{AreRising};
+    ghost use Rattle.tz_base.specs.declared.transition.Transition.{Transition};
 
     ghost Value = { List Transition };
 
@@ -51,7 +52,7 @@ impl fmt::Debug for Table {
 impl PartialEq for Table {
     ghost use Rattle.std.proofs.lemmas.Cmp.{lists_equiv};
     ghost use Rattle.std.specs.{Cmp.{partial_equiv_from_equiv}, Cmp.Lexicographic.{pointwise}};
-    ghost use Rattle.tz_info.specs.contracts.zone.lists.transition.TransitionEq.TheImpl.Laws.{laws-law};
+    ghost use Rattle.tz_base.specs.contracts.transition.TransitionEq.TheImpl.Laws.{laws-law};
 
     ghost eq = { pointwise ⟦<Transition as PartialEq>⟧.eq };
 

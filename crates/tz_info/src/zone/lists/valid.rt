@@ -8,10 +8,9 @@ ghost use Rattle.{
 
 use crate::change::is_same_type;
 use crate::rule::TransitionRule;
-use crate::zone::lists::leap_second::LeapSecond;
+use crate::zone::lists::kept::AsTransition;
 use crate::zone::lists::leap_time::unix_time;
-use crate::zone::lists::transition::{AsTransition, Transition};
-use tz_base::{Error, Expected, LocalTimeType};
+use tz_base::{Error, Expected, LeapSecond, LocalTimeType, Transition};
 
 // Nothing if the lists make a zone, or else their first fault, in one pass over each.
 #[tactic(auto, using(crate::proofs::ListFaults::list_tests))]

@@ -11,7 +11,6 @@ ghost use Rattle.{
 
 use crate::change::is_same_type;
 use crate::rule::TransitionRule;
-use crate::timeline::Timed;
 use crate::zone::lists::kept::Kept;
 use crate::zone::lists::leap_seconds::LeapSeconds;
 use crate::zone::lists::starts::first_second;
@@ -19,6 +18,7 @@ use crate::zone::made::segments::ZoneLists;
 use std::alloc::{AllocError, Global};
 use std::marker::Model;
 use tz_base::{Error, LocalTimeType};
+use tz_search::Timed;
 
 // The transitions by Unix time, without those that change nothing. The last one is kept in any case,
 // since the rule begins there.

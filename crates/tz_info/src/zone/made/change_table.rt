@@ -3,23 +3,23 @@
 ghost use Rattle.std.specs.Prelude.{◌≡◌, ◌↔◌, ◌<◌, ◌≤◌, ◌+◌, ◌-◌, ◌^◌, ◌<ℤ◌, ◌≤ℤ◌, [], length, neg_ℤ, option_map, pos, IfSome, IsTrue};
 ghost use Rattle.std.specs.Prelude.{MatchOption, MatchResult};
 ghost use Rattle.{
-  tz_info.specs.{Counts.{HasRoom, RoseWithin}, Steps.RisingCounts.{HasRoomFor}, Looks.{digits}, HeldChanges.{change_held}},
+  tz_info.specs.HeldChanges.{change_held},
   tz_info.specs.Steps.Entries.{entry_time, most_looks, IsBetween, IsCome, IsEntryAt, IsEntryChange},
   tz_info.specs.Steps.{Segments.{index_of}, Pieces.{IsJump, IsPlaced}, WallPieces.{top_of, IsBegun}},
   tz_info.specs.Transitions.{passed, AreRising, NameTypes},
+  tz_search.specs.{Counts.{HasRoom, RoseWithin}, RisingCounts.{HasRoomFor}, Digits.{digits}},
 };
 
 use crate::change::HeldChange;
 use crate::rule::TransitionRule;
-use crate::timeline::Probes;
 use crate::zone::lists::kept::Kept;
 use crate::zone::lists::table::{Entry, Table};
-use crate::zone::lists::transition::Transition;
 use crate::zone::made::change_list::ChangeList;
 use crate::zone::made::shown::Shown;
 use std::alloc::Global;
 use std::marker::Model;
-use tz_base::{Error, LocalTimeType};
+use tz_base::{Error, LocalTimeType, Transition};
+use tz_search::Probes;
 
 // The transitions by Unix time, without those that change nothing, and the transitions as listed, if the
 // entries were made from them.
@@ -212,7 +212,7 @@ impl ChangeTable {
     }
 
     // The second from which the rule is asked: one that 64 bits don't hold, if it never is.
-    #[tactic(auto, using(crate::proofs::Fits::fits, crate::proofs::SearchWords::ints, crate::proofs::EntryChanges::begins))]
+    #[tactic(auto, using(crate::proofs::Fits::fits, crate::proofs::Words::ints, crate::proofs::EntryChanges::begins))]
     pub(in crate::zone) fn rule_begin(&self) -> i128
         requires rising { AreRising self.now.items }
         requires more { length self.now.items ≤ self.now.all }
@@ -349,7 +349,7 @@ impl ChangeTable {
     // The seconds between two entries that have the second, if one comes after it. If `near` entries have
     // come by then, it is found without a search.
     #[inline(always)]
-    #[tactic(auto, using(crate::proofs::SearchWords::ints, crate::proofs::EntryChanges::begin_at, crate::proofs::Fits::fits))]
+    #[tactic(auto, using(crate::proofs::Words::ints, crate::proofs::EntryChanges::begin_at, crate::proofs::Fits::fits))]
     pub(in crate::zone) fn between(
         &self,
         types: &[LocalTimeType],

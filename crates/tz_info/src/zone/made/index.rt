@@ -2,13 +2,12 @@
 
 ghost use Rattle.std.specs.Prelude.{◌≡◌, ◌<◌, ◌≤◌, ◌-◌, ◌^◌, length, slice_index_or, IfSome, MatchOption, MatchResult};
 ghost use Rattle.{
-  tz_info.specs.{Counts.{RoseByPieces, RoseWithin}, Steps.RisingCounts.{HasRoomFor}},
   tz_info.specs.Steps.{Entries.{as_listed, most_looks, AreEntries}, Pieces.{zone_in, ArePieces}},
   tz_info.specs.Steps.{WallPieces.{answer_at, top_of, IsCounted, IsIndex}, SegmentEnds.{AreEnds}},
   tz_info.specs.Zones.{IsValid},
+  tz_search.specs.{Counts.{RoseByPieces, RoseWithin}, RisingCounts.{HasRoomFor}},
 };
 
-use crate::timeline::{Probes, Timed, Timeline};
 use crate::zone::made::change_list::ChangeList;
 use crate::zone::made::one_pass::pieces_in_one_pass;
 use crate::zone::made::pieces::Piece;
@@ -18,6 +17,7 @@ use crate::zone::made::shown::Shown;
 use std::alloc::Global;
 use std::marker::Model;
 use tz_base::Error;
+use tz_search::{Probes, Timed, Timeline};
 
 // The pieces of a zone's wall-clock axis. A lookup can see one of them only by a counted probe.
 #[derive(Drop)]
@@ -45,19 +45,19 @@ impl Model for Index {
 }
 
 impl Timed for Piece {
-    ghost use Rattle.tz_info.specs.Steps.RisingCounts.{pieces_more, pieces_more_on, pieces_more_none, pieces_more_looks};
+    ghost use Rattle.tz_search.specs.RisingCounts.{pieces_more, pieces_more_on, pieces_more_none, pieces_more_probed};
 
     ghost time = { λ p. p.start };
 
     ghost counted = { pieces_more };
 
-    ghost looks = { λ c. c.piece_reads };
+    ghost probed = { λ c. c.piece_reads };
 
     ghost counts_up = { pieces_more_on };
 
     ghost counts_none = { pieces_more_none };
 
-    ghost counts_looks = { pieces_more_looks };
+    ghost counts_probed = { pieces_more_probed };
 
     #[inline(always)]
     fn second(&self) -> i64 {
@@ -65,7 +65,7 @@ impl Timed for Piece {
     }
 
     #[inline(always)]
-    fn count_look(probes: &mut Probes) {
+    fn count_probe(probes: &mut Probes) {
         probes.count_piece_read();
     }
 }

@@ -18,7 +18,7 @@ use tz_base::{Error, LocalTimeType};
 // axis after the one before it, since the two lie closer together than their offsets differ, or if one
 // before the last does not change the type.
 #[inline(never)]
-#[tactic(auto, using(crate::proofs::Fits::fits, crate::proofs::SearchWords::ints))]
+#[tactic(auto, using(crate::proofs::Fits::fits, crate::proofs::Words::ints))]
 pub(super) fn pieces_in_one_pass(
     alloc: Global,
     lists: ZoneLists,

@@ -7,7 +7,6 @@ ghost use Rattle.{
 };
 
 use crate::rule::TransitionRule;
-use crate::timeline::Timed;
 use crate::zone::lists::kept::Kept;
 use crate::zone::lists::leap_seconds::LeapSeconds;
 use crate::zone::lists::starts::cut_at;
@@ -15,6 +14,7 @@ use crate::zone::made::pieces::{Piece, merged};
 use crate::zone::made::shown::{Shown, together};
 use std::alloc::Global;
 use tz_base::{Error, LocalTimeType};
+use tz_search::Timed;
 
 // The lists of a zone, lent.
 #[derive(Clone, Copy)]

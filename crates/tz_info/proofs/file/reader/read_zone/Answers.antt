@@ -1,8 +1,5 @@
-use Rattle.tz_info.proofs.{
-  FilePieceLaws.{end_file, has_pieces},
-  TzFileLaws.{contents_fault, lists_fault, made_fault, made_found, pieces_fault},
-  Words.{arith, err_from_is_err_and},
-}
+use Rattle.tz_info.proofs.{TzFileLaws.{contents_fault, lists_fault, made_fault, made_found, pieces_fault}, Words.{arith, err_from_is_err_and}}
+use Rattle.tz_file.proofs.FilePieceLaws.{end_file, has_pieces}
 use Rattle.tz_info.proofs.file.reader.read_zone.Goals as goal
 
 pub returns-in_err-pieces-clause-fault : goal.returns-in_err-pieces-clause-fault

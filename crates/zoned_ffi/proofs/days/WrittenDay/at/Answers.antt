@@ -2,7 +2,7 @@ use Rattle.naive_base.specs.NaiveDate.{day_of}
 use Rattle.naive_plans.specs.{ClockSteps.{BeginsStep}, declared.clock_step.ClockStep.TheVariants.{Day}}
 use Rattle.zoned_ffi.{proofs.Words.{Fits64, ap, arith, ints, rules, subst, to_z-of_z, ◌∙◌}, specs.WholeSeconds.{IsNoDayAt}}
 use Rattle.zoned_ref.specs.TimeZoneRef.{off_of}
-use Rattle.zoned_time.specs.StepBounds.{AreStepBounds, IsStepOutOfRange}
+use Rattle.zoned_plans.specs.StepBounds.{AreStepBounds, IsStepOutOfRange}
 use Rattle.zoned_ffi.proofs.days.WrittenDay.at.Goals as goal
 
 pub returns-in_default : goal.returns-in_default

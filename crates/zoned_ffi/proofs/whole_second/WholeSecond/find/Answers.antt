@@ -1,7 +1,7 @@
 use Rattle.zoned_ffi.proofs.{WholeSeconds.{no_stamp}, Words.{Fits64, ap, arith, rules, subst, to_z-of_z}}
 use Rattle.zoned_ffi.specs.WholeSeconds.{IsFoundBy, IsNoneFoundBy, IsNotFound}
 use Rattle.zoned_ref.specs.TimeZoneRef.{off_of}
-use Rattle.zoned_time.specs.Fires.{second_before}
+use Rattle.zoned_plans.specs.Fires.{second_before}
 use Rattle.zoned_ffi.proofs.whole_second.WholeSecond.find.Goals as goal
 
 pub returns-in_default : goal.returns-in_default

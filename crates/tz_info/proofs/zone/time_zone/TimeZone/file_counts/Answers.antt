@@ -1,4 +1,5 @@
-use Rattle.tz_info.proofs.{FilePieceLaws.{counted, uncounted}, Words.{none-some, refl}}
+use Rattle.tz_file.proofs.FilePieceLaws.{counted, uncounted}
+use Rattle.tz_info.proofs.Words.{none-some, refl}
 use Rattle.tz_info.proofs.zone.time_zone.TimeZone.file_counts.Goals as goal
 
 pub returns-in-Ok : goal.returns-in-Ok

@@ -1,5 +1,4 @@
 use Rattle.tz_info.proofs.{
-  DigitLaws.digits-less,
   EntryChanges.{rose_less, rose_then},
   Fits.fits,
   SegmentEndLaws.{begun_near, first_there},
@@ -8,6 +7,7 @@ use Rattle.tz_info.proofs.{
   Words.{HasReach, IsRuleOrNone, IsValid, SFits, ap, arith, cases_eq, digits, digits-more, inl, inr, linear, rules, w64, ℕ, ◌*◌, ◌+◌, ◌<◌, ◌≤◌},
   zone.time_zone.TimeZone.first_at_or_after.Goals.After-first_reaching-place,
 }
+use Rattle.tz_search.proofs.DigitLaws.{digits-less}
 use Rattle.tz_info.specs.{Steps.Entries.AreEntries, Steps.SegmentEnds.IsFirstSegment}
 use Rattle.tz_info.proofs.zone.time_zone.TimeZone.first_at_or_after.Goals as goal
 

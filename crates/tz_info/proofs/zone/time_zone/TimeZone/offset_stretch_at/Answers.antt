@@ -1,15 +1,7 @@
-use Rattle.tz_info.proofs.{EntryChanges.{inside_between, stretch_between}, Fits.fits, Words.{SFits, linear, rules, w64}}
+use Rattle.tz_info.proofs.Fits.{fits}
 use Rattle.tz_info.proofs.zone.time_zone.TimeZone.offset_stretch_at.Goals as goal
 
-pub returns-in-Some : goal.returns-in-Some
-returns-in-Some c =
+pub returns-in-None-clause-at : goal.returns-in-None-clause-at
+returns-in-None-clause-at c =
     let fu = c.ranges.unix_time in
-    let table = c.change_table-changes.ensures in
-    let low : SFits w64 c.in-Some.between.from = search rules in
-    let high : SFits w64 c.in-Some.between.until = search rules in
-    let h = simp fits at c.in-Some.ensures.between in
-    let offset = c.offset.type_inv in
-    simp fits (record {
-      each = grind (linear, stretch_between);
-      at = inside_between _ _ _ _ table.list h fu;
-    })
+    simp fits at c.in-None.ensures.at

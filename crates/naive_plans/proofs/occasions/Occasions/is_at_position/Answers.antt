@@ -1,5 +1,0 @@
-use Rattle.naive_base.proofs.Words.{rules, to_z-of_z}
-use Rattle.naive_plans.proofs.occasions.Occasions.is_at_position.Goals as goal
-
-pub returns : goal.returns
-returns c = search (rules, to_z-of_z)

@@ -1,6 +1,0 @@
-use Rattle.naive_base.proofs.Words.{arith, to_z-of_z}
-use Rattle.naive_plans.proofs.RuleTimes.{next_later}
-use Rattle.naive_plans.proofs.recurrence.RecurrencePlan.next_after.Goals as goal
-
-pub returns-in-Some : goal.returns-in-Some
-returns-in-Some c = grind (arith, to_z-of_z, next_later)

@@ -1,6 +1,0 @@
-use Rattle.std.proofs.Common.{get_or, pos, ℕ, ◌<◌, ◌≡◌}
-use Rattle.naive_plans.specs.declared.rule.NthWeekday.{NthWeekday}
-use Rattle.naive_plans.proofs.recurrence.has_no_nth.Given as goal
-
-abbrev pub invariant-loop-entry : goal.invariant-loop-entry
-invariant-loop-entry l = (k : ℕ) (d : NthWeekday) → k < l.entry-index → (get_or l.list k d).nth ≡ pos 0

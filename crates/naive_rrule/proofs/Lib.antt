@@ -1,0 +1,10 @@
+mod RuleParts
+mod Periods
+mod OccasionWalk
+mod OccasionsBack
+mod RuleTimes
+mod Counted
+mod NthTimes
+mod Chains
+mod PeriodsOfDay
+mod Texts

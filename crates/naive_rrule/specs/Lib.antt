@@ -1,0 +1,5 @@
+pub mod RecurrenceRules
+pub mod AllowedRules
+pub mod RecurrenceSets
+pub mod RuleTexts
+pub mod Steps

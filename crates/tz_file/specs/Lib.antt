@@ -1,0 +1,5 @@
+pub mod FileHeaders
+pub mod FileBlocks
+pub mod FileContents
+pub mod FilePieces
+pub mod FileLists

@@ -1,5 +1,0 @@
-use Rattle.tz_info.proofs.SearchWords.{AreStepsUntil}
-use Rattle.tz_info.proofs.timeline.hints.most_between.Given as goal
-
-abbrev pub invariant-loop-i : goal.invariant-loop-i
-invariant-loop-i l = AreStepsUntil l.numbers l.most l.i

@@ -1,5 +1,0 @@
-use Rattle.tz_info.proofs.TrimLaws.{after_counted}
-use Rattle.tz_info.proofs.trims.after_space.Goals as goal
-
-pub returns : goal.returns
-returns c = after_counted _ _ c.trim_ascii_start.ensures.value

@@ -1,0 +1,5 @@
+pub mod Words
+pub mod Fits
+pub mod FirstItems
+pub mod DigitLaws
+pub mod SearchSteps

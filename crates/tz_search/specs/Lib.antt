@@ -1,0 +1,5 @@
+pub mod Counts
+pub mod RisingCounts
+pub mod Digits
+pub mod Search
+pub mod Steps

@@ -1,5 +1,0 @@
-use Rattle.zoned_time.proofs.StepTimes.{day_is_step}
-use Rattle.zoned_time.proofs.laws.steps.days_are_steps.Goals as goal
-
-pub returns : goal.returns
-returns c = day_is_step

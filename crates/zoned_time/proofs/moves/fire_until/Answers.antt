@@ -1,5 +1,0 @@
-use Rattle.zoned_time.proofs.{FireTimes.{usual_between}, Words.{arith}}
-use Rattle.zoned_time.proofs.moves.fire_until.Goals as goal
-
-pub returns : goal.returns
-returns g c = grind (arith, usual_between)
