@@ -6,7 +6,8 @@ whose only clause has no name: the clause is one of the function's `ensures`. A 
 by its trait, as `crate::module::Trait` {`ghost`}, or by its impl, as
 `crate::module::Trait<Argument> for Type` {`ghost`}, without the impl's parameters. The type's
 arguments may be left out. The module is a path of files below src/. The blocks of definitions in docs/PROVED.md are
-parts of crates/zoned/specs/Headline.antt.
+parts of crates/zoned/specs/Headline.antt. Each answer of crates/zoned/src/headline/calls.rt is that of the call whose name
+its field has, or of an operator, `default` or `from`.
 """
 import re
 import sys
@@ -15,6 +16,8 @@ from sources import TOP, block_end, text_of, without_comments
 
 DOCUMENTS = [*sorted(TOP.glob("*.md")), *sorted((TOP / "docs").glob("*.md")), *sorted(TOP.glob("crates/*/README.md"))]
 PROVED = TOP / "docs/PROVED.md"
+CALLS = TOP / "crates/zoned/src/headline/calls.rt"
+BY_TRAIT = {"eq", "sub", "sub_reference", "default_in_utc", "default_at_offset", "fixed_from_utc", "utc_from_fixed"}
 CITATION = re.compile(r"`((?:\w+::)+[^`\n]+)` \{([^}]*)\}")
 
 
@@ -84,10 +87,16 @@ def main():
     blocks = re.findall(r"(?ms)^```antt\n(.*?)^```$", text_of(PROVED))
     page = TOP / "crates/zoned/specs/Headline.antt"
     faults += [f"no part of {page.relative_to(TOP)}: {block.splitlines()[0]}" for block in blocks if block not in text_of(page)]
+    answers = re.findall(r"(?ms)^        (\w+): (.*?),$(?=\n        \w|\n    \})", text_of(CALLS))
+    faults += [
+        f"{CALLS.name}: {name} is no answer of a call of that name"
+        for name, value in answers
+        if name not in BY_TRAIT and not re.search(rf"(?i)\b{name}\(", value)
+    ]
     for fault in faults:
         print(fault)
-    if not CITATION.search(text_of(PROVED)) or not blocks:
-        faults.append("docs/PROVED.md cites no clause, or doesn't have the headline")
+    if not CITATION.search(text_of(PROVED)) or not blocks or not answers:
+        faults.append("docs/PROVED.md cites no clause, or doesn't have the headline, or there is no call")
         print(faults[-1])
     print(f"{len(citations)} citations, {len(faults)} faults")
     return 1 if faults else 0

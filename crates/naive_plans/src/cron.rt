@@ -30,7 +30,7 @@ use naive_base::{Datelike, NaiveDate, NaiveDateTime};
 /// cron.days[1] = true;
 /// cron.days[15] = true;
 /// cron.weekdays[5] = true;
-/// let next = cron.next_after(&sunday_noon)?; // after 2021-03-14 12:00:00: 2021-03-15 04:30:00
+/// let next = cron.next_after(&sunday_noon)?; // 2021-03-15 04:30:00, after noon of 2021-03-14
 /// ```
 #[derive(Clone, Copy, Debug)]
 pub struct Cron {

@@ -5,12 +5,12 @@ use Rattle.gregorian.specs.{Date.{IsDate, day_number}, Month.{days_in_month}, Ye
 use Rattle.naive_base.specs.{NaiveDateTime.{reading}, declared.weekday.Weekday.{Weekday}}
 use Rattle.naive_base.specs.declared.weekday.Weekday.TheVariants as days
 use Rattle.naive_rrule.specs.declared.rule.{RecurrenceRule.{RecurrenceRule}, Frequency.{Frequency, TheVariants.{Yearly, Monthly, Weekly, Daily, Hourly, Minutely, Secondly}}, NthWeekday.{NthWeekday}}
-use Rattle.naive_rrule.specs.declared.rule_text.{CalendarDay.{CalendarDay}, ClockTime.{ClockTime}, PartName.{PartName}, RuleEnd.{RuleEnd}, Expected.{Expected}, RuleTextError.{RuleTextError, TheVariants.{Syntax, OutOfMemory}}}
+use Rattle.naive_rrule.specs.declared.rule_text.{CalendarDay.{CalendarDay}, ClockTime.{ClockTime}, PartName.{PartName}, RuleEnd.{RuleEnd}, RuleExpected.{RuleExpected}, RuleTextError.{RuleTextError, TheVariants.{Syntax, OutOfMemory}}}
 use Rattle.naive_rrule.specs.declared.recurrence.RecurrenceEnd.{RecurrenceEnd}
 use Rattle.naive_rrule.specs.declared.recurrence.RecurrenceEnd.TheVariants as local_ends
 use Rattle.naive_rrule.specs.declared.rule_text.PartName.TheVariants as names
 use Rattle.naive_rrule.specs.declared.rule_text.RuleEnd.TheVariants as ends
-use Rattle.naive_rrule.specs.declared.rule_text.Expected.TheVariants as expected
+use Rattle.naive_rrule.specs.declared.rule_text.RuleExpected.TheVariants as expected
 
 -- ---- words
 -- the text is that word, in either case
@@ -173,8 +173,21 @@ pub record RuleParts : Type 0 where
   pub end : RuleEnd
 
 abbrev pub none : RuleParts
-none = record { frequency = None; interval = None; week_start = None; by_month = []; by_week_number = []; by_year_day = []; by_month_day = [];
-    by_weekday = []; by_hour = []; by_minute = []; by_second = []; by_set_position = []; end = ends.Never }
+none = record {
+  frequency = None;
+  interval = None;
+  week_start = None;
+  by_month = [];
+  by_week_number = [];
+  by_year_day = [];
+  by_month_day = [];
+  by_weekday = [];
+  by_hour = [];
+  by_minute = [];
+  by_second = [];
+  by_set_position = [];
+  end = ends.Never;
+}
 
 infixl 10 ◌>>=◌
 abbrev pub ◌>>=◌ : {X Y : Type 0} → Result X RuleTextError → (X → Result Y RuleTextError) → Result Y RuleTextError
@@ -182,7 +195,7 @@ abbrev pub ◌>>=◌ : {X Y : Type 0} → Result X RuleTextError → (X → Resu
 (Err e) >>= f = Err e
 
 -- the value, or a fault: what was expected at a position
-abbrev pub expect : {X : Type 0} → Option X → ℕ → Expected → Result X RuleTextError
+abbrev pub expect : {X : Type 0} → Option X → ℕ → RuleExpected → Result X RuleTextError
 expect (Some x) at e = Ok x
 expect None at e = Err (Syntax at e)
 
@@ -191,7 +204,7 @@ abbrev pub pieces : ℕ → List ℕ → List (List ℕ)
 pieces separator = slice_split (λ b. b == separator)
 
 -- a list, with entries behind it, of which the first begins at a position
-abbrev pub entries : {X : Type 0} → (List ℕ → Option X) → Expected → ℕ → List (List ℕ) → List X → Result (List X) RuleTextError
+abbrev pub entries : {X : Type 0} → (List ℕ → Option X) → RuleExpected → ℕ → List (List ℕ) → List X → Result (List X) RuleTextError
 entries item e at [] list = Ok list
 entries item e at (t ∷ ts) list = expect (item t) at e >>= λ x. entries item e (at + length t + 1) ts (list ++ x ∷ [])
 

@@ -12,9 +12,10 @@ mod positions;
 mod recurrence;
 mod rule;
 mod rule_periods;
+mod rule_print;
 mod rule_text;
 mod seconds;
 
 pub use recurrence::{Recurrence, RecurrenceEnd, RecurrenceError};
-pub use rule_text::{Expected, RuleText, RuleTextError};
 pub use rule::{Frequency, NthWeekday, RecurrenceRule};
+pub use rule_text::{RuleExpected, RuleText, RuleTextError};

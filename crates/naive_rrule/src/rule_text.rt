@@ -4,7 +4,6 @@ ghost use Rattle.std.specs.Char.{to_ascii_uppercase};
 ghost use Rattle.naive_base.specs.{NaiveDate.{day_of}, NaiveDateTime.{reading}, Range.{IsDayInRange, IsInRange}};
 ghost use Rattle.offset_core.specs.FixedOffset.{seconds_of};
 ghost use Rattle.naive_rrule.specs.RuleTexts as recur;
-ghost use Rattle.naive_rrule.specs.declared.rule_text.RuleTextError.TheVariants as errors;
 
 use crate::{Frequency, NthWeekday, RecurrenceEnd, RecurrenceRule};
 use naive_base::{NaiveDate, NaiveDateTime, Weekday};
@@ -103,9 +102,9 @@ impl RuleEnd {
     }
 }
 
-/// What was expected in a rule's text.
+/// What was expected at the fault of a rule's text.
 #[derive(Clone, Copy, PartialEq, Eq, Debug, Error)]
-pub enum Expected {
+pub enum RuleExpected {
     #[error("the name of a part")]
     PartName,
     #[error("a part that isn't there yet")]
@@ -132,11 +131,11 @@ pub enum RuleTextError {
     OutOfMemory,
     /// What was expected, and the number of bytes in front of it.
     #[error("at byte {0}: expected {1}")]
-    Syntax(usize, Expected),
+    Syntax(usize, RuleExpected),
 }
 
 // The value, or a fault: what was expected at a position.
-fn expect<T: Drop>(value: Option<T>, at: usize, expected: Expected) -> Result<T, RuleTextError>
+fn expect<T: Drop>(value: Option<T>, at: usize, expected: RuleExpected) -> Result<T, RuleTextError>
     ensures { result ≡ recur.expect value at expected }
 {
     match value {
@@ -199,7 +198,11 @@ fn with_digit(value: u32, byte: u8, most: u32) -> Option<u32>
         return None;
     }
     let more = value as u64 * 10 + (byte - b'0') as u64;
-    if more > most as u64 { None } else { Some(more as u32) }
+    if more > most as u64 {
+        None
+    } else {
+        Some(more as u32)
+    }
 }
 
 // A number with or without a sign.
@@ -214,7 +217,7 @@ fn signed(bytes: &[u8], digits: usize) -> Option<i32>
 }
 
 // A value that has a word.
-trait Word: Copy + Drop {
+pub(crate) trait Word: Copy + Drop {
     ghost spelling: { Self → List ℕ };
 
     fn word(&self) -> &'static str
@@ -403,7 +406,7 @@ fn list<T: Entry>(
     alloc: Global,
     bytes: &[u8],
     digits: usize,
-    expected: Expected,
+    expected: RuleExpected,
     at: usize,
 ) -> Result<Vec<T>, RuleTextError>
     requires { at + length bytes.now < 2 ^ 63 }
@@ -451,7 +454,11 @@ fn time(bytes: &[u8]) -> Option<ClockTime>
     let hour = number(&bytes[9..11], 2, 23)?;
     let minute = number(&bytes[11..13], 2, 59)?;
     let second = number(&bytes[13..15], 2, 59)?;
-    Some(ClockTime { hour, minute, second })
+    Some(ClockTime {
+        hour,
+        minute,
+        second,
+    })
 }
 
 fn is_letter(byte: u8, letter: u8) -> bool
@@ -480,25 +487,29 @@ fn until(bytes: &[u8]) -> Option<RuleEnd>
 fn count(bytes: &[u8], at: usize) -> Result<u32, RuleTextError>
     ensures { result ≡ recur.count at bytes.now }
 {
-    expect(number(bytes, bytes.len(), u32::MAX), at, Expected::Number)
+    expect(
+        number(bytes, bytes.len(), u32::MAX),
+        at,
+        RuleExpected::Number,
+    )
 }
 
 // The parts that a text has.
 #[derive(Drop)]
-struct Parts {
-    frequency: Option<Frequency>,
-    interval: Option<u32>,
-    week_start: Option<Weekday>,
-    by_month: Vec<u32>,
-    by_week_number: Vec<i32>,
-    by_year_day: Vec<i32>,
-    by_month_day: Vec<i32>,
-    by_weekday: Vec<NthWeekday>,
-    by_hour: Vec<u32>,
-    by_minute: Vec<u32>,
-    by_second: Vec<u32>,
-    by_set_position: Vec<i32>,
-    end: RuleEnd,
+pub(crate) struct Parts {
+    pub(crate) frequency: Option<Frequency>,
+    pub(crate) interval: Option<u32>,
+    pub(crate) week_start: Option<Weekday>,
+    pub(crate) by_month: Vec<u32>,
+    pub(crate) by_week_number: Vec<i32>,
+    pub(crate) by_year_day: Vec<i32>,
+    pub(crate) by_month_day: Vec<i32>,
+    pub(crate) by_weekday: Vec<NthWeekday>,
+    pub(crate) by_hour: Vec<u32>,
+    pub(crate) by_minute: Vec<u32>,
+    pub(crate) by_second: Vec<u32>,
+    pub(crate) by_set_position: Vec<i32>,
+    pub(crate) end: RuleEnd,
 }
 
 impl Model for Parts {
@@ -507,19 +518,19 @@ impl Model for Parts {
     ghost Value = { RuleParts };
 
     ghost view = { λ p. record {
-        frequency = p.frequency;
-        interval = p.interval;
-        week_start = p.week_start;
-        by_month = p.by_month.items;
-        by_week_number = p.by_week_number.items;
-        by_year_day = p.by_year_day.items;
-        by_month_day = p.by_month_day.items;
-        by_weekday = p.by_weekday.items;
-        by_hour = p.by_hour.items;
-        by_minute = p.by_minute.items;
-        by_second = p.by_second.items;
-        by_set_position = p.by_set_position.items;
-        end = p.end;
+      frequency = p.frequency;
+      interval = p.interval;
+      week_start = p.week_start;
+      by_month = p.by_month.items;
+      by_week_number = p.by_week_number.items;
+      by_year_day = p.by_year_day.items;
+      by_month_day = p.by_month_day.items;
+      by_weekday = p.by_weekday.items;
+      by_hour = p.by_hour.items;
+      by_minute = p.by_minute.items;
+      by_second = p.by_second.items;
+      by_set_position = p.by_set_position.items;
+      end = p.end;
     } };
 
     ghost invariant = { λ p. IsEnd p.end };
@@ -579,7 +590,7 @@ impl Parts {
     {
         match name {
             PartName::Freq => {
-                self.frequency = Some(expect(frequency(bytes), at, Expected::Frequency)?);
+                self.frequency = Some(expect(frequency(bytes), at, RuleExpected::Frequency)?);
                 Ok(())
             }
             PartName::Interval => {
@@ -591,47 +602,47 @@ impl Parts {
                 Ok(())
             }
             PartName::Until => {
-                self.end = expect(until(bytes), at, Expected::DateOrDateTime)?;
+                self.end = expect(until(bytes), at, RuleExpected::DateOrDateTime)?;
                 Ok(())
             }
             PartName::Wkst => {
-                self.week_start = Some(expect(weekday(bytes), at, Expected::Weekday)?);
+                self.week_start = Some(expect(weekday(bytes), at, RuleExpected::Weekday)?);
                 Ok(())
             }
             PartName::ByMonth => {
-                self.by_month = list(alloc, bytes, 2, Expected::Number, at)?;
+                self.by_month = list(alloc, bytes, 2, RuleExpected::Number, at)?;
                 Ok(())
             }
             PartName::ByWeekNo => {
-                self.by_week_number = list(alloc, bytes, 2, Expected::Number, at)?;
+                self.by_week_number = list(alloc, bytes, 2, RuleExpected::Number, at)?;
                 Ok(())
             }
             PartName::ByYearDay => {
-                self.by_year_day = list(alloc, bytes, 3, Expected::Number, at)?;
+                self.by_year_day = list(alloc, bytes, 3, RuleExpected::Number, at)?;
                 Ok(())
             }
             PartName::ByMonthDay => {
-                self.by_month_day = list(alloc, bytes, 2, Expected::Number, at)?;
+                self.by_month_day = list(alloc, bytes, 2, RuleExpected::Number, at)?;
                 Ok(())
             }
             PartName::ByDay => {
-                self.by_weekday = list(alloc, bytes, 2, Expected::Weekday, at)?;
+                self.by_weekday = list(alloc, bytes, 2, RuleExpected::Weekday, at)?;
                 Ok(())
             }
             PartName::ByHour => {
-                self.by_hour = list(alloc, bytes, 2, Expected::Number, at)?;
+                self.by_hour = list(alloc, bytes, 2, RuleExpected::Number, at)?;
                 Ok(())
             }
             PartName::ByMinute => {
-                self.by_minute = list(alloc, bytes, 2, Expected::Number, at)?;
+                self.by_minute = list(alloc, bytes, 2, RuleExpected::Number, at)?;
                 Ok(())
             }
             PartName::BySecond => {
-                self.by_second = list(alloc, bytes, 2, Expected::Number, at)?;
+                self.by_second = list(alloc, bytes, 2, RuleExpected::Number, at)?;
                 Ok(())
             }
             PartName::BySetPos => {
-                self.by_set_position = list(alloc, bytes, 3, Expected::Number, at)?;
+                self.by_set_position = list(alloc, bytes, 3, RuleExpected::Number, at)?;
                 Ok(())
             }
         }
@@ -644,12 +655,12 @@ impl Parts {
         ensures { recur.IsRead (λ _. self.new) result (recur.with_part at part.now self.old) }
     {
         let (front, after) = cut(part, b'=');
-        let name = expect(part_name(front), at, Expected::PartName)?;
+        let name = expect(part_name(front), at, RuleExpected::PartName)?;
         if self.has(name) {
-            return Err(RuleTextError::Syntax(at, Expected::OtherPart));
+            return Err(RuleTextError::Syntax(at, RuleExpected::OtherPart));
         }
         let Some(value) = after else {
-            return Err(RuleTextError::Syntax(at + part.len(), Expected::EqualsSign));
+            return Err(RuleTextError::Syntax(at + part.len(), RuleExpected::EqualsSign));
         };
         self.set(alloc, name, value, at + front.len() + 1)
     }
@@ -675,11 +686,19 @@ fn read_parts(alloc: Global, bytes: &[u8]) -> Result<Parts, RuleTextError>
     }
 }
 
-/// A rule of RFC 5545 and its end, read from text. It owns its lists.
+/// A rule of RFC 5545 and its end, read from the text of a `RECUR` value (section 3.3.10). It owns its
+/// lists, and prints as the RFC writes it.
+///
+/// ```
+/// // from 2024-01-01 09:00:00 on: the last Friday of each month
+/// let rule = RuleText::parse(alloc, "FREQ=MONTHLY;BYDAY=-1FR")?;
+/// let plan = Recurrence::new(rule.rule(), start, rule.end(offset))?;
+/// let first = plan.next_after(&start); // Some(2024-01-26 09:00:00)
+/// ```
 #[derive(Drop)]
 pub struct RuleText {
-    frequency: Frequency,
-    parts: Parts,
+    pub(crate) frequency: Frequency,
+    pub(crate) parts: Parts,
 }
 
 impl Model for RuleText {
@@ -694,18 +713,27 @@ impl Model for RuleText {
 }
 
 impl RuleText {
-    /// Returns the rule that a text spells.
+    /// Returns the rule that a text spells: parts such as `FREQ=MONTHLY`, with semicolons between, in
+    /// any order, each at most once. Letters may be in either case. [`Recurrence::new`](crate::Recurrence::new)
+    /// checks whether the RFC allows the rule.
+    ///
+    /// # Errors
+    ///
+    /// [`RuleTextError::Syntax`] with the position of the first fault, in bytes, and what was expected
+    /// there: that of the part, of its value or of the entry of its list, or the end of the text if `FREQ`
+    /// is missing. [`RuleTextError::OutOfMemory`] only after an allocation failed.
     pub fn parse(alloc: Global, rule: &str) -> Result<RuleText, RuleTextError>
         ensures { recur.IsRead (λ r. r) result (recur.rule_of rule.now) }
     {
         let parts = read_parts(alloc, rule.as_bytes())?;
         match parts.frequency {
             Some(frequency) => Ok(RuleText { frequency, parts }),
-            None => Err(RuleTextError::Syntax(rule.len(), Expected::FrequencyPart)),
+            None => Err(RuleTextError::Syntax(rule.len(), RuleExpected::FrequencyPart)),
         }
     }
 
-    /// Returns its parts but `COUNT` and `UNTIL`, with the defaults of those that it doesn't have.
+    /// Returns its parts but `COUNT` and `UNTIL`. `INTERVAL` is 1 and weeks begin on Monday if the text
+    /// doesn't say it.
     pub fn rule(&self) -> RecurrenceRule<'_>
         ensures { recur.IsRuleOf self.now result }
     {
@@ -725,8 +753,8 @@ impl RuleText {
         }
     }
 
-    /// Returns its end as a local time. `offset` is that of the clocks at an `UNTIL` in UTC
-    /// ([`RuleText::until_utc`]); any other end needs none.
+    /// Returns its end. An `UNTIL` in UTC is what clocks at that offset show then: look it up at
+    /// [`RuleText::until_utc`]. Other ends don't depend on it. A date lets its whole day through.
     pub fn end(&self, offset: FixedOffset) -> RecurrenceEnd
         ensures { recur.IsLocalEnd self.now.end (seconds_of offset) result }
     {

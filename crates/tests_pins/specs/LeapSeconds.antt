@@ -7,6 +7,10 @@ use Rattle.tz_base.specs.declared.leap_second.LeapSecond.{LeapSecond}
 abbrev pub entry : ℤ → ℕ → LeapSecond
 entry time correction = record { unix_leap_time = time; correction = pos correction }
 
+-- a second inserted, another one 28 days later, and one left out after 28 days more
+abbrev pub back_and_forth : List LeapSecond
+back_and_forth = entry (pos 0) 1 ∷ entry (pos 2_419_199) 2 ∷ entry (pos 4_838_398) 1 ∷ []
+
 -- the times at which they are inserted, leap seconds counted, and how many there are from then on
 abbrev pub utc_leaps : List LeapSecond
 utc_leaps =

@@ -1,9 +1,9 @@
 //! The 27 leap seconds of UTC from 1972 to 2016: leap times count them, Unix times don't.
 
-ghost use Rattle.std.specs.Prelude.{◌≡◌, [], ◌∷◌, map, pos, neg_ℤ, ◌*ℤ◌};
+ghost use Rattle.std.specs.Prelude.{◌≡◌, [], ◌∷◌, map, pos, neg_ℤ, ◌*ℤ◌, ℤ};
 ghost use Rattle.{
-  tests_pins.specs.LeapSeconds.{utc_leaps, days_after, entry},
-  tz_info.specs.Leaps.{AreLeapSeconds, IsLeapTime, IsNear, IsUnixTime, thresholds},
+  tests_pins.specs.LeapSeconds.{back_and_forth, utc_leaps, days_after, entry},
+  tz_info.specs.Leaps.{AreLeapSeconds, IsLeapTime, IsLeapTimeRefused, IsNear, IsUnixTime, thresholds},
 };
 
 /// They may be a zone's, and each ends with a month: at midnight of UTC.
@@ -23,6 +23,8 @@ pub fn limits()
     ensures two_at_once { ¬ (AreLeapSeconds (entry (pos 78_796_800) 2 ∷ [])) }
     ensures two_more { ¬ (AreLeapSeconds
         (entry (pos 78_796_800) 1 ∷ entry (pos 94_694_401) 3 ∷ [])) }
+    ensures none_more { ¬ (AreLeapSeconds
+        (entry (pos 78_796_800) 1 ∷ entry (pos 94_694_401) 1 ∷ [])) }
     ensures taken_away { AreLeapSeconds (record {
       unix_leap_time = pos 78_796_800;
       correction = neg_ℤ (pos 1);
@@ -42,6 +44,15 @@ pub fn leap_times()
     ensures second { IsLeapTime utc_leaps (pos 94_694_400) (pos 94_694_402) }
     ensures before_last { IsLeapTime utc_leaps (pos 1_483_228_799) (pos 1_483_228_825) }
     ensures last { IsLeapTime utc_leaps (pos 1_483_228_800) (pos 1_483_228_827) }
+{}
+
+/// With the corrections 1, 2 and 1 the second before the last of 64 bits has no leap time, since the
+/// second correction leads out of 64 bits. The second before that has one.
+pub fn leap_times_of_64_bits()
+    ensures leaves { (x : ℤ) → ¬ (IsLeapTime back_and_forth (pos 9_223_372_036_854_775_806) x) }
+    ensures refused { IsLeapTimeRefused back_and_forth (pos 9_223_372_036_854_775_806) }
+    ensures fits { IsLeapTime back_and_forth (pos 9_223_372_036_854_775_805)
+        (pos 9_223_372_036_854_775_806) }
 {}
 
 /// Seconds to 10^13 before 1970 and after it are near enough to have leap times.

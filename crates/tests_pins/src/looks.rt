@@ -1,10 +1,10 @@
 //! How many probes a lookup may take.
 #![tactic(auto, unfolding(crate::proofs::Computed::binary))]
 
-ghost use Rattle.std.specs.Prelude.{◌≡◌};
+ghost use Rattle.std.specs.Prelude.{◌≡◌, neg_ℤ, pos};
 ghost use Rattle.{
   tests_pins.specs.{Looks.{looks}, Zones.{honolulu, hst10}},
-  tz_info.specs.Looks.{RoseByInstant, RoseByWallClock},
+  tz_info.specs.{Looks.{RoseByInstant, RoseByWallClock}, Windows.{IsWindowCount}},
   tz_search.specs.Digits.{digits},
 };
 
@@ -36,4 +36,12 @@ pub fn by_wall_clock()
     ensures none { ¬ (RoseByWallClock (honolulu hst10) (looks 0 0 0) (looks 0 0 0)) }
     ensures three_questions { ¬ (RoseByWallClock (honolulu hst10) (looks 0 0 0) (looks 0 3 4)) }
     ensures transitions { ¬ (RoseByWallClock (honolulu hst10) (looks 0 0 0) (looks 1 0 4)) }
+{}
+
+/// Honolulu's clocks were set forward by half an hour at 1947-06-08 02:00:00, its last transition. At that
+/// local time it is the only one that comes near: the others are years away.
+pub fn window()
+    ensures one { IsWindowCount (honolulu hst10) (neg_ℤ (pos 712_188_000)) 1 }
+    ensures none { ¬ (IsWindowCount (honolulu hst10) (neg_ℤ (pos 712_188_000)) 0) }
+    ensures all { ¬ (IsWindowCount (honolulu hst10) (neg_ℤ (pos 712_188_000)) 7) }
 {}

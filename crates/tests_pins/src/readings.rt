@@ -1,10 +1,21 @@
 //! Local date-times in a leap second: moves and differences, as chrono's documentation gives them.
 
-ghost use Rattle.std.specs.Prelude.{◌≡◌, ◌<◌, neg_ℤ, pos};
+ghost use Rattle.std.specs.Prelude.{◌≡◌, ◌≢◌, ◌<◌, neg_ℤ, pos};
 ghost use Rattle.{
-  naive_base.specs.{Clock.{clock_second, IsFraction}, Reading.{difference, moved, IsEarlier, Reading}},
+  naive_base.specs.{NaiveDateTime.{reading}, Clock.{clock_second, IsFraction}, Reading.{difference, moved, IsEarlier, Reading}},
   tests_pins.specs.Readings.{clock_reading},
 };
+
+use naive_base::NaiveDateTime;
+
+/// What a `NaiveDateTime` shows: 86400 seconds after 1970-01-01 00:00:00 and 5 nanoseconds. It is no
+/// second or nanosecond more.
+pub fn shown()
+    ensures is { (d : NaiveDateTime) → d.secs ≡ pos 86_400 → d.frac ≡ 5
+        → reading d ≡ record { s = pos 86_400; f = 5 } }
+    ensures second { (d : NaiveDateTime) → d.secs ≡ pos 86_400 → (reading d).s ≢ pos 86_401 }
+    ensures nanosecond { (d : NaiveDateTime) → d.frac ≡ 5 → (reading d).f ≢ 6 }
+{}
 
 /// Nothing moves nothing, not the first or last nanosecond of a leap second either.
 pub fn none()

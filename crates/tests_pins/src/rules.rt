@@ -1,11 +1,11 @@
 //! The days of rules, and New York's clocks in 2021 by `EST5EDT,M3.2.0,M11.1.0` (POSIX.1 section
 //! 8.3).
 
-ghost use Rattle.std.specs.Prelude.{◌≡◌, neg_ℤ, pos};
+ghost use Rattle.std.specs.Prelude.{◌≡◌, false, neg_ℤ, pos, true, ℤ};
 ghost use Rattle.{
   naive_base.specs.Date.{day_number},
   tests_pins.specs.NewYork.{edt, est, new_york, new_york_rule},
-  tz_info.specs.{Moments.{end_in, start_in, IsRuleYear, IsYearOf}, RuleTypes.{IsRuleRefused, RuleAt}},
+  tz_info.specs.{Moments.{end_in, start_in, IsDstAt, IsRuleYear, IsYearOf}, RuleTypes.{IsRuleRefused, RuleAt}},
   tz_info.specs.{RuleDayOf.{rule_day}, RuleDays.{IsDayOf, IsRuleDay}, Rules.{IsWithinWeek}},
 };
 
@@ -78,6 +78,12 @@ pub fn types()
     ensures start { RuleAt new_york_rule (pos 1_615_705_200) edt }
     ensures before_end { RuleAt new_york_rule (pos 1_636_264_799) edt }
     ensures end { RuleAt new_york_rule (pos 1_636_264_800) est }
+{}
+
+/// Daylight saving time that starts and ends at one moment of each year is never in force.
+pub fn start_at_end()
+    ensures standard { (moments : ℤ → ℤ) (year u : ℤ) → IsDstAt moments moments year u false }
+    ensures not_dst { (moments : ℤ → ℤ) (year u : ℤ) → ¬ (IsDstAt moments moments year u true) }
 {}
 
 /// A rule answers in the years of 32 bits except two at each end, and not a second before or after.

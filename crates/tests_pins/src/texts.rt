@@ -148,11 +148,13 @@ pub fn clocks()
     ensures small_letters { (extended : Bool) → IsTzText extended (codes "foo5") small }
 {}
 
-/// These spell no rule: a second 60; bytes after a rule; days, months, weeks and weekdays above
+/// These spell no rule: a second 60; an offset that is left out and would be a day; bytes after a rule; days, months, weeks and weekdays above
 /// their limits; names of eight bytes, and with other bytes.
 pub fn no_rules()
     ensures second_60 { (extended : Bool) (r : TransitionRule)
         → ¬ (IsTzText extended (codes "FOO5:00:60") r) }
+    ensures left_out { (extended : Bool) (r : TransitionRule)
+        → ¬ (IsTzText extended (codes "FOO-23BAR,J1,J2") r) }
     ensures left_over { (extended : Bool) (r : TransitionRule)
         → ¬ (IsTzText extended (codes "FOO5BAR,J1,J2,J3") r) }
     ensures julian_366 { (extended : Bool) (r : TransitionRule)

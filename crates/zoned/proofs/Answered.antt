@@ -1,6 +1,5 @@
 -- Answers in the one thing that bytes spell.
 use Rattle.std.proofs.Common.{Err, Ok, Result, inl, ◌⊎◌}
-use Rattle.std.specs.Result.{IsOkAnd}
 use Rattle.tz_base.specs.{declared.error.Error.{Error, TheVariants.{OutOfMemory}}, Errors.{IsOutOfMemory}}
 use Rattle.tz_file.specs.FilePieces.{FilePieces, HasPieces}
 use Rattle.tz_info.specs.{PosixZones.{IsPosixFault, IsPosixZone}, TzFiles.{In_file, IsFileFault, IsZoneFault, No_memory}}
@@ -21,10 +20,6 @@ module _ {Z A : Type 0} (spells : Z → Type 0) (fault : Error → Type 0) (answ
     spelled = λ y t. subst (λ k. answers k a) (one z y s t) h;
     faulty = λ e f. not_both z e s f;
   }
-
-  pub answered_ok : (z : Z) (r : Result A Error) → spells z → IsOkAnd r (answers z) → IsAnswerOf spells fault answers whole r
-  answered_ok z (Ok a) s h = answered z a s h
-  answered_ok z (Err e) s h = absurd h
 
   pub refused : (e : Error) → (fault e ⊎ ((e ≡ OutOfMemory) × whole)) → IsAnswerOf spells fault answers whole (Err e)
   refused e h = record {

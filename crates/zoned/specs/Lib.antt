@@ -42,6 +42,8 @@ pub use Rattle.naive_plans.specs.PlanSets
 pub use Rattle.naive_rrule.specs.RecurrenceRules
 pub use Rattle.naive_rrule.specs.AllowedRules
 pub use Rattle.naive_rrule.specs.RecurrenceSets
+pub use Rattle.naive_rrule.specs.RuleTexts
+pub use Rattle.naive_rrule.specs.RulePrints
 pub use Rattle.tz_base.specs.Errors
 pub use Rattle.tz_base.specs.Names
 pub use Rattle.tz_base.specs.LocalTypes

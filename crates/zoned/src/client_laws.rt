@@ -3,28 +3,26 @@
 //! its statement available in the caller's proof, and does nothing when it runs.
 ghost use Rattle.std.specs.Prelude.{◌≡◌, ◌≢◌, ◌⊎◌, ◌<ℤ◌, ◌≤ℤ◌, ◌+ℤ◌, ◌-ℤ◌, ◌∷◌, [], pos, List, MatchOption, Option, ℕ, ℤ};
 ghost use Rattle.{
-  naive_base.specs.{NaiveDateTime.{reading}, Range.{last_second, IsInRange}, Reading.{total, Reading}},
+  naive_base.specs.{NaiveDate.{day_of}, NaiveDateTime.{reading}, Range.{last_second, IsInRange}},
+  naive_base.specs.Reading.{total, IsEarlier, Reading},
   offset_core.specs.{LocalResult.{map_of}, WallAnswer.{IsNeverShown, IsWallAnswer}, TimeDelta.{nanos_of}},
   tz_info.specs.{Changes.{AreChanges, IsFirst}, Zones.{TypeAt, Zone}},
   zoned.specs.Headline.{IsFromFirstToLast},
   zoned_ref.specs.ZoneChange.{IsAfter},
   zoned_round.specs.{Durations.{IsRoundedTo}, Laws.{IsMultiple}, Multiples.{multiple_below, IsItselfOr}},
-  zoned_time.specs.{Choice.{IsResolved}, Relocal.{IsRelocal}, Zone.{Each, ShowsByOffset}},
+  zoned_time.specs.{Choice.{IsResolved}, Days.{midnight, IsZonedAtOrAfter}, Relocal.{IsRelocal}, Zone.{Each, ShowsByOffset}},
   zoned_time.specs.{DateTime.{home_law_of, wall_of, zoned, IsDaysAdded, IsIn}, Zoned.{in_seconds, IsAt}},
 };
 
 use crate::{
-    Choice, DateTime, DurationRound, LocalResult, NaiveDateTime, Offset, TimeDelta, TimeZone,
+    Choice, DateTime, DurationRound, LocalResult, NaiveDate, NaiveDateTime, Offset, TimeDelta,
+    TimeZone, ZoneDays,
 };
-pub use naive_base::laws::lengths_add;
 use tz_base::Change;
 pub use zoned_ref::laws::one_change;
-pub use zoned_round::laws::one_rounded_value;
-pub use zoned_series::laws::one_item;
-pub use zoned_time::laws::days::{dates_in_days, days_partition, first_instants};
+pub use zoned_time::laws::days::{days_partition, first_instants};
 pub use zoned_time::laws::{
     earlier_is_less, in_zone_after_move, in_zone_at_time, in_zone_on_day, local_times_come_back,
-    one_offset_before_gap, one_relocal, one_resolution, resolution_decided,
 };
 
 /// Two instants that one policy selects for one local time are the same, at offsets of the same seconds.
@@ -185,6 +183,26 @@ pub fn in_zone_after_digits<Tz: TimeZone>(zone: &Tz, before: &DateTime<Tz>, afte
         (λ e. IsAt (home_law_of Tz.meaning before.now) r (zoned e))
         before.now after.now }
     ensures { IsIn (Tz.law zone.now) after.now }
+{}
+
+/// Days start in the order of their dates: that of a later date starts no earlier. Both start at once if
+/// clocks were set forward over the days between.
+///
+/// ```
+/// let start = zone.start_of_day(date)?;
+/// let end = zone.start_of_day(later)?;
+/// client_laws::days_rise(&zone, date, later, &start, &end);
+/// ```
+pub fn days_rise<Z: ZoneDays>(
+    zone: &Z,
+    date: NaiveDate,
+    later: NaiveDate,
+    start: &DateTime<Z>,
+    end: &DateTime<Z>,
+)
+    requires start { IsZonedAtOrAfter (Z.law zone.now) (midnight (day_of date)) (zoned start.now) }
+    requires end { IsZonedAtOrAfter (Z.law zone.now) (midnight (day_of later)) (zoned end.now) }
+    ensures { day_of date ≤ℤ day_of later → ¬ (IsEarlier (zoned end.now).utc (zoned start.now).utc) }
 {}
 
 /// The first of the changes of a stretch is the first change from its first second on: of a stretch

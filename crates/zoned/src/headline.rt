@@ -4,27 +4,32 @@
 //! If a function is empty, its contract is the theorem. [`statement`] makes the calls, so that nobody has to
 //! join their contracts by hand.
 
-ghost use Rattle.std.specs.Prelude.{◌≡◌, ◌↔◌, IfSome, IsSome, IsTrue, List, ℕ, ℤ};
+ghost use Rattle.std.specs.Prelude.{◌≡◌, List, MatchResult, ℕ, ℤ};
 ghost use Rattle.{
   naive_base.specs.{NaiveDateTime.{reading}, Range.{IsWide}},
   offset_core.specs.{LocalResult.{map_of}, Offset.{IsWithinDay}, WallAnswer.{IsWallAnswer}},
   tz_base.specs.LocalTypes.{LocalType},
   tz_file.specs.FilePieces.{FilePieces, HasPieces},
-  tz_info.specs.{Looks.{RoseByWallClock}, Zones.{IsValid, TypeAt, Zone}},
+  tz_info.specs.{Looks.{RoseByInstant}, RuleTypes.{IsRuleRefused, RuleAt}, Zones.{IsTypeError, IsValid, TypeAt, Zone}},
   tz_info.specs.PosixZones.{IsPosixFault, IsPosixZone},
   tz_info.specs.{TzFiles.{IsFileFault, IsTzFile}, TzGrammar.{IsTextFault, IsTzText}, WallClocks.{Shows}},
   tz_search.specs.Counts.{HasRoom},
-  zoned.specs.Headline.{AreCalls, Headline, IsAnswerOf, IsAnsweredByRule, IsAnsweredInZone, IsLawOf, IsLawful},
-  zoned.specs.Headline.{IsValidFile},
-  zoned_ref.specs.{Offsets.{AreOffsetsOf, IsNarrow}, TimeZoneRef.{off_of, zone_of}},
-  zoned_time.specs.{DateTime.{zoned}, Zone.{IsZoneSecond, SameOffsets}},
+  zoned.specs.Headline.{Headline, IsAnswerOf, IsAnsweredByRule, IsAnsweredInZone, IsLawful, IsReferenceTo, IsValidFile},
+  zoned.specs.Headline.{AreTypesByInstant, AreTypesByWallClock},
+  zoned_ref.specs.Offsets.{AreOffsetsOf, IsNarrow},
+  zoned_time.specs.Zone.{IsZoneSecond, SameOffsets},
 };
 ghost use Rattle.zoned_time.specs.Zone as zones;
 
 mod answers;
+mod calls;
+mod operators;
 
-use crate::{DateTime, DurationRound, LocalResult, NaiveDateTime, TimeZone, TimeZoneRef};
-pub use answers::{Answers, Asked, Calls, InLaw, InZone};
+use crate::{DateTime, LocalResult, NaiveDateTime, TimeZone, TimeZoneRef};
+pub use answers::{
+    Answers, Asked, ByClock, ByInstant, ByRule, ByStamp, ByWallClock, Changed, Compared, Fields,
+    InLaw, InUtc, InZone, Moved, Named, OfParts, Operated, Parts, Rounded, Stamps,
+};
 use std::alloc::Global;
 use tz_info::{Error, LocalTimeType, Probes, TransitionRule};
 
@@ -48,163 +53,160 @@ pub fn one_zone()
 /// The headline: what bytes give and what clocks show in the zone that they spell, which zones are
 /// lawful, and what each call of an instant means there.
 ///
-/// It is proved for all bytes, for every lawful zone, for any two instants, also with offsets that
-/// disagree with their zones, and for all arguments of the calls. It makes the calls, and returns what
-/// they answer. Calls that require something, such as operators and `unwrap`, return the value of
-/// those that are asked here; those of the traits `Datelike` and `Timelike`, and printing, mean what
-/// their ghost members say.
-pub fn statement<Tz: TimeZone>(
+/// It is proved for all bytes, for every parsed zone and every lawful one, for any two instants, also
+/// with offsets that disagree with their zones, and for all arguments of the calls. It makes the calls,
+/// and returns what they answer: each field of an answer has the name of its call.
+pub fn statement<'a, Tz: TimeZone>(
     alloc: Global,
     bytes: &[u8],
     text: &str,
     string: &[u8],
     extended: bool,
+    parsed: &'a tz_info::TimeZone,
     zone: &Tz,
     instant: &DateTime<Tz>,
     other: &DateTime<Tz>,
     asked: &Asked,
-) -> Answers<Tz, Tz::Offset>
-    ensures { Headline bytes.now text.now string.now extended (Tz.law zone.now) instant.now
+) -> Answers<'a, Tz, Tz::Offset>
+    ensures { Headline bytes.now text.now string.now extended parsed.now Tz.law zone.now instant.now
         other.now asked.now result }
 {
     Answers {
-        file: in_zone_of_file(alloc, bytes, &asked.local),
-        text: in_zone_of_text(alloc, text, &asked.local),
-        string: by_rule_of_string(string, extended, &asked.local),
+        from_tz_data: in_zone_of_file(alloc, bytes, asked),
+        from_posix_tz: in_zone_of_text(alloc, text, asked),
+        from_tz_string: by_rule_of_string(string, extended, asked),
+        time_zone_ref: lawful_zone(parsed),
         lawful: in_law(zone, &instant.naive_utc(), &asked.local),
-        calls: calls_of(zone, instant, other, asked),
+        by_clock: calls::by_clock(zone, asked),
+        by_stamp: calls::by_stamp(zone, instant, asked),
+        of_parts: calls::of_parts(instant, other),
+        in_utc: calls::in_utc(instant, asked),
+        named: calls::named(),
+        parts: calls::parts(zone, instant),
+        fields: calls::fields(instant),
+        changed: calls::changed(instant, asked),
+        moved: calls::moved(instant, asked),
+        operated: operators::operated(instant, asked),
+        compared: calls::compared(instant, other),
+        stamps: calls::stamps(instant),
+        rounded: calls::rounded(instant, asked),
     }
 }
 
-fn in_zone_of_file(alloc: Global, bytes: &[u8], local: &NaiveDateTime) -> Result<InZone, Error>
+fn in_zone_of_file(alloc: Global, bytes: &[u8], asked: &Asked) -> Result<InZone, Error>
     ensures { IsAnswerOf (IsValidFile bytes.now) (IsFileFault bytes.now)
-        (IsAnsweredInZone (reading local.now).s) ((p : FilePieces) × HasPieces bytes.now p) result }
+        (IsAnsweredInZone asked.now) ((p : FilePieces) × HasPieces bytes.now p) result }
 {
     match tz_info::TimeZone::from_tz_data(alloc, bytes) {
-        Ok(zone) => Ok(asked_zone(&zone, local)),
+        Ok(zone) => Ok(asked_zone(zone, asked)),
         Err(e) => Err(e),
     }
 }
 
-fn in_zone_of_text(alloc: Global, text: &str, local: &NaiveDateTime) -> Result<InZone, Error>
+fn in_zone_of_text(alloc: Global, text: &str, asked: &Asked) -> Result<InZone, Error>
     ensures { IsAnswerOf (IsPosixZone text.now) (IsPosixFault text.now)
-        (IsAnsweredInZone (reading local.now).s) ((z : Zone) × IsPosixZone text.now z) result }
+        (IsAnsweredInZone asked.now) ((z : Zone) × IsPosixZone text.now z) result }
 {
     match tz_info::TimeZone::from_posix_tz(alloc, text) {
-        Ok(zone) => Ok(asked_zone(&zone, local)),
+        Ok(zone) => Ok(asked_zone(zone, asked)),
         Err(e) => Err(e),
     }
 }
 
-fn by_rule_of_string(
-    string: &[u8],
-    extended: bool,
-    local: &NaiveDateTime,
-) -> Result<LocalResult<LocalTimeType>, Error>
+fn by_rule_of_string(string: &[u8], extended: bool, asked: &Asked) -> Result<ByRule, Error>
     ensures { IsAnswerOf (IsTzText extended string.now) (IsTextFault extended string.now)
-        (IsAnsweredByRule (reading local.now).s) ⊥ result }
+        (IsAnsweredByRule asked.now) ⊥ result }
 {
     match TransitionRule::from_tz_string(string, extended) {
-        Ok(rule) => rule.find_local_time_type_from_local(*local),
+        Ok(rule) => Ok(asked_rule(rule, asked)),
         Err(e) => Err(e),
     }
 }
 
-fn asked_zone(zone: &tz_info::TimeZone, local: &NaiveDateTime) -> InZone
-    ensures { IsAnsweredInZone (reading local.now).s zone.now result }
+fn asked_zone(zone: tz_info::TimeZone, asked: &Asked) -> InZone
+    ensures { IsAnsweredInZone asked.now zone result }
+{
+    InZone {
+        by_instant: types_by_instant(&zone, asked),
+        by_wall_clock: types_by_wall_clock(&zone, asked),
+        zone,
+    }
+}
+
+fn types_by_instant(zone: &tz_info::TimeZone, asked: &Asked) -> ByInstant
+    ensures { AreTypesByInstant zone.now asked.now.stamp result }
 {
     let mut probes = Probes::new();
-    let shown = types_in(zone, local, &mut probes);
-    InZone {
-        shown,
+    ByInstant {
+        find_local_time_type: type_at(zone, asked.stamp),
+        find_local_time_type_counted: type_at_counted(zone, asked.stamp, &mut probes),
         probes,
-        is_lawful: is_lawful(zone),
     }
 }
 
-fn is_lawful(zone: &tz_info::TimeZone) -> bool
-    ensures narrow { IsTrue result ↔ IsNarrow zone.now }
-    ensures law { IsNarrow zone.now → (off : ℤ → ℤ) × IsLawOf zone.now off }
+fn types_by_wall_clock(zone: &tz_info::TimeZone, asked: &Asked) -> ByWallClock
+    ensures { AreTypesByWallClock zone.now (reading asked.now.local).s result }
 {
-    lawful_zone(zone).is_some()
+    let (local, mut probes, mut walked) = (asked.local, Probes::new(), Probes::new());
+    ByWallClock {
+        find_local_time_type_from_local: zone.find_local_time_type_from_local(local),
+        find_local_time_type_from_local_counted: zone
+            .find_local_time_type_from_local_counted(local, &mut probes),
+        probes,
+        find_local_time_type_from_local_by_walk: zone
+            .find_local_time_type_from_local_by_walk(local, &mut walked),
+        walked,
+    }
 }
 
-// The types of the zone whose clocks show a local time.
-fn types_in(
+fn asked_rule(rule: TransitionRule, asked: &Asked) -> ByRule
+    ensures { IsAnsweredByRule asked.now rule result }
+{
+    ByRule {
+        find_local_time_type: type_by_rule(&rule, asked.stamp),
+        find_local_time_type_from_local: rule.find_local_time_type_from_local(asked.local),
+        rule,
+    }
+}
+
+fn type_at(zone: &tz_info::TimeZone, second: i64) -> Result<LocalTimeType, Error>
+    ensures { MatchResult result (TypeAt zone.now second) (IsTypeError zone.now second) }
+{
+    Ok(*zone.find_local_time_type(second)?)
+}
+
+fn type_at_counted(
     zone: &tz_info::TimeZone,
-    local: &NaiveDateTime,
+    second: i64,
     probes: &mut Probes,
-) -> LocalResult<LocalTimeType>
+) -> Result<LocalTimeType, Error>
     requires { HasRoom probes.old }
-    ensures found { IsWallAnswer (Shows (TypeAt zone.now) (reading local.now).s) result }
-    ensures cost { RoseByWallClock zone.now probes.old probes.new }
+    ensures found { MatchResult result (TypeAt zone.now second) (IsTypeError zone.now second) }
+    ensures cost { RoseByInstant zone.now probes.old probes.new }
 {
-    match zone.find_local_time_type_from_local_counted(*local, probes) {
-        Ok(types) => types,
-        Err(_) => unreachable!(),
-    }
+    Ok(*zone.find_local_time_type_counted(second, probes)?)
+}
+
+fn type_by_rule(rule: &TransitionRule, second: i64) -> Result<LocalTimeType, Error>
+    ensures { MatchResult result (RuleAt rule.now second) (λ _. IsRuleRefused rule.now second) }
+{
+    Ok(*rule.find_local_time_type(second)?)
 }
 
 fn in_law<Tz: TimeZone>(zone: &Tz, utc: &NaiveDateTime, local: &NaiveDateTime) -> InLaw<Tz::Offset>
     ensures { IsLawful (Tz.law zone.now) (reading utc.now).s (reading local.now).s result }
 {
     InLaw {
-        by_instant: zone.offset_from_utc_datetime(utc),
-        by_wall_clock: zone.offset_from_local_datetime(local),
-        before_gap: zone.offset_before_gap(local),
+        offset_from_utc_datetime: zone.offset_from_utc_datetime(utc),
+        offset_from_local_datetime: zone.offset_from_local_datetime(local),
+        offset_before_gap: zone.offset_before_gap(local),
     }
-}
-
-fn calls_of<Tz: TimeZone>(
-    zone: &Tz,
-    instant: &DateTime<Tz>,
-    other: &DateTime<Tz>,
-    asked: &Asked,
-) -> Calls<Tz, Tz::Offset>
-    ensures { AreCalls Tz.meaning (Tz.law zone.now) instant.now other.now asked.now result }
-{
-    Calls {
-        from_local: zone.from_local_datetime(&asked.local),
-        resolved: zone.resolve(&asked.local, asked.choice),
-        utc: instant.naive_utc(),
-        local: instant.naive_local(),
-        in_zone: instant.with_timezone(zone),
-        in_utc: instant.to_utc(),
-        fixed: instant.fixed_offset(),
-        later: instant.checked_add_signed(asked.length),
-        earlier: instant.checked_sub_signed(asked.length),
-        months_later: instant.checked_add_months(asked.months),
-        months_earlier: instant.checked_sub_months(asked.months),
-        days_later: instant.checked_add_days(asked.days),
-        days_earlier: instant.checked_sub_days(asked.days),
-        at_time: instant.with_time(asked.time),
-        since: instant.signed_duration_since(other),
-        years: instant.years_since(*other),
-        is_equal: is_equal(instant, other),
-        order: instant.cmp(other),
-        seconds: instant.timestamp(),
-        millis: instant.timestamp_millis(),
-        micros: instant.timestamp_micros(),
-        nanos: instant.timestamp_nanos_opt(),
-        truncated: (*instant).duration_trunc(asked.length),
-        rounded: (*instant).duration_round(asked.length),
-        rounded_up: (*instant).duration_round_up(asked.length),
-    }
-}
-
-fn is_equal<Tz: TimeZone>(instant: &DateTime<Tz>, other: &DateTime<Tz>) -> bool
-    ensures { IsTrue result ↔ ((zoned instant.now).utc ≡ (zoned other.now).utc) }
-{
-    *instant == *other
 }
 
 /// From a parsed zone to a lawful one, which [`TimeZone`]'s law names, or `None` if one of its offsets
-/// is a day or more.
+/// is a day or more. Its law is the offsets of the types in force.
 pub fn lawful_zone(zone: &tz_info::TimeZone) -> Option<TimeZoneRef<'_>>
-    ensures narrow { IsSome result ↔ IsNarrow zone.now }
-    ensures zone { IfSome result (λ r. zone_of r ≡ zone.now) }
-    // Its law is the offsets of the types in force.
-    ensures offsets { IfSome result (λ r. AreOffsetsOf zone.now (off_of r)) }
+    ensures { IsReferenceTo zone.now result }
 {
     TimeZoneRef::new(zone)
 }

@@ -164,6 +164,7 @@
 //! | an instant | the last local time that clocks have shown by then | [`ZoneDays::reached`] |
 //! | an instant | when its day, week, month, year, hour or another [`ClockStep`] begins and ends | [`ZonePlans::floor`], [`ZonePlans::ceil`], [`ZonePlans::step_at`] |
 //! | a rule of RFC 5545 and its start | its local times, as a plan | [`Recurrence::new`] |
+//! | the text of a rule, such as `FREQ=MONTHLY;BYDAY=-1FR` | the rule | [`RuleText::parse`] |
 //! | local times, or several plans | a plan of them | [`LocalTimes`], [`Union`], [`Intersection`], [`Except`] |
 //! | a plan, such as a line of a crontab ([`Cron`]) | when it fires next, or fired last | [`ZonePlans::next_fire`], [`ZonePlans::first_fire`]; [`ZonePlans::last_fire`], [`ZonePlans::previous_fire`] |
 //! | a plan | each time that it fires between two instants | [`ZonePlans::fires`] |
@@ -257,11 +258,12 @@ pub use naive_base::{
     Timelike, Weekday,
 };
 pub use naive_plans::{
-    ClockStep, Cron, DailyTime, DayPlan, Except, Intersection, LocalTimes, PartOfDay, Plan, ReversibleDayPlan,
-    ReversiblePlan, Union, last_local_time, next_local_time,
+    ClockStep, Cron, DailyTime, DayPlan, Except, Intersection, LocalTimes, PartOfDay, Plan,
+    ReversibleDayPlan, ReversiblePlan, Union, last_local_time, next_local_time,
 };
 pub use naive_rrule::{
     Frequency, NthWeekday, Recurrence, RecurrenceEnd, RecurrenceError, RecurrenceRule,
+    RuleExpected, RuleText, RuleTextError,
 };
 pub use offset_core::{
     Around, Choice, FixedOffset, FoldChoice, GapChoice, LocalResult, MappedLocalTime,

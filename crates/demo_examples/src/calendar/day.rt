@@ -1,6 +1,6 @@
 //! Days of a zone.
-ghost use Rattle.std.specs.Prelude.{◌≡◌, ◌↔◌, IfSome, IsTrue};
-ghost use Rattle.zoned.specs.{DateTime.{zoned}, Days.{IsInDay}, NaiveDate.{day_of}};
+ghost use Rattle.std.specs.Prelude.{◌≡◌, ◌↔◌, ◌≤ℤ◌, IfSome, IsTrue};
+ghost use Rattle.zoned.specs.{DateTime.{zoned}, Days.{IsInDay}, NaiveDate.{day_of}, Reading.{IsEarlier}};
 
 use zoned::{DateTime, KeptZone, NaiveDate, TimeDelta, TimeZone, ZoneDays, client_laws};
 
@@ -40,4 +40,20 @@ pub fn one_day<Z: ZoneDays, Tz: TimeZone>(
 {
     client_laws::days_partition::<Z>();
     Some(is_in_day(zone, one, instant)? && is_in_day(zone, other, instant)?)
+}
+
+/// Returns when the days of two dates start. That of the later date starts no earlier. `None` if one
+/// starts out of range.
+pub fn starts<Z: ZoneDays>(
+    zone: &Z,
+    date: NaiveDate,
+    later: NaiveDate,
+) -> Option<(DateTime<Z>, DateTime<Z>)>
+    ensures { IfSome result (λ starts. day_of date ≤ℤ day_of later
+        → ¬ (IsEarlier (zoned starts.1).utc (zoned starts.0).utc)) }
+{
+    let start = zone.start_of_day(date)?;
+    let end = zone.start_of_day(later)?;
+    client_laws::days_rise(zone, date, later, &start, &end);
+    Some((start, end))
 }
