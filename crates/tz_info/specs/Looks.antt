@@ -1,7 +1,7 @@
 -- How many probes a zone's lookups take: the bounds, each in one place.
 use Rattle.std.specs.Prelude.{ℕ, ℤ, ◌+◌, ◌*◌, ◌<◌, length}
 use Rattle.tz_search.specs.{Counts.{Counts, RoseWithin, RoseByPieces}, Digits.{digits}}
-use Rattle.tz_info.specs.{Windows.{IsWindowCount}, Zones.{Zone}}
+use Rattle.tz_info.specs.{Questions.{IsAskedFor}, Windows.{IsWindowCount}, Zones.{Zone}}
 use Rattle.offset_core.specs.{declared.around.Around.{Around}, declared.around.Around.TheVariants.{Gap}}
 use Rattle.tz_base.specs.{LocalTypes.{LocalType}, declared.change.Change.{Change}}
 
@@ -23,11 +23,18 @@ pub record RoseByWalk (z : Zone) (local : ℤ) (before after : Counts) : Type 0 
   pub most : RoseWithin before after (digits (length z.transitions) + window + 2) 2
   pub least : 0 < length z.transitions → before.reads < after.reads
 
--- the one transition probed in a gap
-abbrev pub gap_reads : Around LocalType Change → ℕ
-gap_reads (Gap gap) = 1
-gap_reads _ = 0
+-- the transition probes of the two sides of a gap, and the questions about them
+abbrev pub gap_reads : Zone → Around LocalType Change → ℕ
+gap_reads z (Gap gap) = 1 + 3 * digits (length z.transitions)
+gap_reads z _ = 0
 
--- by wall clock with both sides of a gap: the probes and questions of a lookup by wall clock, and in a gap at most one transition probe
-abbrev pub RoseAround : Zone → Around LocalType Change → Counts → Counts → Type 0
-RoseAround z found before after = (looked_up : Counts) × RoseByWallClock z before looked_up × RoseWithin looked_up after (gap_reads found) 0
+abbrev pub gap_questions : Around LocalType Change → ℕ
+gap_questions (Gap gap) = 3
+gap_questions _ = 0
+
+-- by wall clock with both sides of a gap: the probes and questions of a lookup by wall clock, and in a gap those of its sides
+pub record RoseAround (z : Zone) (local : ℤ) (found : Around LocalType Change) (before after : Counts) : Type 0 where
+  pub looked_up : Counts
+  pub cost : RoseByWallClock z before looked_up
+  pub questions : IsAskedFor z local before.rule_questions looked_up.rule_questions
+  pub sides : RoseWithin looked_up after (gap_reads z found) (gap_questions found)

@@ -3,12 +3,12 @@
 ghost use Rattle.{
   naive_base.specs.{NaiveDateTime.{reading}, Range.{IsWide}},
   offset_core.specs.WallAnswer.{IsNeverShown},
-  std.specs.Prelude.{option_map, ⊤, MatchOption},
+  std.specs.Prelude.{◌*◌, ◌^◌, length, option_map, ⊤, MatchOption},
   tz_info.specs.Around.{map_both, AreTypesAround, IsAroundOrBefore},
   tz_info.specs.Steps.{WallPieces.{IsTableLess}, Gaps.{HasReach}, Seasons.{IsSeasonIn}},
   tz_info.specs.{WallClocks.{Shows}, Gaps.{HasGap, IsShown, IsTypeBeforeGap}, HeldChanges.{change_held}},
-  tz_info.specs.{Looks.{RoseAround}, Questions.{IsAskedFor}, Zones.{TypeAt}},
-  tz_search.specs.Counts.{HasRoom},
+  tz_info.specs.{Looks.{RoseAround}, Zones.{TypeAt}},
+  tz_search.specs.{Counts.{HasRoom, RoseWithin}, Digits.{digits}, RisingCounts.{HasRoomFor}},
 };
 
 use crate::change::HeldChange;
@@ -37,11 +37,10 @@ impl TimeZone {
     }
 
     /// As [`TimeZone::find_local_time_type_around`], and counts as
-    /// [`TimeZone::find_local_time_type_from_local_counted`] does. In a gap one transition is
-    /// looked at besides, and otherwise none. It always searches:
-    /// [`TimeZone::find_local_time_type_around`] needs no search after the last change.
-    ///
-    /// In a gap that the rule makes, its types around the gap are not counted as questions.
+    /// [`TimeZone::find_local_time_type_from_local_counted`] does. In a gap it also probes its sides: at
+    /// most one transition more than three times as many as their number has binary digits, and the rule is
+    /// asked at most three times more. It always searches: [`TimeZone::find_local_time_type_around`] needs no search after
+    /// the last change.
     ///
     /// Requires: [`Probes::has_room`].
     #[inline(always)]
@@ -52,9 +51,7 @@ impl TimeZone {
     ) -> Around<LocalTimeType, Change>
         requires { HasRoom probes.old }
         ensures found { AreTypesAround (TypeAt self.now) (reading local).s result }
-        ensures cost { RoseAround self.now result probes.old probes.new }
-        ensures questions { IsAskedFor self.now (reading local).s
-            probes.old.rule_questions probes.new.rule_questions }
+        ensures cost { RoseAround self.now (reading local).s result probes.old probes.new }
     {
         match self.around(local.secs_since_epoch(), probes) {
             Around::Single(only) => Around::Single(*only),
@@ -99,10 +96,8 @@ impl TimeZone {
         requires room { HasRoom probes.old }
         ensures found { AreTypesAround (TypeAt self.now) local
             (map_both (λ r. r.now) change_held result) }
-        ensures cost { RoseAround self.now (map_both (λ r. r.now) change_held result)
+        ensures cost { RoseAround self.now local (map_both (λ r. r.now) change_held result)
             probes.old probes.new }
-        ensures questions { IsAskedFor self.now local
-            probes.old.rule_questions probes.new.rule_questions }
     {
         let _ = (self.extremes.least, self.extremes.greatest);
         let shown = self.index.answer(local, probes);
@@ -110,7 +105,7 @@ impl TimeZone {
         match answer {
             MappedLocalTime::None => {
                 let jump = self.changes.jump(&self.local_types, shown, probes);
-                Around::Gap(self.gap_at(local, jump, season))
+                Around::Gap(self.gap_at(local, jump, season, probes))
             }
             MappedLocalTime::Single(only) => Around::Single(only),
             MappedLocalTime::Ambiguous(first, last) => Around::Ambiguous(first, last),
@@ -141,56 +136,74 @@ impl TimeZone {
         local: i64,
         jump: Option<HeldChange<'a>>,
         season: Option<Season>,
+        probes: &mut Probes,
     ) -> HeldChange<'a>
         requires local { IsWide local }
+        requires room { HasRoomFor (2 ^ 65) probes.old.reads }
+        requires questions { HasRoomFor 3 probes.old.rule_questions }
         requires season { MatchOption season ⊤ (IsSeasonIn self.now local) }
         requires never { IsNeverShown (Shows (TypeAt self.now) local) }
         requires reach { HasReach self.now local }
         requires jump { MatchOption (option_map change_held jump) (IsTableLess self.now local)
             (λ c. HasGap (TypeAt self.now) local c.before c.after c.at) }
-        ensures { HasGap (TypeAt self.now) local
+        ensures gap { HasGap (TypeAt self.now) local
             result.before.now result.after.now result.at }
+        ensures cost { RoseWithin probes.old probes.new
+            (3 * digits (length self.now.transitions)) 3 }
     {
         match jump {
             Some(change) => change,
-            None => self.gap_after_table(local, season),
+            None => self.gap_after_table(local, season, probes),
         }
     }
 
     // The gap from the last transition on, before which clocks show less: mostly by the moments of
     // the local time's year.
     #[inline(always)]
-    fn gap_after_table(&self, local: i64, season: Option<Season>) -> HeldChange<'_>
+    fn gap_after_table(
+        &self,
+        local: i64,
+        season: Option<Season>,
+        probes: &mut Probes,
+    ) -> HeldChange<'_>
         requires local { IsWide local }
+        requires room { HasRoomFor (2 ^ 65) probes.old.reads }
+        requires questions { HasRoomFor 3 probes.old.rule_questions }
         requires season { MatchOption season ⊤ (IsSeasonIn self.now local) }
         requires never { IsNeverShown (Shows (TypeAt self.now) local) }
         requires reach { HasReach self.now local }
         requires less { IsTableLess self.now local }
-        ensures { HasGap (TypeAt self.now) local
+        ensures gap { HasGap (TypeAt self.now) local
             result.before.now result.after.now result.at }
+        ensures cost { RoseWithin probes.old probes.new
+            (3 * digits (length self.now.transitions)) 3 }
     {
         let _ = &self.changes;
         let Some(turns) = self.turns() else {
-            return self.gap_by_search(local);
+            return self.gap_by_search(local, probes);
         };
         let Some(season) = season else {
-            return self.gap_by_search(local);
+            return self.gap_by_search(local, probes);
         };
         turns.gap_in(season, local)
     }
 
     // The gap by the first second at which clocks show the local time or a later one.
-    fn gap_by_search(&self, local: i64) -> HeldChange<'_>
+    fn gap_by_search(&self, local: i64, probes: &mut Probes) -> HeldChange<'_>
         requires local { IsWide local }
+        requires room { HasRoomFor (2 ^ 65) probes.old.reads }
+        requires questions { HasRoomFor 3 probes.old.rule_questions }
         requires never { IsNeverShown (Shows (TypeAt self.now) local) }
         requires reach { HasReach self.now local }
-        ensures { HasGap (TypeAt self.now) local
+        ensures gap { HasGap (TypeAt self.now) local
             result.before.now result.after.now result.at }
+        ensures cost { RoseWithin probes.old probes.new
+            (3 * digits (length self.now.transitions)) 3 }
     {
         let _ = (self.extremes.least, self.extremes.greatest);
-        let first = self.first_at_or_after(local, &mut Probes::new());
+        let first = self.first_at_or_after(local, probes);
         HeldChange {
-            before: self.type_at(first.at - 1),
+            before: self.near_type_counted(first.at - 1, probes),
             after: first.local_time_type,
             at: first.at,
         }

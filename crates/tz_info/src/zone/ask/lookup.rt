@@ -89,6 +89,27 @@ impl TimeZone {
         ensures questions { IsAskedAt self.now unix_time
             probes.old.rule_questions probes.new.rule_questions }
     {
+        self.type_counted(unix_time, probes)
+    }
+
+    // The same, in a search that goes on counting.
+    #[inline(always)]
+    pub(super) fn type_counted(
+        &self,
+        unix_time: i64,
+        probes: &mut Probes,
+    ) -> Result<&LocalTimeType, Error>
+        requires room { HasRoomFor (2 ^ 64) probes.old.reads }
+        requires question { HasRoomFor 1 probes.old.rule_questions }
+        ensures found { MatchResult result
+            (λ t. TypeAt self.now unix_time t.now)
+            (IsTypeError self.now unix_time) }
+        ensures cost { RoseByInstant self.now probes.old probes.new }
+        ensures looked { IfOk result (λ _. 0 < length self.now.transitions
+            → probes.old.reads < probes.new.reads) }
+        ensures questions { IsAskedAt self.now unix_time
+            probes.old.rule_questions probes.new.rule_questions }
+    {
         let _ = &self.changes;
         // The search makes the first test too, so that the second costs nothing if there are entries.
         if self.changes.len() == 0 && self.has_no_transition() {

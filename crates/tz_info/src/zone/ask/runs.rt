@@ -1,14 +1,16 @@
 //! Runs: of a stretch of time, the seconds of one span of the zone.
 
-ghost use Rattle.std.specs.Prelude.{◌↔◌, ◌<ℤ◌, ◌≤ℤ◌, ℤ, true, false};
+ghost use Rattle.std.specs.Prelude.{◌^◌, ◌↔◌, ◌<ℤ◌, ◌≤ℤ◌, ℤ, true, false};
 ghost use Rattle.{
   tz_info.specs.{HeldChanges.{span_held}, Leaps.{IsNear}, Zones.{TypeAt}, Spans.{IsSince, IsSpanAt, IsUntil}},
-  tz_info.specs.Steps.Runs.{IsEndOfRun},
+  tz_info.specs.{Looks.{RoseByInstant}, Steps.Runs.{IsEndOfRun}},
+  tz_search.specs.RisingCounts.{HasRoomFor},
 };
 
 use crate::change::HeldSpan;
 use crate::zone::time_zone::TimeZone;
 use tz_base::LocalTimeType;
+use tz_search::Probes;
 
 impl TimeZone {
     // The type in force at a second that is near enough to have one.
@@ -18,6 +20,21 @@ impl TimeZone {
     {
         let _ = &self.changes;
         match self.find_local_time_type(second) {
+            Ok(local) => local,
+            Err(_) => unreachable!(),
+        }
+    }
+
+    // The same, counted.
+    pub(super) fn near_type_counted(&self, second: i64, probes: &mut Probes) -> &LocalTimeType
+        requires near { IsNear second }
+        requires room { HasRoomFor (2 ^ 64) probes.old.reads }
+        requires question { HasRoomFor 1 probes.old.rule_questions }
+        ensures found { TypeAt self.now second result.now }
+        ensures cost { RoseByInstant self.now probes.old probes.new }
+    {
+        let _ = &self.changes;
+        match self.type_counted(second, probes) {
             Ok(local) => local,
             Err(_) => unreachable!(),
         }

@@ -1,12 +1,12 @@
 //! The search for the first segment in which clocks show a local time or a later one.
 
-ghost use Rattle.std.specs.Prelude.{◌≡◌, ◌↔◌, ◌<◌, ◌≤◌, length, IsTrue};
+ghost use Rattle.std.specs.Prelude.{◌≡◌, ◌↔◌, ◌<◌, ◌≤◌, ◌+◌, ◌^◌, length, IsTrue};
 ghost use Rattle.{
   naive_base.specs.Range.{IsWide},
   tz_info.specs.Steps.Segments.{begin_of, index_of},
   tz_info.specs.Steps.SegmentEnds.{end_of, AreEnds, IsFirstOf, IsFirstSegment, IsLatestEnd, IsReached},
   tz_info.specs.Transitions.{NameTypes},
-  tz_search.specs.{Counts.{HasRoom, RoseWithin}, RisingCounts.{HasRoomFor}, Digits.{digits}},
+  tz_search.specs.{Counts.{RoseWithin}, RisingCounts.{HasRoomFor}, Digits.{digits}},
 };
 
 use crate::answers::second_showing;
@@ -50,10 +50,10 @@ pub(super) fn first_reaching(
     requires named { NameTypes (length types.now) changes.now.items }
     requires ends { AreEnds types.now changes.now.items index.now.maxima }
     requires local { IsWide local }
-    requires room { HasRoom probes.old }
+    requires room { HasRoomFor (2 ^ 64) probes.old.reads }
     ensures first { IsFirstSegment types.now changes.now.items local result }
     ensures cost { RoseWithin probes.old probes.new (digits (length changes.now.items)) 0 }
-    ensures room { HasRoomFor 1 probes.new.reads }
+    ensures few { probes.new.reads < probes.old.reads + 2 ^ 64 }
 {
     let mut first = 0;
     let mut count = changes.len();

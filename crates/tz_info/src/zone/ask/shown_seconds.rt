@@ -1,13 +1,13 @@
 //! When clocks show certain local times: the first and the last second of a day or of any other
 //! stretch of local time, and the first second at or after a local time.
 
-ghost use Rattle.std.specs.Prelude.{◌≡◌, ◌*◌, ◌<ℤ◌, ◌+ℤ◌, ◌-ℤ◌, ◌*ℤ◌, if◌then◌else◌, length, pos, MatchOption};
+ghost use Rattle.std.specs.Prelude.{◌≡◌, ◌≤◌, ◌+◌, ◌*◌, ◌^◌, ◌<ℤ◌, ◌+ℤ◌, ◌-ℤ◌, ◌*ℤ◌, if◌then◌else◌, length, pos, MatchOption};
 ghost use Rattle.{
   naive_base.specs.{NaiveDate.{day_of}, NaiveDateTime.{reading}, Range.{IsWide}},
   tz_info.specs.{Leaps.{IsNear}, Zones.{TypeAt}},
   tz_info.specs.ShownSeconds.{AreShownWithin, IsFirstAtOrAfter, IsNeverWithin},
   tz_info.specs.Steps.Runs.{AreWithin, HaveOneTypeFrom, IsEnd, IsEndOfRun, IsEndWithin, IsNextRun},
-  tz_search.specs.{Counts.{HasRoom, RoseWithin}, Digits.{digits}},
+  tz_search.specs.{Counts.{HasRoom, RoseWithin}, Digits.{digits}, RisingCounts.{HasRoomFor}},
 };
 
 use crate::answers::second_showing;
@@ -120,11 +120,13 @@ impl TimeZone {
     // The first second at which a clock shows that local time or a later one.
     pub(super) fn first_at_or_after(&self, local: i64, probes: &mut Probes) -> HeldSecond<'_>
         requires local { IsWide local }
-        requires room { HasRoom probes.old }
+        requires room { HasRoomFor (2 ^ 64) probes.old.reads }
+        requires questions { HasRoomFor 2 probes.old.rule_questions }
         ensures found { IsFirstAtOrAfter (TypeAt self.now) local
             result.at result.local_time_type.now }
         ensures cost { RoseWithin probes.old probes.new
             (2 * digits (length self.now.transitions)) 2 }
+        ensures few { probes.new.reads ≤ probes.old.reads + 2 ^ 64 }
     {
         let _ = (self.extremes.least, self.extremes.greatest);
         let place = first_reaching(&self.local_types, &self.changes, &self.index, local, probes);

@@ -1,8 +1,8 @@
 use Rattle.tz_info.proofs.{
-  EntryChanges.looks_most,
+  EntryChanges.{looks_most, rose_then},
   Fits.fits,
   TableLaws.{gap_by_index, reach_of},
-  Words.{HasReach, IsShownAmong, arith, linear, rules, top_of, ◌≡◌},
+  Words.{HasReach, IsAskedFor, IsShownAmong, arith, linear, rules, top_of, ◌≡◌},
   zone.time_zone.TimeZone.around.Goals.{After-answer-shown, After-answer_after-season},
 }
 use Rattle.tz_info.specs.{Looks.RoseByWallClock, Steps.Entries.AreEntries}
@@ -32,6 +32,8 @@ gap_at-requires c =
     let never = rw c.in-None.is at (simp fits at c.answer_after-season.ensures.found) in
     record {
       local = search rules;
+      room = omega arith;
+      questions = omega arith;
       season = search rules;
       never = simp fits never;
       reach = simp fits reach;
@@ -43,18 +45,21 @@ gap_at-requires c =
 cost : (c : After-answer_after-season) → RoseByWallClock c.args.self.now c.args.probes.now c.answer_after-season.new.probes
 cost c = grind (linear, fits, looks_most)
 
-pub returns-in-None : goal.returns-in-None
-returns-in-None c =
-    let same : c.answer-shown.new.probes.rule_questions ≡ c.args.probes.now.rule_questions = omega arith in
-    let after : c.jump-jump.new.probes.rule_questions ≡ c.answer_after-season.new.probes.rule_questions = omega arith in
-    record {
-      found = search rules;
-      cost = (_, cost (goal.at.returns-in-None c).After-answer_after-season, c.jump-jump.ensures.cost);
-      questions = grind (linear, fits);
-    }
+asked : (c : After-answer_after-season) → IsAskedFor c.args.self.now c.args.local c.args.probes.now.rule_questions c.answer_after-season.new.probes.rule_questions
+asked c =
+    let same : c.answer-shown.new.probes.rule_questions ≡ c.args.probes.now.rule_questions = omega arith in grind (linear, fits)
+
+pub returns-in-None-clause-cost : goal.returns-in-None-clause-cost
+returns-in-None-clause-cost c =
+    let d = (goal.at.returns-in-None-clause-cost c).After-answer_after-season in
+    record { looked_up = _; cost = cost d; questions = asked d; sides = rose_then _ _ _ _ _ _ _ c.jump-jump.ensures.cost c.gap_at.ensures.cost }
 
 pub returns-in-Single-clause-cost : goal.returns-in-Single-clause-cost
-returns-in-Single-clause-cost c = (_, cost (goal.at.returns-in-Single-clause-cost c).After-answer_after-season, search arith)
+returns-in-Single-clause-cost c =
+    let d = (goal.at.returns-in-Single-clause-cost c).After-answer_after-season in
+    record { looked_up = _; cost = cost d; questions = asked d; sides = search arith }
 
 pub returns-in-Ambiguous-clause-cost : goal.returns-in-Ambiguous-clause-cost
-returns-in-Ambiguous-clause-cost c = (_, cost (goal.at.returns-in-Ambiguous-clause-cost c).After-answer_after-season, search arith)
+returns-in-Ambiguous-clause-cost c =
+    let d = (goal.at.returns-in-Ambiguous-clause-cost c).After-answer_after-season in
+    record { looked_up = _; cost = cost d; questions = asked d; sides = search arith }

@@ -41,6 +41,7 @@ returns-in_default c =
     record {
       found = first_there z _ _ _ _ (table_of z _ (valid d) (entries d)) c.requires.local (first d) _ _ _ _ (valid d) limits own (reach d).2 is;
       cost = grind (linear, fits, cases_eq, rose_less, rose_then);
+      few = omega arith;
     }
 
 pub first_since-requires-clause-near : goal.first_since-requires-clause-near
@@ -67,4 +68,5 @@ returns c =
         | inr some ↦ rose_less _ _ _ _ _ _ (rose_then _ _ _ _ _ _ _ (rose_then _ _ _ _ _ _ _ c.first_reaching-place.ensures.cost
             c.begin_of-begin.ensures.cost) c.first_since.ensures.cost) (omega arith) (omega arith)
       ];
+      few = omega arith;
     }

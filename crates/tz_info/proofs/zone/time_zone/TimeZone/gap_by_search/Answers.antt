@@ -25,11 +25,11 @@ near c =
 pub overflow_sub-first : goal.overflow_sub-first
 overflow_sub-first c = grind (linear, fits, near)
 
-pub type_at-requires : goal.type_at-requires
-type_at-requires c = grind (linear, fits, near)
+pub near_type_counted-requires-clause-near : goal.near_type_counted-requires-clause-near
+near_type_counted-requires-clause-near c = grind (linear, fits, near)
 
-pub returns : goal.returns
-returns c =
-    let (ff, fb, low, high, near) = near (goal.at.returns c).After-first_at_or_after-first in
+pub returns-clause-gap : goal.returns-clause-gap
+returns-clause-gap c =
+    let (ff, fb, low, high, near) = near (goal.at.returns-clause-gap c).After-first_at_or_after-first in
     simp fits (gap_at_first _ _ _ _ _ _ _
-    c.requires.never c.requires.reach.2 low high (grind (linear, fits)) (simp fits at c.type_at.ensures))
+    c.requires.never c.requires.reach.2 low high (grind (linear, fits)) (simp fits at c.near_type_counted.ensures.found))

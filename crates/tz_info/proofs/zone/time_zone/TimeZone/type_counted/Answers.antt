@@ -4,7 +4,7 @@ use Rattle.tz_info.proofs.{
   SegmentLaws.{with_transitions, without_transitions},
   Words.{arith, by_leap_time, linear, refl, rules},
 }
-use Rattle.tz_info.proofs.zone.time_zone.TimeZone.find_local_time_type_counted.Goals as goal
+use Rattle.tz_info.proofs.zone.time_zone.TimeZone.type_counted.Goals as goal
 
 pub returns-then-has_no_transition : goal.returns-then-has_no_transition
 returns-then-has_no_transition c =
