@@ -24,6 +24,9 @@ impl TimeZone {
     /// local time less the zone's greatest offset, and not after that of the local time less its
     /// least.
     ///
+    /// The zone keeps the times of its first and its last transition: a comparison with one of them
+    /// that does not decide is not counted.
+    ///
     /// Requires: [`Probes::has_room`].
     ///
     /// # Errors
