@@ -28,6 +28,7 @@ pub use Rattle.naive_base.specs.NaiveDate
 pub use Rattle.naive_base.specs.NaiveTime
 pub use Rattle.naive_base.specs.NaiveDateTime
 pub use Rattle.naive_base.specs.Fields
+pub use Rattle.naive_base.specs.Since
 pub use Rattle.naive_base.specs.MonthNames
 pub use Rattle.naive_base.specs.Named
 pub use Rattle.naive_base.specs.Runs
