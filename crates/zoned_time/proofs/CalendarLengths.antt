@@ -8,7 +8,8 @@ use Rattle.zoned_time.specs.{Calendar.{AreCounts, HasMovedBy, HasNoLength, HasNo
 use Rattle.zoned_time.specs.Steps.Reached.{AreCountedBy, IsLastReachedBy, IsNotMoved}
 use Rattle.zoned_time.proofs.Words.{IsAt, IsAtInRange, IsEarlier, IsFirstInstantFrom, IsFirstOutOfRange, IsFirstToReach, IsInRange, IsInstantFrom, IsReachedAt, IsResolved, IsUnresolved}
 use Rattle.zoned_time.proofs.Words.{IsWide, IsWithinDay, IsZoneSecond, IsOffsetAt, IsZonedAtOrAfter, Law, local_of, MatchOption, Meaning, None, Option, option_map, Reading, SameLaw, SameOffsets, ShowsByOffset, Some}
-use Rattle.zoned_time.proofs.Words.{Choice, Err, MatchResult, Ok, ResolveError, Result, ◌-ℤ◌}
+use Rattle.std.proofs.Common.{Bool, false}
+use Rattle.zoned_time.proofs.Words.{Choice, Err, IsTrue, MatchResult, ◌↔◌, ◌<ℤ◌, Ok, ResolveError, Result, ◌-ℤ◌}
 use Rattle.offset_core.specs.declared.time_delta.TimeDelta.{TimeDelta}
 use Rattle.zoned_time.proofs.Words.{Zoned, home_law, ap, arith, behind, by_lt_z, inl, inr, numbers, pos, refl, subst, sym, ℕ, ℤ, ◌+ℤ◌, ◌∙◌, ◌≡◌, ◌≤ℤ◌, ◌⊎◌, ◌<◌}
 use Rattle.zoned_time.proofs.{DayStarts.{StayWithinDay, one_first, through}, Homes.{at_home, at_or_after_home, resolved_home, unresolved_home}}
@@ -177,6 +178,14 @@ sum_of law home same e l q n d nanos told (Some x) is range h =
     record { instant = q; moved_by = is; in_range = range; at = at_home law home same (moved q nanos) (told x) h.0 h.1 }
 
 -- ---- the answers of the calls
+never_both : (b : Bool) → IsTrue b → b ≡ false → ⊥
+never_both b yes_true is_false = grind arith
+
+pub not_earlier_by : (b : Bool) (u v s t : Reading) → IsTrue b ↔ IsEarlier u v → b ≡ false → u ≡ s → v ≡ t → ¬ (IsEarlier s t)
+not_earlier_by b u v s t by is_false first second =
+    let not : ¬ (IsEarlier u v) = λ h. never_both b (by.1 h) is_false in
+    subst (λ x. ¬ (IsEarlier x t)) first (subst (λ x. ¬ (IsEarlier u x)) second not)
+
 pub at_offset_is : {O : Type 0} {m : Meaning O} (law : Law m) (l u : Reading) (k : ℤ) (d : Zoned O) → u ≡ behind l k → IsInRange (behind l k).s → IsAt law u d
     → m.seconds d.offset ≡ k → IsAtOffset law l k d
 at_offset_is law l u k d e range at same =
@@ -185,6 +194,9 @@ at_offset_is law l u k d e range at same =
       fraction = ap (λ (r : Reading). r.f) utc;
       at = record { utc = refl; offset = at.offset };
     }
+
+pub at_least_zero : (b : Bool) (n : ℤ) → IsTrue b ↔ (n <ℤ pos 0) → b ≡ false → pos 0 ≤ℤ n
+at_least_zero b n by is_false = by_lt_z n (pos 0) (λ less. absurd (never_both b (by.1 less) is_false)) (λ more. more)
 
 none_home : {off home : ℤ → ℤ} {l k : ℤ} → SameOffsets off home → NoneAtOffset off l k → NoneAtOffset home l k
 none_home same h u shows range =
