@@ -93,6 +93,7 @@ pub use Rattle.tz_write.specs.WrittenFiles
 pub use Rattle.zoned_time.specs.Choice
 pub use Rattle.zoned_time.specs.Days
 pub use Rattle.zoned_time.specs.DayEnds
+pub use Rattle.zoned_time.specs.Calendar
 pub use Rattle.zoned_time.specs.DateTime
 pub use Rattle.zoned_time.specs.Fires
 pub use Rattle.zoned_time.specs.Moves

@@ -273,7 +273,7 @@ pub use zoned_ref::{
 pub use zoned_round::{DurationRound, RoundingError, SubsecRound};
 pub use zoned_series::{DailyItems, DailySeries, SeriesError};
 pub use zoned_time::{
-    AsInstant, DateTime, FirePolicy, Fires, FoldFires, GapFires, Instant, MAX_DATETIME,
+    AsInstant, CalendarLength, DateTime, FirePolicy, Fires, FoldFires, GapFires, Instant, MAX_DATETIME,
     MIN_DATETIME, Move, Moves, NaiveZoned, Offset, OffsetStretch, ShownDay, StepBounds, TimeZone,
     Utc, ZoneDays, moved,
 };

@@ -4,6 +4,7 @@ pub mod Days
 pub mod DayStarts
 pub mod DayEnds
 pub mod ReachedTimes
+pub mod CalendarLengths
 pub mod FireTimes
 pub mod RunMoves
 pub mod ShownFires

@@ -1,3 +1,4 @@
 -- Steps of the proofs: what private functions ensure. No public contract cites a page of this folder.
 pub mod Passed
 pub mod Shown
+pub mod Reached

@@ -2,6 +2,7 @@
 
 pub mod days;
 pub mod fires;
+pub mod since;
 pub mod steps;
 
 ghost use Rattle.std.specs.{Int.{w64}, Prelude.{◌≡◌, ◌↔◌, ◌⊎◌, ◌++◌, [], FitsSigned, IsTrue, Option, SomeIff, ℕ, ℤ}};

@@ -1,6 +1,7 @@
 //! Zoned time: the traits that every time zone implements, UTC and fixed offsets, and `DateTime`.
 #![tactic(auto)]
 
+mod calendar_length;
 mod datetime;
 mod fires;
 mod fixed;
@@ -17,6 +18,7 @@ mod time_zone;
 mod utc;
 mod zone_days;
 
+pub use calendar_length::CalendarLength;
 pub use datetime::{AsInstant, DateTime, Instant, MAX_DATETIME, MIN_DATETIME};
 pub use fires::Fires;
 pub use moves::{Move, Moves, moved};
