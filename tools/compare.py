@@ -12,6 +12,7 @@ usage: tools/compare.py zoneinfo [ZONEQ [FOLDER]]    zoneq's answers with Python
        tools/compare.py faults [COUNT [SEED]]        errors of mutated TZ strings and files and their places with readers of its own
        tools/compare.py peers                        zoneq's answers with rows of other projects' tests; the gate runs it
        tools/compare.py plans [--random N] [--zones N] [--years FIRST LAST]  fires of plans with croniter, dateutil's rrule and zoneinfo
+       tools/compare.py lengths [--pairs N] [--zones N]  lengths in months and days with brute force over zoneinfo, and dateutil
 
 ZONEQ and ZONEDUMP are the built programs (crates/zoneq/out/zoneq), ARCHIVE is the static library
 (crates/zoned_ffi/out/libzoned_ffi.a), FOLDER the database (/usr/share/zoneinfo), SLIM one that `zic -b slim` compiled.
@@ -21,12 +22,12 @@ has no known reason.
 
 import sys
 
-from comparing import changes, days, differences, dumps, faults, peers, plans, saving, with_zoneinfo, written_files, written_strings
+from comparing import changes, days, differences, dumps, faults, lengths, peers, plans, saving, with_zoneinfo, written_files, written_strings
 
 COMPARISONS = {
     "zoneinfo": with_zoneinfo.main, "changes": changes.main, "dumps": dumps.main, "files": written_files.main,
     "strings": written_strings.main, "days": days.main, "saving": saving.main, "differences": differences.main, "peers": peers.main,
-    "plans": plans.main, "faults": faults.main,
+    "plans": plans.main, "lengths": lengths.main, "faults": faults.main,
 }
 
 if __name__ == "__main__":

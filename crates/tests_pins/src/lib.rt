@@ -22,6 +22,7 @@ pub mod honolulu;
 pub mod instants;
 pub mod kept_zones;
 pub mod leap_seconds;
+pub mod lengths;
 pub mod looks;
 pub mod moves;
 pub mod odd;

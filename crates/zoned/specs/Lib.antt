@@ -28,6 +28,7 @@ pub use Rattle.naive_base.specs.NaiveDate
 pub use Rattle.naive_base.specs.NaiveTime
 pub use Rattle.naive_base.specs.NaiveDateTime
 pub use Rattle.naive_base.specs.Fields
+pub use Rattle.naive_base.specs.Since
 pub use Rattle.naive_base.specs.MonthNames
 pub use Rattle.naive_base.specs.Named
 pub use Rattle.naive_base.specs.Runs
@@ -97,6 +98,7 @@ pub use Rattle.tz_write.specs.WrittenFiles
 pub use Rattle.zoned_time.specs.Choice
 pub use Rattle.zoned_time.specs.Days
 pub use Rattle.zoned_time.specs.DayEnds
+pub use Rattle.zoned_time.specs.Calendar
 pub use Rattle.zoned_time.specs.DateTime
 pub use Rattle.zoned_time.specs.Relocal
 pub use Rattle.zoned_time.specs.Stamps

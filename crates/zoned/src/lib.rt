@@ -282,6 +282,6 @@ pub use zoned_ref::{
 pub use zoned_round::{DurationRound, RoundingError, SubsecRound};
 pub use zoned_series::{DailyItems, DailySeries, SeriesError};
 pub use zoned_time::{
-    AsInstant, DateTime, Instant, MAX_DATETIME, MIN_DATETIME, NaiveZoned, Offset, OffsetStretch,
-    ShownDay, TimeZone, Utc, ZoneDays,
+    AsInstant, CalendarLength, DateTime, Instant, MAX_DATETIME, MIN_DATETIME, NaiveZoned, Offset,
+    OffsetStretch, ShownDay, TimeZone, Utc, ZoneDays,
 };

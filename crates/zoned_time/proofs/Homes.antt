@@ -1,4 +1,6 @@
 -- What zones of the same law give, and zones of the same offsets in seconds.
+use Rattle.offset_core.specs.{Around.{IsAround}, declared.around.Around.TheVariants.{Ambiguous, Gap, Single}}
+use Rattle.zoned_time.proofs.Words.{Around, Choice, IsBeforeGap, IsResolved, IsTaken, IsUnresolved, ResolveError, Result, ShowsByOffset, Taken, Takes, behind, out_of_range, refused}
 use Rattle.zoned_time.proofs.Words.{AreOffsetsFor, IsAt, IsFirstInstantFrom, IsFirstOutOfRange, IsInDay, IsInRange, IsRelocal, IsZonedAtOrAfter, Law}
 use Rattle.zoned_time.proofs.Words.{LocalResult, MatchOption, Meaning, Option, Reading, SameLaw, SameOffsets, Zoned, arith, midnight, numbers, pos}
 use Rattle.zoned_time.proofs.Words.{seconds_alone, ℤ, ◌+ℤ◌}
@@ -26,7 +28,7 @@ module _ {O : Type 0} {m : Meaning O} (law home : Law m) (same : SameLaw law hom
   at_or_after_home = grind arith
 
 -- the first instants at or after local times, and days
-first_home : {off home : ℤ → ℤ} {l r : Reading} → SameOffsets off home → IsFirstInstantFrom off l r → IsFirstInstantFrom home l r
+pub first_home : {off home : ℤ → ℤ} {l r : Reading} → SameOffsets off home → IsFirstInstantFrom off l r → IsFirstInstantFrom home l r
 first_home = grind arith
 
 pub in_day_home : {off home : ℤ → ℤ} {day : ℤ} {r : Reading} → SameOffsets off home → IsInDay off day r → IsInDay home day r
@@ -37,6 +39,33 @@ in_day_home {day = day} same h = record {
   ends = first_home {l = midnight (day +ℤ pos 1)} same h.ends;
   not_before = h.not_before;
   before = h.before;
+}
+
+-- what a choice takes for a local time
+module _ {off home : ℤ → ℤ} (same : SameOffsets off home) (l : ℤ) where
+  around_home : (a : Around ℤ ℤ) → IsAround (ShowsByOffset off l) (IsBeforeGap off l) a → IsAround (ShowsByOffset home l) (IsBeforeGap home l) a
+  around_home (Single a) h = grind arith
+  around_home (Ambiguous a b) h = grind arith
+  around_home (Gap a) h = grind arith
+
+  takes_home : {choice : Choice} {outcome : Result (Taken ℤ ℤ) ResolveError} → Takes (ShowsByOffset off l) (IsBeforeGap off l) choice outcome
+      → Takes (ShowsByOffset home l) (IsBeforeGap home l) choice outcome
+  takes_home h = record { around = h.around; right = around_home h.around h.right; taken = h.taken }
+
+  taken_home : {choice : Choice} {k : ℤ} → IsTaken off l choice k → IsTaken home l choice k
+  taken_home h = record { taken = h.taken; takes = takes_home h.takes; offset = h.offset }
+
+  pub unresolved_home : {choice : Choice} {e : ResolveError} → IsUnresolved off l choice e → IsUnresolved home l choice e
+  unresolved_home (refused takes) = refused (takes_home takes)
+  unresolved_home (out_of_range k taken out is) = out_of_range k (taken_home taken) out is
+
+pub resolved_home : {O : Type 0} {m : Meaning O} {law home : Law m} (same : SameLaw law home) (l : Reading) {choice : Choice} {d : Zoned O}
+    → IsResolved law l choice d → IsResolved home l choice d
+resolved_home {law = law} {home = home} same l {d = d} h = record {
+  offset = h.offset;
+  taken = taken_home same.offsets l.s h.taken;
+  in_range = h.in_range;
+  at = at_home law home same (behind l h.offset) d h.in_range h.at;
 }
 
 -- a zone, and one of the same offsets in seconds

@@ -4,6 +4,7 @@ pub mod Days
 pub mod DayStarts
 pub mod DayEnds
 pub mod ReachedTimes
+pub mod CalendarLengths
 pub mod ForCallers
 pub mod Homes
 pub mod Instants

@@ -41,7 +41,7 @@ pub use Rattle.zoned_time.specs.Relocal.{AreInstantsOf, HasInstant, IsRelocal, S
 pub use Rattle.zoned_time.specs.Stamps.{in_utc}
 pub use Rattle.zoned_time.specs.Zone.{AreOffsetsFor, Each, IsFixed, IsOffsetAt, IsZoneSecond, Law, Meaning, SameLaw, SameOffsets, ShowsByOffset, home_law}
 pub use Rattle.zoned_time.specs.Zone.{law_by_seconds, meaning_by_seconds, seconds_alone}
-pub use Rattle.zoned_time.specs.Zoned.{IsAt, Zoned, in_seconds, local_of, shown}
+pub use Rattle.zoned_time.specs.Zoned.{IsAt, IsAtInRange, Zoned, in_seconds, local_of, shown}
 pub use Rattle.offset_core.specs.declared.resolve_error.ResolveError.{ResolveError}
 pub use Rattle.zoned_time.specs.declared.utc.Utc.{Utc}
 

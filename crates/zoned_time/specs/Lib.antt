@@ -2,6 +2,7 @@ pub mod Choice
 pub mod DateTime
 pub mod Days
 pub mod DayEnds
+pub mod Calendar
 pub mod Relocal
 pub mod Stamps
 pub mod Steps

@@ -12,6 +12,7 @@ mod operators;
 mod order;
 mod parts;
 mod print;
+mod since;
 mod stamps;
 
 use crate::{Offset, TimeZone};

@@ -1,6 +1,7 @@
 //! Theorems: functions that only have a contract, and are never called.
 
 pub mod days;
+pub mod since;
 
 ghost use Rattle.std.specs.{Int.{w64}, Prelude.{◌≡◌, ◌↔◌, ◌⊎◌, ◌++◌, [], FitsSigned, IsTrue, Option, SomeIff, ℕ, ℤ}};
 ghost use Rattle.{

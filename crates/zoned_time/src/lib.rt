@@ -1,6 +1,7 @@
 //! Zoned time: the traits that every time zone implements, UTC and fixed offsets, and `DateTime`.
 #![tactic(auto)]
 
+mod calendar_length;
 mod datetime;
 mod fixed;
 mod fixed_days;
@@ -13,6 +14,7 @@ mod time_zone;
 mod utc;
 mod zone_days;
 
+pub use calendar_length::CalendarLength;
 pub use datetime::{AsInstant, DateTime, Instant, MAX_DATETIME, MIN_DATETIME};
 pub use naive_zoned::NaiveZoned;
 pub use offset::Offset;

@@ -1,10 +1,11 @@
 //! Zones.
-ghost use Rattle.std.specs.Prelude.{◌≡◌, pos, IsSome, MatchResult, ℤ};
+ghost use Rattle.std.specs.Prelude.{◌≡◌, pos, IsSome, MatchOption, MatchResult, ℤ};
 ghost use Rattle.{
   naive_base.specs.{Clock.{clock_second, IsClock}, Range.{IsInRange, IsInnerYear, IsYearInRange}},
   naive_base.specs.{Date.{day_number, IsDate}, Reading.{behind, of_total, reading_at}, NaiveDateTime.{reading}},
   naive_base.specs.Stamp.{of_secs, IsStamp},
-  offset_core.specs.{LocalResult.{map_of, single_of}, Offset.{IsWithinDay}},
+  offset_core.specs.{FixedOffset.{seconds_of}, LocalResult.{map_of, single_of}, Offset.{IsWithinDay}},
+  zoned_time.specs.Calendar.{IsAtOffset, NoneAtOffset},
   zoned_time.specs.{Choice.{AreOffsetsAround, IsOffsetBeforeGap, IsResolved, IsUnresolved}, Relocal.{IsRelocal}},
   zoned_time.specs.{Stamps.{of_micros, of_millis, IsAtWhere}, Zoned.{shown, IsAt}},
 };
@@ -13,7 +14,7 @@ ghost use Rattle.zoned_time.specs.Zone as zones;
 use crate::resolve::{instant_by, shifted};
 use crate::{DateTime, Offset, Utc};
 use naive_base::{NaiveDate, NaiveDateTime, NaiveTime};
-use offset_core::{Around, Choice, LocalResult, ResolveError, Taken};
+use offset_core::{Around, Choice, FixedOffset, LocalResult, ResolveError, Taken};
 
 /// A time zone: an offset for each second.
 ///
@@ -149,6 +150,34 @@ pub trait TimeZone: Sized + Copy {
             Ok(Taken::InGap(before)) => shifted(self, local, before),
             Err(refused) => Err(refused),
         }
+    }
+
+    /// Returns the instant at which clocks show that local time while that offset is in force; there is
+    /// never more than one. `None` if there is none, or if it is out of the range of [`DateTime`].
+    ///
+    /// A local time that was stored with its offset is read back so. In a fold the offset says which pass
+    /// is meant. `None` means that the local time lies in a gap, that the offset is wrong, or that the tz
+    /// database has changed since.
+    ///
+    /// ```
+    /// let stored = NaiveDate::from_ymd_opt(2021, 11, 7)?.and_hms_opt(1, 30, 0)?;
+    /// let offset = FixedOffset::west(5 * 3600);
+    /// let second_pass = new_york.at_offset(&stored, offset)?; // 2021-11-07 01:30:00 -05:00
+    /// // Prefer the stored offset, otherwise take a policy.
+    /// let policy = Choice { gap: GapChoice::ShiftForward, fold: FoldChoice::Earliest };
+    /// let instant = new_york.at_offset(&stored, offset).or(new_york.resolve(&stored, policy).ok());
+    /// ```
+    final fn at_offset(&self, local: &NaiveDateTime, offset: FixedOffset) -> Option<DateTime<Self>>
+        ensures { let l = reading local.now in let k = seconds_of offset in
+            MatchOption result (NoneAtOffset (law self.now).off l.s k)
+            (λ d. IsAtOffset (law self.now) l k (shown d.datetime d.offset)) }
+    {
+        let utc = local.checked_sub_offset(offset)?;
+        let instant = self.from_utc_datetime(&utc);
+        if instant.offset().fix().local_minus_utc() != offset.local_minus_utc() {
+            return None;
+        }
+        Some(instant)
     }
 
     /// [`TimeZone::from_local_datetime`] of a date and a time, as
