@@ -225,17 +225,6 @@ pub fn days_later<Tz: TimeZone>(zone: &Tz, local: &NaiveDateTime, days: Days) ->
     Some(later)
 }
 
-/// An instant rounded to five minutes is an instant of its zone.
-pub fn rounded_in_zone<Tz: TimeZone>(zone: &Tz, instant: &DateTime<Tz>) -> Option<DateTime<Tz>>
-    requires { IsIn (Tz.law zone.now) instant.now }
-    ensures { IfSome result (IsIn (Tz.law zone.now)) }
-{
-    let length = TimeDelta::minutes(5);
-    let rounded = instant.duration_round(length).ok()?;
-    client_laws::in_zone_after_rounding(zone, instant, length, &rounded);
-    Some(rounded)
-}
-
 /// The instant of a daily job on the n-th day after its first.
 pub fn on_day<Tz: TimeZone>(
     zone: &Tz,
