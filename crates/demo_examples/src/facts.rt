@@ -13,7 +13,7 @@ use zoned::tz_info::TimeZoneName;
 use zoned::{
     Choice, DailySeries, DateTime, Days, DurationRound, FixedOffset, KeptChange, KeptZone,
     LocalResult, Months, NaiveDate, NaiveDateTime, NaiveTime, Offset, ResolveError, RoundingError,
-    SubsecRound, TimeDelta, TimeZone, Timelike, Utc, client_laws,
+    TimeDelta, TimeZone, Timelike, Utc, client_laws,
 };
 
 /// The seconds from 1970-01-01 00:00:00 UTC to an instant.
@@ -223,25 +223,6 @@ pub fn days_later<Tz: TimeZone>(zone: &Tz, local: &NaiveDateTime, days: Days) ->
     let later = first.checked_add_days(days)?;
     client_laws::in_zone_after_days(zone, &first, &later);
     Some(later)
-}
-
-/// An instant rounded to five minutes, or to milliseconds if that leaves the range of rounding.
-pub fn rounded_in_zone<Tz: TimeZone>(zone: &Tz, instant: &DateTime<Tz>) -> DateTime<Tz>
-    requires { IsIn (Tz.law zone.now) instant.now }
-    ensures { IsIn (Tz.law zone.now) result }
-{
-    let length = TimeDelta::minutes(5);
-    match instant.duration_round(length) {
-        Ok(rounded) => {
-            client_laws::in_zone_after_rounding(zone, instant, length, &rounded);
-            rounded
-        }
-        Err(_) => {
-            let cut = instant.trunc_subsecs(3);
-            client_laws::in_zone_after_digits(zone, instant, &cut);
-            cut
-        }
-    }
 }
 
 /// The instant of a daily job on the n-th day after its first.
