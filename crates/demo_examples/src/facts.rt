@@ -214,7 +214,11 @@ pub fn truncated_in_zone<Tz: TimeZone>(zone: &Tz, instant: &DateTime<Tz>) -> Opt
 }
 
 /// The only instant at which the clocks of a zone show a local time, some days later.
-pub fn days_later<Tz: TimeZone>(zone: &Tz, local: &NaiveDateTime, days: Days) -> Option<DateTime<Tz>>
+pub fn days_later<Tz: TimeZone>(
+    zone: &Tz,
+    local: &NaiveDateTime,
+    days: Days,
+) -> Option<DateTime<Tz>>
     ensures { IfSome result (IsIn (Tz.law zone.now)) }
 {
     let instants = zone.from_local_datetime(local);

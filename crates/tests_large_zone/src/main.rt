@@ -83,12 +83,18 @@ impl Lookup {
         let mut probes = Probes::new();
         match self {
             Lookup::ByInstant => offset_of(zone.find_local_time_type(time)),
-            Lookup::ByInstantCounted => offset_of(zone.find_local_time_type_counted(time, &mut probes)),
+            Lookup::ByInstantCounted => offset_of(zone.find_local_time_type_counted(
+                time,
+                &mut probes,
+            )),
             Lookup::ByLocalTime => only_offset(zone.find_local_time_type_from_local(local)),
             Lookup::ByLocalTimeCounted => {
                 only_offset(zone.find_local_time_type_from_local_counted(local, &mut probes))
             }
-            Lookup::ByWalk => only_offset(zone.find_local_time_type_from_local_by_walk(local, &mut probes)),
+            Lookup::ByWalk => only_offset(zone.find_local_time_type_from_local_by_walk(
+                local,
+                &mut probes,
+            )),
         }
     }
 }

@@ -32,8 +32,10 @@ pub fn changes()
 pub fn not_kept()
     ensures narrow { IsNarrow utc_zone }
     ensures not_narrow { ¬ (IsNarrow wide) }
-    ensures wide_rule { ¬ (IsNarrow (record utc_zone { rule =
-        Some (TransitionRule.Fixed (plain_type (pos 86_400))) })) }
+    ensures wide_rule { ¬ (IsNarrow (record utc_zone {
+      rule =
+          Some (TransitionRule.Fixed (plain_type (pos 86_400)));
+    })) }
     ensures wide { IsRefused wide (WideZone wide) }
     ensures not_wide { ¬ (IsRefused utc_zone (WideZone utc_zone)) }
     ensures memory { IsRefused utc_zone (OutOfMemory utc_zone) }

@@ -14,5 +14,5 @@ law_of z off narrow of_zone = record {
 
 pub referred : (z : Zone) (r : Option TimeZoneRef) → IsSome r ↔ IsNarrow z → IfSome r (λ r. zone_of r ≡ z)
     → IfSome r (λ r. AreOffsetsOf z (off_of r)) → IsReferenceTo z r
-referred z (Some r) some zone of_zone = record { some = some; zone = zone; law = law_of z (off_of r) (some.0 refl) of_zone; }
-referred z None some zone of_zone = record { some = some; zone = tt; law = tt; }
+referred z (Some r) some zone of_zone = record { some = some; zone = zone; law = law_of z (off_of r) (some.0 refl) of_zone }
+referred z None some zone of_zone = record { some = some; zone = tt; law = tt }

@@ -150,11 +150,15 @@ fn types_by_wall_clock(zone: &tz_info::TimeZone, asked: &Asked) -> ByWallClock
     let (local, mut probes, mut walked) = (asked.local, Probes::new(), Probes::new());
     ByWallClock {
         find_local_time_type_from_local: zone.find_local_time_type_from_local(local),
-        find_local_time_type_from_local_counted: zone
-            .find_local_time_type_from_local_counted(local, &mut probes),
+        find_local_time_type_from_local_counted: zone.find_local_time_type_from_local_counted(
+            local,
+            &mut probes,
+        ),
         probes,
-        find_local_time_type_from_local_by_walk: zone
-            .find_local_time_type_from_local_by_walk(local, &mut walked),
+        find_local_time_type_from_local_by_walk: zone.find_local_time_type_from_local_by_walk(
+            local,
+            &mut walked,
+        ),
         walked,
     }
 }

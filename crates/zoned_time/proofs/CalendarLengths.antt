@@ -33,9 +33,9 @@ module _ {off : ℤ → ℤ} {t : Reading} {w u : ℤ} (real : t.f < 2_000_000_0
       from = record {
         in_zone = rw (sym now) (first.reached.in_zone);
         not_before = let shown : w ≤ℤ (t.s +ℤ off t.s) = rw (sym now) (first.reached.reached) in
-            λ e. elim e [ | inl less ↦ omega numbers | inr both ↦ omega numbers ];
+            λ e. elim e [ inl less ↦ omega numbers | inr both ↦ omega numbers ];
       };
-      not_after = λ e. elim e [ | inl less ↦ omega numbers | inr both ↦ omega numbers ];
+      not_after = λ e. elim e [ inl less ↦ omega numbers | inr both ↦ omega numbers ];
     };
     last = λ l h e.
         let most = no_later l h in let until = first_not_after t h.instant h.not_after in
@@ -60,11 +60,14 @@ module _ {off : ℤ → ℤ} {t : Reading} {w u : ℤ} (real : t.f < 2_000_000_0
         reached = record {
           nanoseconds = omega numbers;
           instant = record { s = u; f = 1_999_999_999 };
-          from = record { in_zone = first.reached.in_zone; not_before = let shown = first.reached.reached in
-              λ e. elim e [ | inl less ↦ omega numbers | inr both ↦ omega numbers ] };
-          not_after = λ e. elim e [ | inl less ↦ omega numbers | inr both ↦ omega numbers ];
+          from = record {
+            in_zone = first.reached.in_zone;
+            not_before = let shown = first.reached.reached in
+                λ e. elim e [ inl less ↦ omega numbers | inr both ↦ omega numbers ];
+          };
+          not_after = λ e. elim e [ inl less ↦ omega numbers | inr both ↦ omega numbers ];
         };
-        last = λ l h e. let most = no_later l h in let most_nanos = h.nanoseconds in elim e [ | inl less ↦ omega numbers | inr both ↦ omega numbers ];
+        last = λ l h e. let most = no_later l h in let most_nanos = h.nanoseconds in elim e [ inl less ↦ omega numbers | inr both ↦ omega numbers ];
       }
 
 -- ---- zones of the same offsets
@@ -90,7 +93,7 @@ module _ (off : ℤ → ℤ) (e m t r : Reading) (n d : ℕ) (real : m.f < 2_000
     (months : AreMonthsCounted r m n) (days : AreDaysCounted r m n d) where
   months_by : IsGreatest (λ k. (k ≡ 0) ⊎ MonthsPassedBy off m t k) n
   months_by = record {
-    holds = elim months.holds [ | inl none ↦ inl none | inr passed ↦ inr (record { local = r; reached = last.reached; passed = passed }) ];
+    holds = elim months.holds [ inl none ↦ inl none | inr passed ↦ inr (record { local = r; reached = last.reached; passed = passed }) ];
     greatest = λ k h. elim h [
       | inl none ↦ months.greatest k (inl none)
       | inr by ↦ months.greatest k (inr (months_rise_with by.local r m k (last.last by.local by.reached) by.passed))
@@ -101,9 +104,9 @@ module _ (off : ℤ → ℤ) (e m t r : Reading) (n d : ℕ) (real : m.f < 2_000
   reached_by_both some = elim days.holds [
     | inr passed ↦ subst (λ l. ¬ (IsEarlier r l)) (then_days m n d) passed
     | inl none ↦ elim months.holds [
-        | inl no_months ↦ absurd (omega numbers)
-        | inr passed ↦ subst (λ k. ¬ (IsEarlier r (later_by m n k))) (sym none) (months_reached r m n passed)
-      ]
+      | inl no_months ↦ absurd (omega numbers)
+      | inr passed ↦ subst (λ k. ¬ (IsEarlier r (later_by m n k))) (sym none) (months_reached r m n passed)
+    ]
   ]
 
   -- the instant that is moved isn't after t
@@ -146,8 +149,8 @@ within_home {off = off} {home = home} same within u inside = subst (λ k. IsWith
 
 pub one_moved : (off : ℤ → ℤ) (e m : Reading) (n d : ℕ) (q r : Reading) → IsMovedBy off e m n d q → IsMovedBy off e m n d r → q ≡ r
 one_moved off e m n d q r h i = elim h [
-  | inl stays ↦ elim i [ | inl too ↦ stays.1 ∙ sym too.1 | inr moves ↦ absurd (omega numbers) ]
-  | inr moves ↦ elim i [ | inl stays ↦ absurd (omega numbers) | inr too ↦ one_first moves.1 too.1 ]
+  | inl stays ↦ elim i [ inl too ↦ stays.1 ∙ sym too.1 | inr moves ↦ absurd (omega numbers) ]
+  | inr moves ↦ elim i [ inl stays ↦ absurd (omega numbers) | inr too ↦ one_first moves.1 too.1 ]
 ]
 
 first_moved : {O T : Type 0} {m : Meaning O} (home : Law m) (e l : Reading) (n d : ℕ) (told : T → Zoned O) (found : Option T) → 1 ≤ n + d
@@ -206,7 +209,7 @@ pub resolved_at_home : {O D : Type 0} {m : Meaning O} (law home : Law m) (same :
     (found : Result D ResolveError) → NoneAtOffset law.off l.s k
     → MatchResult found (λ d. IsResolved law l choice (told d)) (λ e. IsUnresolved law.off l.s choice e)
     → MatchResult found (λ d. IsAtOffset home l k (told d) ⊎ (NoneAtOffset home.off l.s k × IsResolved home l choice (told d)))
-      (λ e. NoneAtOffset home.off l.s k × IsUnresolved home.off l.s choice e)
+    (λ e. NoneAtOffset home.off l.s k × IsUnresolved home.off l.s choice e)
 resolved_at_home law home same l k choice told (Ok d) none h = inr (none_home same.offsets none, resolved_home same l h)
 resolved_at_home law home same l k choice told (Err e) none h = (none_home same.offsets none, unresolved_home same.offsets l.s h)
 
@@ -254,7 +257,7 @@ first_fraction {off = off} {l = l} {r = r} h = elim (cases_lt l.f r.f) [
   | inr least ↦ least
   | inl less ↦
       let reached = first_not_after (record { s = r.s +ℤ off r.s; f = r.f }) l h.shown.not_before in
-      absurd (h.first (record { s = r.s; f = l.f }) (record { in_zone = h.shown.in_zone; not_before = λ e. elim e [ | inl lt ↦ omega numbers | inr both ↦ omega numbers ] })
+      absurd (h.first (record { s = r.s; f = l.f }) (record { in_zone = h.shown.in_zone; not_before = λ e. elim e [ inl lt ↦ omega numbers | inr both ↦ omega numbers ] })
       (inr (refl, less)))
 ]
 
@@ -289,7 +292,7 @@ module _ (off : ℤ → ℤ) (utc : (u : ℤ) → IsZoneSecond u → off u ≡ p
   at_utc l q inside not = record { in_zone = inside; not_before = subst (λ x. ¬ (IsEarlier x l)) (sym (as_shown q inside)) not }
 
   not_itself : (q : Reading) → ¬ (IsEarlier q q)
-  not_itself q e = elim e [ | inl less ↦ omega numbers | inr both ↦ omega numbers ]
+  not_itself q e = elim e [ inl less ↦ omega numbers | inr both ↦ omega numbers ]
 
   last_in_utc : (t : Reading) → t.f < 2_000_000_000 → IsZoneSecond t.s → IsLastReachedBy off t t
   last_in_utc t real inside = record {

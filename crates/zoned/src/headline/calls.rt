@@ -9,8 +9,8 @@ ghost use Rattle.{
 };
 
 use super::answers::{
-    Asked, ByClock, ByStamp, Changed, Compared, Fields, InUtc, Moved, Named, OfParts, Parts, Rounded,
-    Stamps,
+    Asked, ByClock, ByStamp, Changed, Compared, Fields, InUtc, Moved, Named, OfParts, Parts,
+    Rounded, Stamps,
 };
 use crate::{
     DateTime, Datelike, DurationRound, FixedOffset, MAX_DATETIME, MIN_DATETIME, NaiveZoned,

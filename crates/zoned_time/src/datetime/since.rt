@@ -67,7 +67,7 @@ impl<Tz: ZoneDays> DateTime<Tz> {
     /// // In New York clocks were set back at 02:00 on 2021-11-07.
     /// let start = new_york.with_ymd_and_hms(2021, 9, 30, 12, 0, 0).single()?;
     /// let end = new_york.with_ymd_and_hms(2021, 11, 7, 12, 30, 0).single()?;
-    /// let length = end.calendar_since(&start)?; // 1 month, 8 days and 30 minutes
+    /// let length = end.calendar_since(&start)?; // a month, 8 days and 30 minutes
     /// ```
     pub fn calendar_since(&self, earlier: &DateTime<Tz>) -> Option<CalendarLength>
         ensures { let off = (home_law_of Tz.meaning earlier.now).off in
