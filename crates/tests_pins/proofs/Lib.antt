@@ -1,5 +1,6 @@
 pub mod Words
 pub mod Computed
+pub mod PassedMonths
 pub mod Weeks
 pub mod LeapSeconds
 pub mod NewYork

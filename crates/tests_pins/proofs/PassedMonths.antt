@@ -11,10 +11,6 @@ not_passed l m n same early h = elim h [ inl less ↦ omega (arith, ints) | inr 
 pub passed_late : (l m : Reading) (n : ℕ) → month_at m +ℤ pos n ≡ month_at l → ¬ (IsEarlierInMonth l m) → HaveMonthsPassed l m n
 passed_late l m n same late = inr (same, late)
 
--- more months than they are apart
-pub too_many : (l m : Reading) (n : ℕ) → month_at l <ℤ (month_at m +ℤ pos n) → ¬ (HaveMonthsPassed l m n)
-too_many l m n more h = elim h [ inl less ↦ omega (arith, ints) | inr both ↦ omega (arith, ints) ]
-
--- fewer
+-- fewer months than they are apart
 pub passed_before : (l m : Reading) (n : ℕ) → (month_at m +ℤ pos n) <ℤ month_at l → HaveMonthsPassed l m n
 passed_before l m n less = inl less

@@ -6,7 +6,11 @@ use Rattle.zoned_time.specs.DayEnds.{IsLengthOfDay}
 pub not_earlier_than : (x y : Reading) → y.f ≡ 0 → y.s ≤ℤ x.s → ¬ (IsEarlier x y)
 not_earlier_than x y whole h early = grind (arith, ints)
 
--- a whole second is the first instant at or after a midnight if clocks show the midnight or more then, and less at each second before
+-- a whole second is the first instant at or after a local time if clocks show that or more then, and less at each second before
+pub first_instant_of : (off : ℤ → ℤ) (l : Reading) (u : ℤ) → l.f ≡ 0 → IsZoneSecond u → l.s ≤ℤ (u +ℤ off u) → ((v : ℤ) → v <ℤ u → (v +ℤ off v) <ℤ l.s)
+    → IsFirstInstantFrom off l (of_secs u 0)
+first_instant_of off l u whole inside reached less = grind (arith, ints, not_earlier_than, by_lt_z)
+
 first_instant : (off : ℤ → ℤ) (day u : ℤ) → IsZoneSecond u → (day *ℤ pos 86_400) ≤ℤ (u +ℤ off u) → ((v : ℤ) → v <ℤ u → (v +ℤ off v) <ℤ (day *ℤ pos 86_400))
     → IsFirstInstantFrom off (midnight day) (of_secs u 0)
 first_instant off day u inside reached less = grind (arith, ints, not_earlier_than, by_lt_z)

@@ -1,9 +1,9 @@
 //! Gaps: what is in force around a local time that no clock shows.
 
+ghost use Rattle.std.specs.Prelude.{◌*◌, ◌^◌, length, option_map, ⊤, MatchOption};
 ghost use Rattle.{
   naive_base.specs.{NaiveDateTime.{reading}, Range.{IsWide}},
   offset_core.specs.WallAnswer.{IsNeverShown},
-  std.specs.Prelude.{◌*◌, ◌^◌, length, option_map, ⊤, MatchOption},
   tz_info.specs.Around.{map_both, AreTypesAround, IsAroundOrBefore},
   tz_info.specs.Steps.{WallPieces.{IsTableLess}, Gaps.{HasReach}, Seasons.{IsSeasonIn}},
   tz_info.specs.{WallClocks.{Shows}, Gaps.{HasGap, IsShown, IsTypeBeforeGap}, HeldChanges.{change_held}},
