@@ -328,7 +328,8 @@ static void try_offset_changes(struct tried *of) {
     for (int is_back = 0; is_back < 2; is_back++) {
         int64_t from = second();
         zoned_change found, step = {.at = from};
-        uint32_t number = ASK(&found, (is_back ? zoned_zone_previous_offset_change : zoned_zone_next_offset_change)(&of->zone, from, &found));
+        uint32_t number = is_back ? ASK(&found, zoned_zone_previous_offset_change(&of->zone, from, &found))
+                                  : ASK(&found, zoned_zone_next_offset_change(&of->zone, from, &found));
         EXPECT(number == ZONED_OK || number == ZONED_NO_CHANGE);
         uint32_t stepped = ZONED_OK;
         int steps = 0;
